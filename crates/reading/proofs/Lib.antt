@@ -1,0 +1,4 @@
+pub mod Tab
+pub mod Rows
+pub mod Turn
+pub mod Floors

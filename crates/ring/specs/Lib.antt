@@ -1,0 +1,4 @@
+pub mod Ring
+pub mod Field
+pub mod Subring
+pub mod Power

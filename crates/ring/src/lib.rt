@@ -1,0 +1,1 @@
+// Mathematics alone: commutative rings, and the solver of their identities.

@@ -1,0 +1,3 @@
+pub mod Degree
+pub mod Gcds
+pub mod Divide

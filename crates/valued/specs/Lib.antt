@@ -1,0 +1,3 @@
+pub mod Val
+pub mod Degree
+pub mod Polynomial

@@ -1,0 +1,1 @@
+// Mathematics alone: a ring of series with leading coefficients, its degrees and its polynomials.
