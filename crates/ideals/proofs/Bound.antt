@@ -148,7 +148,7 @@ module _ (S : Setting) where
   bound b c nz t =
       let (m, hm) = degree 𝓥 (cube b ⊠ H ⊞ cube c ⊠ G) (cubes b c nz) in
       let x : HasDeg 𝓥 (b .0 * r + c .0 * w) (dGH S +ⁿ m) (t .d +ⁿ t .d) = d.has-move 𝓥 _ _
-          (d.has-cancel 𝓥 (form′-has S (t .b-lead) (t .c-lead) (t .some)) (d.has-eq 𝓥 (d.has-mul 𝓥 GH-deg hm) (sym (L .laws .mul-comm _ _ ∙ X-form S b c)))) (omega arith) in
+      (d.has-cancel 𝓥 (form′-has S (t .b-lead) (t .c-lead) (t .some)) (d.has-eq 𝓥 (d.has-mul 𝓥 GH-deg hm) (sym (L .laws .mul-comm _ _ ∙ X-form S b c)))) (omega arith) in
       (m, x, omega (arith, d.has-above 𝓥 x (𝓥 .lead-up (suc (t .d)) 0 (𝓥 .lead-add (t .b-lead) (t .c-lead)) (omega arith))))
 
   -- the same with −c

@@ -2,6 +2,7 @@
 --   has-two has-three      2 and 3 are constants that are not 0
 --   form form′             3y² + z² and y² − yz + z²; `form` is four times the value of the cofactor (Values.Q-YZ)
 --   form-has form′-has     of degree 2d, where d is the larger of the two degrees
+--   form-below form-at-most   both below n, or at most n: below 2n, or at most 2n
 --   form-lt                below 2n: both are below n
 --   form-top form-look     the degree found by a search from a bound downwards
 use mathlib.Core.Path.{_≡_, refl, ap₂, _∙_}
@@ -9,7 +10,7 @@ use mathlib.Core.Logic.{_≢_, _⊎_, inl, inr}
 use Prim.Native.Nat.{ℕ, zero, suc, _≤_, _+_ as _+ⁿ_}
 use native.Mathlib.Omega.{arith}
 use Rattle.ring.specs.Ring.{Ops}
-use Rattle.ring.proofs.Solve.{one, minus, _:+_, _:*_, _:=_, ring₁, ring₂}
+use Rattle.ring.proofs.Solve.{one, zer, minus, _:+_, _:*_, _:=_, ring₁, ring₂}
 use Rattle.valued.specs.Val.{Valued}
 use Rattle.valued.specs.Degree.{HasDeg, Has, Lt}
 use Rattle.valued.proofs.Degree as d
@@ -57,6 +58,15 @@ module _ (S : Setting) where
   pub form′-has : {y z : L .El} {p q : ℕ} {a b : K .El} → Lead y p q a → Lead z p q b → (a ≢ 0ᵏ) ⊎ (b ≢ 0ᵏ) → HasDeg 𝓥 (form′ S y z) (p +ⁿ p) (q +ⁿ q)
   form′-has {a} {b} h g k =
       (_, (λ e. elim k [ inl s ↦ s (S .form a b e .0) | inr s ↦ s (S .form a b e .1) ]), 𝓥 .lead-add (𝓥 .lead-add (𝓥 .lead-mul h h) (𝓥 .lead-neg (𝓥 .lead-mul h g))) (𝓥 .lead-mul g g))
+
+  pub form-below : {y z : L .El} {n : ℕ} → Lt 𝓥 y n → Lt 𝓥 z n → Lt 𝓥 (form y z) (n +ⁿ n)
+  form-below h g = d.lead-eq 𝓥 (form-lead h g) refl (ring₁ K (λ x. (one :+ one :+ one) :* (zer :* zer) :+ zer :* zer := zer) tt 0ᵏ)
+
+  pub form-at-most : {y z : L .El} {n : ℕ} → Lt 𝓥 y (suc n) → Lt 𝓥 z (suc n) → Lt 𝓥 (form y z) (suc (n +ⁿ n))
+  form-at-most {n = n} h g =
+      let (a, h′) = 𝓥 .lead-down h in
+      let (b, g′) = 𝓥 .lead-down g in
+      𝓥 .lead-up (suc (n +ⁿ n)) 0 (form-lead h′ g′) (omega arith)
 
   -- deg (3 y² + z²) < 2n: deg y < n and deg z < n
   pub form-lt : {y z : L .El} (j n : ℕ) → Lt 𝓥 y (j +ⁿ n) → Lt 𝓥 z (j +ⁿ n) → Lt 𝓥 (form y z) (n +ⁿ n) → Lt 𝓥 y n × Lt 𝓥 z n

@@ -21,7 +21,6 @@ use Rattle.valued.proofs.Degree as d
 use Rattle.ideals.specs.Setting.{Setting, P, dGH}
 use Rattle.ideals.specs.Element.{evT, XT, YT, ZT, O, sc, ev, X, Y, Z, norm, cof}
 use Rattle.ideals.proofs.Sizes.{gE, hE, rE, wE, xE, yE, env}
-
 open Ops (triops exprs gE hE) using (mul as _:⊗_)
 
 infixl 70 _:⊗_

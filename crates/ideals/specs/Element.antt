@@ -5,7 +5,8 @@
 --   X Y Z       its sizes
 --   norm cof    its norm and its cofactor
 -- The value and the sizes are written over any operations, so that they are read in the series and in the solver's expressions.
--- Theorems (proofs/Sizes): X, Y, Z are linear; ev, norm and cof are multiplicative; x · cof x = norm x.
+-- Theorems: X, Y, Z are linear (proofs/Sizes); ev, norm and cof are multiplicative and x · cof x = norm x (proofs/Values); br + cw is 0
+-- only for b = c = 0, and how small its degree can be (proofs/Bound).
 use Rattle.ring.specs.Ring.{Ops, CRing}
 use Rattle.cubic.specs.Tri.{Tri, normT, cofT}
 use Rattle.cubic.specs.Order.{order}

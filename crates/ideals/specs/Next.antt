@@ -3,7 +3,8 @@
 --   Next B B′     the ideal of B′ is that of B divided by m
 --   Same B B′     the ideals of B and B′ are one
 --   Start B       B is the scaled reduced basis of the order O itself
--- Theorems: `next-unique`, one basis has one next (proofs/Reduced); `unique`, one ideal has one basis (proofs/Unique).
+-- Theorems: `next-unique`, a basis has one next, and the next ideal is reduced (proofs/Divided); `unique`, one ideal has one basis
+-- (proofs/Unique).
 use mathlib.Core.Path.{_≡_}
 use Rattle.ring.specs.Ring.{Ops}
 use Rattle.valued.specs.Polynomial.{polys}

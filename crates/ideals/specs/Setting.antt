@@ -1,9 +1,10 @@
 -- The field: what the theory knows of p, G, H and of the series r and w.
 --   Setting   an accepted field with its two series
 --   P         the polynomials of the field
+--   dGH       deg GH
 -- The field of constants enters by two facts, which hold for every prime p with p mod 3 = 2: 2 is not 0, and u² − uv + v² is 0 only
--- where u and v are. Theorems: r³ = G H², w² = G r and w³ = G² H, the degrees of r and w (proofs/Sizes); r and w are the only
--- series with these laws up to the choice of a cube root of unity, and there is none but 1 (proofs/Roots).
+-- where u and v are. Theorems: r³ = G H², w² = G r, w³ = G² H and the degrees of r and w (proofs/Values); no other two series obey
+-- these laws (proofs/Roots).
 use mathlib.Core.Path.{_≡_}
 use mathlib.Core.Logic.{_≢_}
 use Prim.Native.Nat.{ℕ, _≤_, _+_}

@@ -2,6 +2,7 @@
 --   ≺-lt ≺-has ≼-has lt-≺ at-most    between `x ≺ y`, `x ≼ y` and whole degrees
 --   leads-unique leads-mul           one leading coefficient for each element, and that of a product
 --   lt-scale lt-unscale has-scale has-unscale   a constant factor changes no degree
+--   lt-mul-sharp                     the product of degrees ≤ m and < n
 --   k-zero                           a product of constants that is 0 has a factor that is 0
 use mathlib.Core.Path.{_≡_, refl, sym, ap, _∙_}
 use mathlib.Core.Logic.{_≢_}
@@ -81,3 +82,8 @@ module _ (𝓥 : Valued) where
   has-unscale {s} {x} h g =
       let (i, e, hi) = d.has-inv 𝓥 h in
       d.has-eq 𝓥 (has-scale hi g) (ring₃ L (λ i t x. i :* (t :* x) := t :* i :* x) tt i s x ∙ ap (λ z. z * x) e ∙ r.one-mul L x)
+
+  pub lt-mul-sharp : {x y : L .El} {m n : ℕ} → Lt 𝓥 x (suc m) → Lt 𝓥 y n → Lt 𝓥 (x * y) (m +ⁿ n)
+  lt-mul-sharp {m = m} {n = n} h g =
+      let (c, k) = 𝓥 .lead-down h in
+      d.lead-eq 𝓥 (𝓥 .lead-move (m +ⁿ n) 0 (𝓥 .lead-mul k g) (omega arith)) refl (r.mul-zero K c)
