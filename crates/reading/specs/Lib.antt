@@ -1,3 +1,4 @@
 pub mod Reading
 pub mod Made
 pub mod Row
+pub mod Derivation
