@@ -2,3 +2,4 @@ pub mod Tab
 pub mod Rows
 pub mod Turn
 pub mod Floors
+pub mod Unique
