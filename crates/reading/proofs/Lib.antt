@@ -3,3 +3,4 @@ pub mod Rows
 pub mod Turn
 pub mod Floors
 pub mod Product
+pub mod Unique

@@ -2,3 +2,4 @@ pub mod Reading
 pub mod Made
 pub mod Row
 pub mod Sum
+pub mod Derivation
