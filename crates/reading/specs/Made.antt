@@ -6,7 +6,9 @@ use native.Mathlib.Nat.{mod-mod, mod-eq-of-lt}
 use native.Mathlib.Omega.{arith}
 use Rattle.ring.specs.Ring as R₀
 use Rattle.ring.proofs.Laws as G
-use Rattle.fp.specs.Fp.{F, F-path, Prime, Fld, ppos, cls, cls-add, cls-mul, field}
+use Rattle.fp.specs.Fp.{F, Prime, cls}
+use Rattle.fp.proofs.Ring.{F-path, cls-add, cls-mul, cls-val}
+use Rattle.fp.proofs.Field.{Fld, ppos, field}
 use Rattle.laurent.specs.Ring.{CRing, Field}
 use Rattle.laurent.specs.Lists.{const-add, const-mul}
 use Rattle.valued.specs.Val.{Valued}
@@ -66,6 +68,7 @@ module _ (p : ℕ) (pr : Prime p) where
     cast-mul = λ a b. sym (cls-mul p (ppos p pr) a b);
     cast-mod = λ a. F-path (mod-mod a p);
     cast-small = λ a l e. sym (mod-eq-of-lt l) ∙ ap (λ (x : F p). x .0) e ∙ mod-eq-of-lt (ppos p pr);
+    cast-onto = λ x. (x .0, x .1, cls-val p (ppos p pr) x);
     const-add = const-add kring;
     const-mul = const-mul kring;
     const-one = refl;

@@ -15,6 +15,8 @@ pub record Reading (p : ℕ) : Type 1 where
   pub cast-mul : (a b : ℕ) → cast (a * b) ≡ 𝓥 .K .ops .mul (cast a) (cast b)
   pub cast-mod : (a : ℕ) → cast (a % p) ≡ cast a
   pub cast-small : (a : ℕ) → a < p → cast a ≡ 𝓥 .K .ops .𝟎 → a ≡ 0
+  -- every element of the field is the class of a number below p
+  pub cast-onto : (x : 𝓥 .K .El) → (n : ℕ) × (n < p) × (cast n ≡ x)
   pub const-add : (a b : 𝓥 .K .El) → 𝓥 .const (𝓥 .K .ops .add a b) ≡ 𝓥 .L .ops .add (𝓥 .const a) (𝓥 .const b)
   pub const-mul : (a b : 𝓥 .K .El) → 𝓥 .const (𝓥 .K .ops .mul a b) ≡ 𝓥 .L .ops .mul (𝓥 .const a) (𝓥 .const b)
   pub const-one : 𝓥 .const (𝓥 .K .ops .𝟏) ≡ 𝓥 .L .ops .𝟏
