@@ -93,13 +93,15 @@ module _ (S : Setting) where
       let nz : B′ .U .0 ≢ 𝟎 = rebased-U S h (not-zero 𝓥 (rm .d-has)) in
       let rank : det S B′ .0 ≢ 𝟎 = rebased-rank S h (rm .rank) in
       let next : Next S B B′ = rebased-over S h (In S B) (B .M) (λ a u i. in-scale S B a u i) (base-next S B k (good .ideal .rank) c) in
-      let basis : ReducedBasis S B′ = ends-basis B′ e in
-      (record {
-        ideal = next-ideal S B B′ good next nz rank;
-        basis = basis;
-        scaled = ends-scaled B′ e (rebased-alone S h (base-alone B k c));
-        reduced = next-reduced S B B′ good next nz rank basis;
-      }, next)
+      let basis : ReducedBasis S B′ = ends-basis B′ e in (
+        record {
+          ideal = next-ideal S B B′ good next nz rank;
+          basis = basis;
+          scaled = ends-scaled B′ e (rebased-alone S h (base-alone B k c));
+          reduced = next-reduced S B B′ good next nz rank basis;
+        },
+        next,
+      )
 
   -- whatever was made so, it is the same
   pub step-unique : (B B′ B″ : Basis S) → Good S B → Good S B′ × Next S B B′ → Good S B″ × Next S B B″ → B′ ≡ B″

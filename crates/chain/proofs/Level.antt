@@ -53,10 +53,12 @@ module _ (S : Setting) where
     -- 2 (a + b x + c y) = U k
     pub level-frame : Divides 𝓥 U (off S x y v)
     level-frame =
-        let (h, e) = two-unit in
-        (h ⊠ l .k, solve-by Rg (var 0 :+ var 1) (var 2 :* (var 3 :* var 4))
-            (hyp (var 0 :+ var 1) one ((one :+ one) :* var 3) ∷ hyp (var 3) (var 5 :+ (one :+ one) :* var 1) (var 2 :* var 4 :+ var 6) ∷ hyp (var 3) ((one :+ one) :* var 0) (var 5 :+ minus (var 6)) ∷ []) tt
-            (v .a ∷ (v .b ⊠ x ⊞ v .c ⊠ y) ∷ U ∷ h ∷ l .k ∷ l .T ∷ l .R ∷ []) (e, (l .remainder, (l .row, tt))))
+        let (h, e) = two-unit in (
+          h ⊠ l .k,
+          solve-by Rg (var 0 :+ var 1) (var 2 :* (var 3 :* var 4))
+              (hyp (var 0 :+ var 1) one ((one :+ one) :* var 3) ∷ hyp (var 3) (var 5 :+ (one :+ one) :* var 1) (var 2 :* var 4 :+ var 6) ∷ hyp (var 3) ((one :+ one) :* var 0) (var 5 :+ minus (var 6)) ∷ []) tt
+              (v .a ∷ (v .b ⊠ x ⊞ v .c ⊠ y) ∷ U ∷ h ∷ l .k ∷ l .T ∷ l .R ∷ []) (e, (l .remainder, (l .row, tt))),
+        )
 
     -- Z = −(X − T) − R
     pub level-Z : Lt 𝓥 (Z S v) u

@@ -4,3 +4,8 @@ pub mod Turned
 pub mod Frame
 pub mod Level
 pub mod Correct
+pub mod Walk
+pub mod Passed
+pub mod Closing
+pub mod Unit
+pub mod Rows

@@ -3,7 +3,8 @@
 --   parts          they exist for every ideal; `parts-unique`: there is one choice
 --   pt c₁ c₂       c₁ (r − x1) + c₂ (w − y1): an element settled by its pair c₁, c₂
 --   pt-M           m · pt c₁ c₂ = (c₁ x0 + c₂ y0) + (c₁ x2 + c₂ y2) n
---   Cut cut        g, the greatest common divisor of x0, x2, y0, y2, and the four without it
+--   Cut cut        g, the greatest common divisor of x0, x2, y0, y2, and the four without it; `cut-greatest`: what divides the four
+--                  divides g
 --   dd d-norm      d = x2 y0 − x0 y2, and d e U = N(M)
 --   base           d, P, Q without their common factor g: the next ideal is spanned by 1, P/d, Q/d
 --   base-M base-N base-next   P m = d, Q m = d n, and so base is a basis of the next ideal
@@ -138,23 +139,23 @@ module _ (S : Setting) where
       pub d-norm : dd ⊠ (det S B ⊠ B .U) ≡ norm S (B .M)
       unfolding l
       d-norm = p-cancel 𝓥 (det S B) (dd ⊠ (det S B ⊠ B .U)) (norm S (B .M)) (degree 𝓥 (det S B) rank .1) (
-            let g = var 0 in let h = var 1 in
-            let M0 = var 2 in let M1 = var 3 in let M2 = var 4 in let N0 = var 5 in let N1 = var 6 in let N2 = var 7 in let U = var 8 in
-            let X0 = var 9 in let X1 = var 10 in let X2 = var 11 in let Y0 = var 12 in let Y1 = var 13 in let Y2 = var 14 in
-            let E = M1 :* N2 :+ minus (M2 :* N1) in
-            let A1 = M0 :* N2 :+ minus (M1 :* h :* N1) in
-            let A2 = M1 :* h :* M1 :+ minus (M0 :* M2) in
-            let C1 = M2 :* g :* N2 :+ minus (M0 :* N1) in
-            let C2 = M0 :* M1 :+ minus (M2 :* g :* M2) in
-            let gh = g :* h in
-            solve-by R (E :* ((X2 :* Y0 :+ minus (X0 :* Y2)) :* (E :* U))) (E :* normT exprs g h (triE M0 M1 M2))
-            (hyp (minus (M0 :* E :* Y2)) A1 (E :* X1)
-            ∷ hyp (minus (E :* M1 :* gh) :+ M0 :* C1) A2 (E :* X2)
-            ∷ hyp (M0 :* E :* X2) C1 (E :* Y1)
-            ∷ hyp (E :* M2 :* gh :+ minus (M0 :* A1)) C2 (E :* Y2)
-            ∷ hyp (E :* E :* Y2) (M2 :* gh :+ minus (X1 :* M0 :+ X2 :* N0)) (U :* X0)
-            ∷ hyp (minus (E :* E :* X2)) (M1 :* gh :+ minus (Y1 :* M0 :+ Y2 :* N0)) (U :* Y0) ∷ []) tt (l 0ₚ 0ₚ)
-            (k .of-r .e-β, (k .of-r .e-γ, (k .of-w .e-β, (k .of-w .e-γ, (k .of-r .U-α, (k .of-w .U-α, tt)))))))
+          let g = var 0 in let h = var 1 in
+          let M0 = var 2 in let M1 = var 3 in let M2 = var 4 in let N0 = var 5 in let N1 = var 6 in let N2 = var 7 in let U = var 8 in
+          let X0 = var 9 in let X1 = var 10 in let X2 = var 11 in let Y0 = var 12 in let Y1 = var 13 in let Y2 = var 14 in
+          let E = M1 :* N2 :+ minus (M2 :* N1) in
+          let A1 = M0 :* N2 :+ minus (M1 :* h :* N1) in
+          let A2 = M1 :* h :* M1 :+ minus (M0 :* M2) in
+          let C1 = M2 :* g :* N2 :+ minus (M0 :* N1) in
+          let C2 = M0 :* M1 :+ minus (M2 :* g :* M2) in
+          let gh = g :* h in
+          solve-by R (E :* ((X2 :* Y0 :+ minus (X0 :* Y2)) :* (E :* U))) (E :* normT exprs g h (triE M0 M1 M2))
+          (hyp (minus (M0 :* E :* Y2)) A1 (E :* X1)
+          ∷ hyp (minus (E :* M1 :* gh) :+ M0 :* C1) A2 (E :* X2)
+          ∷ hyp (M0 :* E :* X2) C1 (E :* Y1)
+          ∷ hyp (E :* M2 :* gh :+ minus (M0 :* A1)) C2 (E :* Y2)
+          ∷ hyp (E :* E :* Y2) (M2 :* gh :+ minus (X1 :* M0 :+ X2 :* N0)) (U :* X0)
+          ∷ hyp (minus (E :* E :* X2)) (M1 :* gh :+ minus (Y1 :* M0 :+ Y2 :* N0)) (U :* Y0) ∷ []) tt (l 0ₚ 0ₚ)
+          (k .of-r .e-β, (k .of-r .e-γ, (k .of-w .e-β, (k .of-w .e-γ, (k .of-r .U-α, (k .of-w .U-α, tt)))))))
 
       module _ (c : Cut) where
         -- G and H are not needed: g, a0, a2, b0, b2, x0, x2, y0, y2
@@ -247,3 +248,12 @@ module _ (S : Setting) where
           let (n, g-has) = degree 𝓥 g (λ z. nz (zero-d g all (P-path 𝓥 z))) in
           let h-one : h ≡ 1ₚ = p-cancel 𝓥 g h 1ₚ g-has (sym e ∙ sym (R .laws .mul-one g)) in
           fill g all (subst (Comb 𝓥 (quots 𝓥 g (list B k) all)) h-one comb′)
+
+  -- the pairs of P and Q are the four up to sign, and g divides d and the first rows: so g is the common factor of the seven of d, P, Q
+  pub cut-greatest : (B : Basis S) (k : Parts B) (c : Cut B k) (d : P S) → Divides 𝓥 d (x0 B k) → Divides 𝓥 d (x2 B k) → Divides 𝓥 d (y0 B k) → Divides 𝓥 d (y2 B k) → Divides 𝓥 d (c .g)
+  cut-greatest B k c d d₁ d₂ d₃ d₄ =
+      let (h, comb, (e₁, (e₂, (e₃, (e₄, t))))) = gcds 𝓥 (c .a0 ∷ c .a2 ∷ c .b0 ∷ c .b2 ∷ []) in
+      let (h′, unit) = c .alone h e₁ e₂ e₃ e₄ in
+      let (q, e) = comb-divides 𝓥 d (c .g) (c .a0 ∷ c .a2 ∷ c .b0 ∷ c .b2 ∷ []) h comb
+      (subst (Divides 𝓥 d) (c .x0-eq) d₁, (subst (Divides 𝓥 d) (c .x2-eq) d₂, (subst (Divides 𝓥 d) (c .y0-eq) d₃, (subst (Divides 𝓥 d) (c .y2-eq) d₄, tt)))) in
+      (q ⊠ h′, sym (R .laws .mul-one (c .g)) ∙ ap (λ t. c .g ⊠ t) unit ∙ sym (R .laws .mul-assoc (c .g) h h′) ∙ ap (λ t. t ⊠ h′) e ∙ R .laws .mul-assoc d q h′)

@@ -1,7 +1,7 @@
 -- 4.2: d is not 0, and how large the pairs are from which the reduction starts.
 --   Room room    with s = deg GH − deg g and u the degree of d/g: P and Q, without g, have sizes at most a and b, where a + b = s + u is
 --                the degree of their determinant X(P) Y(Q) − X(Q) Y(P); u < a < s and u < b < s
---   d-not-zero   d ≠ 0
+--   d-deg d-not-zero   deg d, and that d is not 0
 -- So deg X(P) + deg Y(Q) and deg X(Q) + deg Y(P) are at most s + u, and deg d ≤ deg GH − 2.
 use mathlib.Core.Path.{_≡_, refl, sym, ap, _∙_, subst}
 use mathlib.Core.Logic.{_≢_, inl}
@@ -71,15 +71,18 @@ module _ (S : Setting) where
       zE : Expr
       zE = (one :+ one) :* var 0 :+ minus (zer :* var 1) :+ minus (zer :* var 2)
 
-  -- the norm of M, and the degree of d from it
+  -- deg d = deg GH − ν + 2μ: with p − q = max(deg Y(M), deg Z(M)) = μ + deg U < deg U, and y = deg Y(N) = ν + deg U
   pub d-deg : (B : Basis S) (good : Good S B) (k : Parts S B) (s : Small S B) (p q : ℕ) → HasDeg 𝓥 (Q S (B .M)) (p +ⁿ p) (q +ⁿ q) →
-      (δ : ℕ) × Has 𝓥 (dd S B k .0) δ × (δ +ⁿ (s .ε +ⁿ s .u) +ⁿ (q +ⁿ q) ≡ s .x +ⁿ (p +ⁿ p))
+      (δ : ℕ) × Has 𝓥 (dd S B k .0) δ × (δ +ⁿ (s .u +ⁿ s .y) +ⁿ (q +ⁿ q) ≡ dGH S +ⁿ (p +ⁿ p)) × (p < s .u +ⁿ q)
   d-deg B good k s p q hQ =
       let hN : HasDeg 𝓥 (norm S (B .M) .0) (s .x +ⁿ (p +ⁿ p)) (0 +ⁿ (q +ⁿ q)) = d.has-eq 𝓥 (d.has-mul 𝓥 (ev-M S B s) hQ) (ev-Q S (B .M)) in
       let e : (dd S B k ⊠ (det S B ⊠ B .U)) .0 ≡ norm S (B .M) .0 = ap (λ z. z .0) (d-norm S B k (good .ideal .rank)) in
       let (δ, hd) = degree 𝓥 (dd S B k) (λ z. not-zero 𝓥 hN (sym e ∙ ap (λ t. t * (det S B ⊠ B .U) .0) z ∙ rg.zero-mul′ L ((det S B ⊠ B .U) .0))) in
       let h : Has 𝓥 (norm S (B .M) .0) (δ +ⁿ (s .ε +ⁿ s .u)) = d.has-eq 𝓥 (d.has-mul 𝓥 hd (d.has-mul 𝓥 (s .e-has) (s .U-has))) e in
-      (δ, hd, omega (arith, d.has-unique 𝓥 hN h))
+      let e₁ : s .x +ⁿ (p +ⁿ p) +ⁿ 0 ≡ δ +ⁿ (s .ε +ⁿ s .u) +ⁿ (0 +ⁿ (q +ⁿ q)) = d.has-unique 𝓥 hN h in
+      let sum : s .x +ⁿ s .y ≡ s .ε +ⁿ dGH S = s .sum in
+      let low : p +ⁿ p +ⁿ 0 < s .u +ⁿ s .u +ⁿ (q +ⁿ q) = d.has-above 𝓥 (F-deg S (B .M) hQ) (form-below S (s .Y-M) (s .Z-M)) in
+      (δ, hd, omega arith, omega arith)
 
   pub d-not-zero : (B : Basis S) → Good S B → (k : Parts S B) → dd S B k .0 ≢ 𝟎
   d-not-zero B good k = let (p, q, hQ) = Q-deg S (B .M) (M-not S B (good .ideal .rank)) in not-zero 𝓥 (d-deg B good k (small S B good) p q hQ .1)
@@ -92,7 +95,7 @@ module _ (S : Setting) where
 
       go : Small S B → (p q : ℕ) × HasDeg 𝓥 (Q S (B .M)) (p +ⁿ p) (q +ⁿ q) → Room B k c
       go s (p, q, hQ) =
-          let (δ, hd, e₁) = d-deg B good k s p q hQ in
+          let (δ, hd, e₁, low) = d-deg B good k s p q hQ in
           let rk : det S B .0 ≢ 𝟎 = good .ideal .rank in
           let (γ, hg) = degree 𝓥 (c .g) (λ z. not-zero 𝓥 hd (sym (ap (λ t. t .0) (base-d S B k rk c)) ∙ ap (λ t. t * B₀ .U .0) z ∙ rg.zero-mul′ L (B₀ .U .0))) in
           let (u′, hu, e₂) = factor 𝓥 (c .g) (B₀ .U) (dd S B k) hg hd (sym (base-d S B k rk c)) in
@@ -100,12 +103,8 @@ module _ (S : Setting) where
           let (ε₀, hε) = degree 𝓥 (det S B₀) rank₀ in
           let e₃ : γ +ⁿ ε₀ ≡ u′ = d.same 𝓥 (d.has-eq 𝓥 (d.has-mul 𝓥 hg hε) (ap (λ t. t .0) (base-det S B k rk c))) (d.has-neg 𝓥 hu) in
           let hF : HasDeg 𝓥 (F S (B .M)) (p +ⁿ p) (q +ⁿ q) = F-deg S (B .M) hQ in
-          let low : p +ⁿ p +ⁿ 0 < s .u +ⁿ s .u +ⁿ (q +ⁿ q) = d.has-above 𝓥 hF (form-below S (s .Y-M) (s .Z-M)) in
           let u≤y : s .u ≤ s .y = s .u≤y in
           let u<x : s .u < s .x = s .u<x in
-          let sum : s .x +ⁿ s .y ≡ s .ε +ⁿ dGH S = s .sum in
-          -- γ + u′ + u + y + 2q = deg GH + 2p
-          let all : γ +ⁿ u′ +ⁿ (s .u +ⁿ s .y) +ⁿ (q +ⁿ q) ≡ dGH S +ⁿ (p +ⁿ p) = omega arith in
           let a : ℕ = (u′ +ⁿ s .u +ⁿ q) -ⁿ p in
           let b : ℕ = (u′ +ⁿ s .y +ⁿ q) -ⁿ p in
           let FU : Has 𝓥 (F S (sc S (B .U))) (s .u +ⁿ s .u) = d.has-eq 𝓥 (has-scale 𝓥 (has-two S) (has-scale 𝓥 (has-two S) (d.has-mul 𝓥 (s .U-has) (s .U-has)))) (F-poly (B .U)) in
@@ -113,10 +112,10 @@ module _ (S : Setting) where
           let FP = F-quot p q (B₀ .U) (B .M) (B₀ .M) (sc S (B .U)) (base-M S B k rk c) hF hu FU in
           let FQ = F-quot p q (B₀ .U) (B .M) (B₀ .N) (B .N) (base-N S B k rk c) hF hu FN in
           let evP : HasDeg 𝓥 (ev S (B₀ .M)) (u′ +ⁿ s .u) (s .x) = d.has-move 𝓥 _ _ (d.has-cancel 𝓥 (ev-M S B s) (d.has-eq 𝓥 (d.has-mul 𝓥 hu (s .U-has))
-              (sym (sym (ev-mul S (B .M) (B₀ .M)) ∙ ap (ev S) (base-M S B k rk c) ∙ ev-sc S (B₀ .U) (sc S (B .U)) ∙ ap (λ t. B₀ .U .0 * t) (ev-poly S (B .U)))))) (omega arith) in
+          (sym (sym (ev-mul S (B .M) (B₀ .M)) ∙ ap (ev S) (base-M S B k rk c) ∙ ev-sc S (B₀ .U) (sc S (B .U)) ∙ ap (λ t. B₀ .U .0 * t) (ev-poly S (B .U)))))) (omega arith) in
           let evN : Lt 𝓥 (ev S (B .N)) (s .x) = lt-unscale 𝓥 (has-two S) (d.lt-eq 𝓥 (d.lt-add 𝓥 (lt-scale 𝓥 (has-three S) (s .X-N)) (d.lt-up 𝓥 (s .x) (s .Z-N) (omega arith))) (sym (ev-XZ S (B .N)))) in
           let evQ : Lt 𝓥 (ev S (B₀ .N)) u′ = d.lt-cancel 𝓥 u′ (ev-M S B s) (d.lt-eq 𝓥 (d.lt-has-mul 𝓥 evN hu)
-              (L .laws .mul-comm _ _ ∙ sym (ev-sc S (B₀ .U) (B .N)) ∙ sym (ap (ev S) (base-N S B k rk c)) ∙ ev-mul S (B .M) (B₀ .N))) in
+          (L .laws .mul-comm _ _ ∙ sym (ev-sc S (B₀ .U) (B .N)) ∙ sym (ap (ev S) (base-N S B k rk c)) ∙ ev-mul S (B .M) (B₀ .N))) in
           record {
             γ = γ;
             s = dGH S -ⁿ γ;

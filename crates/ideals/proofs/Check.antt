@@ -59,11 +59,11 @@ module _ (S : Setting) (B : Basis S) where
   pub cramer-eq : {n : ℕ} → Has 𝓥 (det S B .0) n → (v : O S .El) (α β γ : P S) → v .b ⊠ B .N .c ⊞ ⊟ (v .c ⊠ B .N .b) ≡ det S B ⊠ β → v .c ⊠ B .M .b ⊞ ⊟ (v .b ⊠ B .M .c) ≡ det S B ⊠ γ →
       v .a ⊞ ⊟ (β ⊠ B .M .a ⊞ γ ⊠ B .N .a) ≡ B .U ⊠ α → v ≡ lin S B α β γ
   cramer-eq h v α β γ eβ eγ eα = O-path S
-        (solve-by R (var 0) (var 4 :* var 1 :+ var 2 :+ var 3) (hyp one (var 0 :+ minus (var 2 :+ var 3)) (var 1 :* var 4) ∷ []) tt (v .a ∷ B .U ∷ β ⊠ B .M .a ∷ γ ⊠ B .N .a ∷ α ∷ []) (eα, tt) ∙ sym (lin-a S B α β γ))
-        (p-cancel 𝓥 (det S B) (v .b) (β ⊠ B .M .b ⊞ γ ⊠ B .N .b) h
-        (solve-by R (eE :* var 0) (eE :* bE) (hyp (var 2) (var 0 :* var 5 :+ minus (var 1 :* var 4)) (eE :* var 6) ∷ hyp (var 4) (var 1 :* var 2 :+ minus (var 0 :* var 3)) (eE :* var 7) ∷ []) tt (env v β γ) (eβ, (eγ, tt))) ∙ sym (lin-b S B α β γ))
-        (p-cancel 𝓥 (det S B) (v .c) (β ⊠ B .M .c ⊞ γ ⊠ B .N .c) h
-        (solve-by R (eE :* var 1) (eE :* cE) (hyp (var 3) (var 0 :* var 5 :+ minus (var 1 :* var 4)) (eE :* var 6) ∷ hyp (var 5) (var 1 :* var 2 :+ minus (var 0 :* var 3)) (eE :* var 7) ∷ []) tt (env v β γ) (eβ, (eγ, tt))) ∙ sym (lin-c S B α β γ))
+      (solve-by R (var 0) (var 4 :* var 1 :+ var 2 :+ var 3) (hyp one (var 0 :+ minus (var 2 :+ var 3)) (var 1 :* var 4) ∷ []) tt (v .a ∷ B .U ∷ β ⊠ B .M .a ∷ γ ⊠ B .N .a ∷ α ∷ []) (eα, tt) ∙ sym (lin-a S B α β γ))
+      (p-cancel 𝓥 (det S B) (v .b) (β ⊠ B .M .b ⊞ γ ⊠ B .N .b) h
+      (solve-by R (eE :* var 0) (eE :* bE) (hyp (var 2) (var 0 :* var 5 :+ minus (var 1 :* var 4)) (eE :* var 6) ∷ hyp (var 4) (var 1 :* var 2 :+ minus (var 0 :* var 3)) (eE :* var 7) ∷ []) tt (env v β γ) (eβ, (eγ, tt))) ∙ sym (lin-b S B α β γ))
+      (p-cancel 𝓥 (det S B) (v .c) (β ⊠ B .M .c ⊞ γ ⊠ B .N .c) h
+      (solve-by R (eE :* var 1) (eE :* cE) (hyp (var 3) (var 0 :* var 5 :+ minus (var 1 :* var 4)) (eE :* var 6) ∷ hyp (var 5) (var 1 :* var 2 :+ minus (var 0 :* var 3)) (eE :* var 7) ∷ []) tt (env v β γ) (eβ, (eγ, tt))) ∙ sym (lin-c S B α β γ))
 
   -- the coordinates of v as exact quotients
   pub record Coords (v : O S .El) : Type 0 where
