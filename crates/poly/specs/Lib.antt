@@ -1,2 +1,3 @@
 pub mod Leaf
 pub mod Terms
+pub mod Division

@@ -9,6 +9,7 @@ ghost use Rattle.reading.specs.Row.{Row, Size};
 ghost use Rattle.poly.specs.Leaf.{Cut, Leading, Once, Given, Both, Summed, Difference, Opposite, ScaleIn, Scaled};
 ghost use Rattle.poly.specs.Leaf.{CrossIn, Crossed, CrossAt, MulIn, Product, Listed};
 ghost use Rattle.poly.specs.Terms.{MoreIn, More, PartIn, Part, PlaceIn};
+ghost use Rattle.poly.specs.Division.{DivIn, Quotient, Exact, Divided, DigitIn, Digit};
 ghost use Rattle.reading.specs.Row.{shiftAt};
 ghost use Rattle.reading.specs.Sum.{sumTo, termAt};
 
@@ -197,4 +198,57 @@ pub fn from_list(s: &[u64]) -> [u64; 32]
         i += 1;
     }
     r
+}
+
+// The coefficient of a / b at k, where q holds those above, up to top.
+fn digit(p: u64, a: &[u64; 32], q: &[u64; 32], b: &[u64; 32], m: usize, il: u64, top: usize, k: usize) -> u64
+    requires { ⌜ DigitIn p (now a) (now q) (now b) m il top k ⌝ }
+    ensures { λ v. ⌜ Digit p (now (a .entry)) (now (q .entry)) (now (b .entry)) m il k v ⌝ }
+{
+    let at = k + (m - 1);
+    let to = if at < top { at + 1 } else { top };
+    let v = part(p, q, b, k + 1, to, at) % p;
+    (a[at] + (p - v)) * il % p
+}
+
+// The quotient of a by b from the top, one coefficient a turn; il is the inverse of b's leading coefficient.
+pub fn quotient(p: u64, a: &[u64; 32], b: &[u64; 32], il: u64) -> [u64; 32]
+    requires { ⌜ DivIn p (now a) (now b) il ⌝ }
+    ensures { λ q. ⌜ Quotient p (now (a .entry)) (now (b .entry)) q ⌝ }
+{
+    let n = size(a);
+    let m = size(b);
+    let top = if n < m { 0 } else { n + 1 - m };
+    let mut q: [u64; 32] = [0; 32];
+    let mut k = top;
+    while k > 0 {
+        k -= 1;
+        let v = digit(p, a, &q, b, m, il, top, k);
+        q[k] = v;
+    }
+    q
+}
+
+// a / b, where b divides a.
+pub fn exact(p: u64, a: &[u64; 32], b: &[u64; 32], il: u64) -> [u64; 32]
+    requires { ⌜ DivIn p (now a) (now b) il ⌝ }
+    ensures { λ q. ⌜ Exact p (now (a .entry)) (now (b .entry)) q ⌝ }
+{
+    quotient(p, a, b, il)
+}
+
+// a = q b + r
+pub struct QuotRem {
+    pub q: [u64; 32],
+    pub r: [u64; 32],
+}
+
+pub fn divide(p: u64, a: &[u64; 32], b: &[u64; 32], il: u64) -> QuotRem
+    requires { ⌜ DivIn p (now a) (now b) il ⌝ }
+    ensures { λ d. ⌜ Divided p (now (a .entry)) (now (b .entry)) (d .q) (d .r) ⌝ }
+{
+    let q = quotient(p, a, b, il);
+    let s = mul(p, &q, b);
+    let r = sub(p, a, &s);
+    QuotRem { q, r }
 }
