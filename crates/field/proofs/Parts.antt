@@ -44,6 +44,10 @@ last-zero {p} {l} z d h = h .last (let e : length l ≡ suc d = h .whole in let 
 pub list-degree : {p n : ℕ} {l : List ℕ} → ListLength p l n → n ≢ 0 → Degree p l (n - 1)
 list-degree {n = n} a f = a .some (n - 1) (omega arith)
 
+pub length-of : {p d : ℕ} {l : List ℕ} (n : ℕ) → Degree p l d → ListLength p l n → n ≡ suc d
+length-of {d = d} zero s a = absurd (a .none refl d s)
+length-of (suc m) s a = ap suc (degree-one (a .some m refl) s)
+
 pub list-short : {p : ℕ} {l : List ℕ} (n : ℕ) → ListLength p l n → n ≤ longest
 list-short zero a = omega arith
 list-short {l = l} (suc d) a = let s = a .some d refl in let e : length l ≡ suc d = s .whole in let b : length l ≤ longest = s .short in omega arith
