@@ -6,3 +6,7 @@ pub mod Polynomial
 pub mod Lists
 pub mod Course
 pub mod Inverse
+pub mod Division
+pub mod Gcd
+pub mod Derivative
+pub mod Instance
