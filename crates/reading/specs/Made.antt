@@ -6,7 +6,9 @@ use native.Mathlib.Nat.{mod-mod, mod-eq-of-lt}
 use native.Mathlib.Omega.{arith}
 use Rattle.ring.specs.Ring as R₀
 use Rattle.ring.proofs.Laws as G
-use Rattle.fp.specs.Fp.{F, F-path, Prime, Fld, ppos, cls, cls-add, cls-mul, cls-val, field}
+use Rattle.fp.specs.Fp.{F, Prime, cls}
+use Rattle.fp.proofs.Ring.{F-path, cls-add, cls-mul, cls-val}
+use Rattle.fp.proofs.Field.{Fld, ppos, field}
 use Rattle.laurent.specs.Ring.{CRing, Field}
 use Rattle.laurent.specs.Lists.{const-add, const-mul}
 use Rattle.valued.specs.Val.{Valued}

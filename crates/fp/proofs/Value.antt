@@ -1,5 +1,8 @@
--- The field's facts read at numbers, in the words of the code's contracts: powers, inverses and cube roots mod p.
--- Assumes nothing.
+-- The field's facts read at numbers, in the words of the code's contracts.
+--   turn-even, turn-odd      one turn of a power by squaring
+--   inverse-value            a^(p − 2) is an inverse of a mod p
+--   inverse-only             an inverse below p is one
+--   root-value, root-only    a^((2p − 1)/3) is the one cube root of a below p, where p mod 3 = 2
 use mathlib.Core.Path.{_≡_, refl, sym, ap, ap₂, _∙_}
 use mathlib.Core.Logic.{_≢_}
 use mathlib.Core.List.{List, [], _∷_}
@@ -9,14 +12,11 @@ use native.Mathlib.Omega.{arith}
 use Rattle.ring.specs.Ring.{Ops, CRing}
 use Rattle.ring.specs.Power.{pow}
 use Rattle.ring.proofs.Power.{pow-add, mul-pow}
-use Rattle.fp.specs.Fp.{F, F-path, Prime, ring, Fld, ppos, cls, cls-mul, cls-val, mod-mul-mod, mul-mod-mod}
-use Rattle.fp.specs.Fermat.{pow-cls, fermat-inverse}
-use Rattle.fp.specs.Cube.{third, cube-root, root-cube, cube-inj}
-
--- A power mod p, shut: at literals the native `^` computes, and a power of numbers near 2^31 is too long to write out.
--- A contract says `powMod p a e`; only the proofs here and the one of the code's loop open it.
-unfoldable pub powMod : ℕ → ℕ → ℕ → ℕ
-powMod p a e = (a ^ e) % p
+use Rattle.fp.specs.Fp.{F, Prime, cls, powMod, third}
+use Rattle.fp.proofs.Ring.{F-path, ring, cls-mul, cls-val, mod-mul-mod, mul-mod-mod}
+use Rattle.fp.proofs.Field.{Fld, ppos}
+use Rattle.fp.proofs.Fermat.{pow-cls, fermat-inverse}
+use Rattle.fp.proofs.Cube.{cube-root, root-cube}
 
 pub powMod-below : (p a e : ℕ) → 0 < p → powMod p a e < p
 unfolding powMod
@@ -69,6 +69,18 @@ module _ (p : ℕ) (pr : Prime p) (a : ℕ) (l : a < p) where
       ap (λ (y : F p). (a * y .0) % p) (sym (value (p - 2)))
       ∙ ap (λ (y : F p). y .0) (fermat-inverse p pr x (λ e. let z : a ≡ 0 = ap (λ (y : F p). y .0) e ∙ mod-eq-of-lt (ppos p pr) in omega arith))
       ∙ mod-eq-of-lt (pr .big)
+
+  pub inverse-only : (r s : ℕ) → r < p → s < p → (a * r) % p ≡ 1 → (a * s) % p ≡ 1 → r ≡ s
+  inverse-only r s h k e f =
+      sym (mod-eq-of-lt h)
+      ∙ ap (λ n. n % p) (sym (mul-one r))
+      ∙ ap (λ n. (r * n) % p) (sym f)
+      ∙ mul-mod-mod r (a * s) p
+      ∙ ap (λ n. n % p) (let g : r * (a * s) ≡ s * (a * r) = omega arith in g)
+      ∙ sym (mul-mod-mod s (a * r) p)
+      ∙ ap (λ n. (s * n) % p) e
+      ∙ ap (λ n. n % p) (mul-one s)
+      ∙ mod-eq-of-lt k
 
   module _ (m : p % 3 ≡ 2) where
     pub root-value : (r : ℕ) → r ≡ powMod p a (third p) → (r * r * r) % p ≡ a

@@ -1,5 +1,9 @@
--- Fermat's little theorem, for every prime p: x^p = x in the field of p elements. By Frobenius: p divides C(p, k) for
--- 0 < k < p, so x ↦ x^p keeps sums, and every element is a sum of ones. Assumes nothing.
+-- Fermat's little theorem, by Frobenius: p divides C(p, k) for 0 < k < p, so x ↦ x^p keeps sums, and every element is a sum of ones.
+--   fermat           x^p = x
+--   fermat-unit      x^(p − 1) = 1 for x ≠ 0
+--   fermat-inverse   x · x^(p − 2) = 1 for x ≠ 0
+--   frob             x ↦ x^p keeps sums in every commutative ring where p is 0
+--   pow-cls          powers of classes are classes of powers, for every modulus
 use mathlib.Core.Path.{_≡_, refl, sym, ap, ap₂, _∙_}
 use mathlib.Core.Logic.{_≢_}
 use mathlib.Core.List.{List, [], _∷_}
@@ -12,7 +16,9 @@ use Rattle.ring.proofs.Solve.{var, one, zer, minus, _:+_, _:*_, hyp, solve-by}
 use Rattle.ring.specs.Power.{pow}
 use Rattle.ring.proofs.Power.{choose, absorb, frobenius, pow-suc, one-pow}
 use Rattle.ring.proofs.Power as P
-use Rattle.fp.specs.Fp.{F, F-path, Prime, ring, Fld, ppos, cls, cls-add, cls-mul, cls-p, cls-val, inverse, cancel-zero}
+use Rattle.fp.specs.Fp.{F, Prime, cls}
+use Rattle.fp.proofs.Ring.{F-path, ring, cls-add, cls-mul, cls-p, cls-val}
+use Rattle.fp.proofs.Field.{Fld, ppos, inverse, cancel-zero}
 
 -- the powers of numbers are the ring's: every modulus, prime or not
 pub pow-cls : (p : ℕ) (pos : 0 < p) (a e : ℕ) → pow (ring p pos) (cls p pos a) e ≡ cls p pos (a ^ e)

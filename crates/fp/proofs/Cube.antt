@@ -1,5 +1,11 @@
--- The primes p with p mod 3 = 2: cubing is a bijection of the field, with inverse x ↦ x^((2p − 1)/3), and the norm form
--- u² − u v + v² is 0 only at 0. All of it from Fermat: 3 · ((2p − 1)/3) = p + (p − 1), and x^p x^(p−1) = x. Assumes nothing.
+-- The primes p with p mod 3 = 2. All of it from Fermat: 3 · ((2p − 1)/3) = p + (p − 1), and x^p x^(p−1) = x.
+--   root                    x^((2p − 1)/3)
+--   cube-root, root-cube    cubing is a bijection, `root` its inverse
+--   cube-inj                one cube, one root
+--   three, two              3 ≠ 0, and 2 ≠ 0 for p > 2; `thirds` and `halves` are their inverses
+--   no-omega                z² + z + 1 ≠ 0: no cube root of 1 but 1
+--   norm-zero               u² − u v + v² = 0 only for u = v = 0
+--   norm-zero′              3 u² + v² = 0 only for u = v = 0
 use mathlib.Core.Path.{_≡_, refl, sym, ap, ap₂, _∙_}
 use mathlib.Core.Logic.{_≢_}
 use mathlib.Core.List.{List, [], _∷_}
@@ -12,12 +18,9 @@ use Rattle.ring.proofs.Laws.{one-mul}
 use Rattle.ring.proofs.Solve.{var, lit, one, zer, minus, _:+_, _:-_, _:*_, hyp, solve, solve-by}
 use Rattle.ring.specs.Power.{pow}
 use Rattle.ring.proofs.Power.{pow-suc, pow-add, pow-mul, pow-1}
-use Rattle.fp.specs.Fp.{F, Prime, Fld, ppos, inverse, cancel-zero, field}
-use Rattle.fp.specs.Fermat.{nat-cls, cls-nonzero, fermat, fermat-mul}
-
--- the exponent of the cube root
-abbrev pub third : ℕ → ℕ
-third p = (2 * p - 1) / 3
+use Rattle.fp.specs.Fp.{F, Prime, third}
+use Rattle.fp.proofs.Field.{Fld, inverse, cancel-zero, field}
+use Rattle.fp.proofs.Fermat.{nat-cls, cls-nonzero, fermat, fermat-mul}
 
 pub third-is : (p : ℕ) → p % 3 ≡ 2 → 3 * third p ≡ p + (p - 1)
 third-is p m =
