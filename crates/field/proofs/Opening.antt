@@ -32,7 +32,7 @@ holds-one f f′ pr a b =
     let e₉ : f .leadg ≡ f′ .leadg = a .topG ∙ sym (b .topG) in
     let e₀ : f .leadh ≡ f′ .leadh = a .topH ∙ sym (b .topH) in
     let m : made (f .p) (f .g) (f .h) (f .gh) (f .lg) (f .lh) (f .dr) (f .dw) (f .leadg) (f .leadh)
-        ≡ made (f′ .p) (f′ .g) (f′ .h) (f′ .gh) (f′ .lg) (f′ .lh) (f′ .dr) (f′ .dw) (f′ .leadg) (f′ .leadh) = cc in
+    ≡ made (f′ .p) (f′ .g) (f′ .h) (f′ .gh) (f′ .lg) (f′ .lh) (f′ .dr) (f′ .dw) (f′ .leadg) (f′ .leadh) = cc in
     m
 
 opened-path : (o o′ : Opened) → o .refusal ≡ o′ .refusal → o .field ≡ o′ .field → o ≡ o′

@@ -67,9 +67,16 @@ module _ {p : ℕ} {G H x y : List ℕ} (a : Accepted p G H) (u : Listed G x) (v
 
   pub field-holds : {z : List ℕ} (lg lh : ℕ) → ListLength p G lg → ListLength p H lh → Product p x y z
       → Held p G H record {
-        p = p; g = x; h = y; gh = z; lg = lg; lh = lh;
-        dr = (lg - 1 + 2 * (lh - 1)) / 3; dw = (2 * (lg - 1) + (lh - 1)) / 3;
-        leadg = getD G (lg - 1) 0; leadh = getD H (lh - 1) 0;
+        p = p;
+        g = x;
+        h = y;
+        gh = z;
+        lg = lg;
+        lh = lh;
+        dr = (lg - 1 + 2 * (lh - 1)) / 3;
+        dw = (2 * (lg - 1) + (lh - 1)) / 3;
+        leadg = getD G (lg - 1) 0;
+        leadh = getD H (lh - 1) 0;
       }
   field-holds {z} lg lh b c m d e g h =
       let i : lg ≡ suc d = length-of lg g b in

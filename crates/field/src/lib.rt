@@ -6,6 +6,7 @@ ghost use Rattle.field.specs.Parts.{ListLength};
 ghost use Rattle.field.specs.Opening.{Held, nothing};
 
 const LONGEST: usize = 13;
+
 const HIGHEST: usize = 16;
 
 // An opened field: G, H and G·H as rows, their numbers of coefficients, the degrees of r and w, and leading coefficients.

@@ -3,3 +3,4 @@ pub mod Compare
 pub mod Polynomial
 pub mod Gcds
 pub mod Divide
+pub mod Factor
