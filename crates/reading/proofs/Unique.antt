@@ -12,7 +12,7 @@ use native.Mathlib.Decide.{decLe, ℕ-discrete}
 use lib.ListN.{length, getD}
 use lib.Seq.{ext-getD}
 use Rattle.ring.proofs.Laws as r
-use Rattle.ring.specs.Ring.{Ops, CRing}
+use Rattle.ring.specs.Ring.{Ops}
 use Rattle.valued.specs.Val.{Valued}
 use Rattle.valued.proofs.Degree.{lead-eq}
 use Rattle.reading.specs.Reading.{Reading}

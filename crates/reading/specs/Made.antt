@@ -3,11 +3,10 @@
 --   derivation p   d/dt on its series
 use mathlib.Core.Path.{_≡_, refl, sym, ap, _∙_}
 use mathlib.Core.Logic.{_≢_}
-use Prim.Native.Nat.{ℕ, _%_, _<_}
+use Prim.Native.Nat.{ℕ, _%_}
 use native.Mathlib.Nat.{mod-mod, mod-eq-of-lt}
 use native.Mathlib.Omega.{arith}
-use Rattle.ring.specs.Ring.{Ops, CRing, nat}
-use Rattle.ring.specs.Power.{pow}
+use Rattle.ring.specs.Ring.{nat}
 use Rattle.fp.specs.Fp.{F, Prime, cls}
 use Rattle.fp.proofs.Ring.{F-path, cls-add, cls-mul, cls-val, cls-p}
 use Rattle.fp.proofs.Field.{Fld, ppos, field, cancel-zero}
