@@ -13,7 +13,6 @@ ghost use Rattle.poly.specs.Division.{DivIn, Quotient, Exact, Divided, D
 ghost use Rattle.reading.specs.Row.{shiftAt};
 ghost use Rattle.reading.specs.Sum.{sumTo, termAt};
 
-
 // The trimmed length of x, whose coefficients from n on are 0.
 pub fn size_from(x: &[u64; 32], n: usize) -> usize
     requires { ⌜ Cut (now x) n ⌝ }

@@ -208,8 +208,8 @@ module _ {p : ℕ} (ρ : Reading p) where
   sub-law x y sx hy =
       place-law (λ i. N._+_ (getD x i 0) (N._-_ p (getD y i 0)) % p) 1ᵏ (-ᵏ 1ᵏ) x y sx (hy .size)
       (λ i. let l : getD y i 0 < p = hy .each i in
-          ρ .cast-mod (N._+_ (getD x i 0) (N._-_ p (getD y i 0))) ∙ ρ .cast-add (getD x i 0) (N._-_ p (getD y i 0)) ∙ ap (λ z. coefs ρ x i +ᵏ z) (cast-sub (getD y i 0) (omega arith))
-          ∙ solve K (var 0 :+ minus (var 1)) (one :* var 0 :+ minus one :* var 1) tt (coefs ρ x i ∷ coefs ρ y i ∷ []))
+      ρ .cast-mod (N._+_ (getD x i 0) (N._-_ p (getD y i 0))) ∙ ρ .cast-add (getD x i 0) (N._-_ p (getD y i 0)) ∙ ap (λ z. coefs ρ x i +ᵏ z) (cast-sub (getD y i 0) (omega arith))
+      ∙ solve K (var 0 :+ minus (var 1)) (one :* var 0 :+ minus one :* var 1) tt (coefs ρ x i ∷ coefs ρ y i ∷ []))
       ∙ ap₂ (λ a b. a * row ρ x + b * row ρ y) (ρ .const-one) (const-neg 1ᵏ ∙ ap (λ a. - a) (ρ .const-one))
       ∙ solve L (one :* var 0 :+ minus one :* var 1) (var 0 :+ minus (var 1)) tt (row ρ x ∷ row ρ y ∷ [])
 

@@ -1,5 +1,6 @@
 -- A polynomial has one row: numbers below p are told apart by their classes, coefficients by the polynomial.
 --   cast-inj      numbers below p with one class are one number
+--   const-inj     constants that are one series are one element
 --   psum-unique   two sums of n terms that are one polynomial have the same coefficients
 --   list-unique   two lists of one length, entries below p, with one polynomial are one list
 --   row-unique    two rows with one polynomial are one row
@@ -12,7 +13,7 @@ use native.Mathlib.Decide.{decLe, ℕ-discrete}
 use lib.ListN.{length, getD}
 use lib.Seq.{ext-getD}
 use Rattle.ring.proofs.Laws as r
-use Rattle.ring.specs.Ring.{Ops, CRing}
+use Rattle.ring.specs.Ring.{Ops}
 use Rattle.valued.specs.Val.{Valued}
 use Rattle.valued.proofs.Degree.{lead-eq}
 use Rattle.reading.specs.Reading.{Reading}
@@ -37,6 +38,9 @@ module _ {p : ℕ} (ρ : Reading p) where
 
   pub cast-inj : (a b : ℕ) → a < p → b < p → cast a ≡ cast b → a ≡ b
   cast-inj a b g h e = elim (decLe a b) [ yes l ↦ cast-gap a b l h e | no l ↦ sym (cast-gap b a (omega arith) g (sym e)) ]
+
+  pub const-inj : (a b : K .El) → const a ≡ const b → a ≡ b
+  const-inj a b e = 𝓥 .lead-unique (𝓥 .const-lead a) (lead-eq 𝓥 (𝓥 .const-lead b) (sym e) refl)
 
   pub psum-unique : (n : ℕ) (f g : ℕ → K .El) → psum ρ n f ≡ psum ρ n g → (i : ℕ) → i < n → f i ≡ g i
   unfolding psum
