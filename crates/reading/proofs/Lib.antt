@@ -5,3 +5,6 @@ pub mod Floors
 pub mod Product
 pub mod Unique
 pub mod Quotient
+pub mod Derivative
+pub mod Square
+pub mod Euclid
