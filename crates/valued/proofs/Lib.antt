@@ -3,3 +3,5 @@ pub mod Compare
 pub mod Polynomial
 pub mod Gcds
 pub mod Divide
+pub mod Factor
+pub mod Coprime
