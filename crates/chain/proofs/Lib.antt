@@ -9,3 +9,4 @@ pub mod Passed
 pub mod Closing
 pub mod Unit
 pub mod Rows
+pub mod Bounds
