@@ -161,6 +161,17 @@ module _ {p : ℕ} (ρ : Reading p) where
       go zero z = omega arith
       go (suc d) z = above 𝓥 (size-has h z) g
 
+  -- t^k y, where nothing of it is past 32 terms
+  pub shift-row : (k : ℕ) (y : List ℕ) → k ≤ 32 → ((i : ℕ) → 32 ≤ i → shiftAt y k i ≡ 0) → psum ρ 32 (λ i. cast (shiftAt y k i)) ≡ tpow ρ k * row ρ y
+  shift-row k y l h =
+      let e : 32 ≡ N._+_ (N._-_ 32 k) k = omega arith in
+      ap (λ n. psum ρ n (λ i. cast (shiftAt y k i))) e
+      ∙ psum-shift k (N._-_ 32 k) (coefs ρ y) (λ i. cast (shiftAt y k i)) (λ i h. ap cast (shift-low y k i h) ∙ ρ .cast-zero) (λ i. ap cast (at i))
+      ∙ ap (λ n. tpow ρ k * n) (sym (row-upto y (N._-_ 32 k) (λ i u. sym (at i) ∙ h (N._+_ i k) (omega arith))))
+    where
+      at : (i : ℕ) → shiftAt y k (N._+_ i k) ≡ getD y i 0
+      at i = shift-high y k (N._+_ i k) (omega arith) ∙ ap (λ n. getD y n 0) (let w : N._-_ (N._+_ i k) k ≡ i = omega arith in w)
+
   -- ---- the leaves
   -- s x − c t^k y, where nothing of t^k y is past the row ρ
   pub cross-law : (s : ℕ) (x : List ℕ) (c k : ℕ) (y : List ℕ) (m : ℕ) → length x ≡ 32 → Size y m → N._+_ m k ≤ 32
@@ -169,7 +180,7 @@ module _ {p : ℕ} (ρ : Reading p) where
       row-tab 32 (crossAt p s x c k y)
       ∙ psum-ext 32 (λ i. cast (crossAt p s x c k y i)) (λ i. cast s *ᵏ coefs ρ x i +ᵏ -ᵏ (cast c *ᵏ cast (shiftAt y k i))) (λ i h. at i)
       ∙ psum-cross 32 (cast s) (cast c) (coefs ρ x) (λ i. cast (shiftAt y k i))
-      ∙ ap₂ (λ w z. const (cast s) * w + - (const (cast c) * z)) (sym (row-32 x sx)) moved
+      ∙ ap₂ (λ w z. const (cast s) * w + - (const (cast c) * z)) (sym (row-32 x sx)) (shift-row k y (omega arith) past)
     where
       at : (i : ℕ) → cast (crossAt p s x c k y i) ≡ cast s *ᵏ coefs ρ x i +ᵏ -ᵏ (cast c *ᵏ cast (shiftAt y k i))
       at i =
@@ -179,10 +190,5 @@ module _ {p : ℕ} (ρ : Reading p) where
           ∙ ρ .cast-add (N._*_ s (getD x i 0)) (N._-_ p (cy % p))
           ∙ ap₂ _+ᵏ_ (ρ .cast-mul s (getD x i 0)) (cast-sub (cy % p) (omega arith) ∙ ap (λ z. -ᵏ z) (ρ .cast-mod cy ∙ ρ .cast-mul c (shiftAt y k i)))
 
-      moved : psum ρ 32 (λ i. cast (shiftAt y k i)) ≡ tpow ρ k * row ρ y
-      moved =
-          let e : 32 ≡ N._+_ (N._-_ 32 k) k = omega arith in
-          ap (λ n. psum ρ n (λ i. cast (shiftAt y k i))) e
-          ∙ psum-shift k (N._-_ 32 k) (coefs ρ y) (λ i. cast (shiftAt y k i)) (λ i h. ap cast (shift-low y k i h) ∙ ρ .cast-zero)
-          (λ i. ap cast (shift-high y k (N._+_ i k) (omega arith) ∙ ap (λ n. getD y n 0) (let w : N._-_ (N._+_ i k) k ≡ i = omega arith in w)))
-          ∙ ap (λ n. tpow ρ k * n) (sym (row-upto y (N._-_ 32 k) (λ i h. sy .above i (omega arith))))
+      past : (i : ℕ) → 32 ≤ i → shiftAt y k i ≡ 0
+      past i h = shift-high y k i (omega arith) ∙ sy .above (N._-_ i k) (omega arith)

@@ -1,0 +1,106 @@
+// The reduction of two elements b r + c w to a reduced pair, on rows of 32 coefficients, lowest first, each below p.
+// Rows are lent; what is made comes back by value. Loops run over true lengths: top is one more than the largest degree
+// of a size, so that rows b end before top - dr and rows c before top - dw.
+// Every contract speaks of the polynomial that a row stands for; none speaks of coefficients.
+ghost use mathlib.Core.Path.{_≡_};
+ghost use Prim.Native.Nat.{_+_, _*_, _-_, _%_, _<_, _≤_};
+ghost use lib.ListN.{getD};
+ghost use Rattle.reading.specs.Row.{Size, shiftAt};
+ghost use Rattle.reduce.specs.Frame.{frame};
+ghost use Rattle.reduce.specs.Leaves.{Below, CrossIn, Crossed, SumIn, Summed, TermsIn, Terms, PartIn, PartAtIn, PartAt, Parted};
+
+// x + y z, less q = p p where it reaches that
+fn plus(p: u64, q: u64, x: u64, y: u64, z: u64) -> u64
+    requires { ⌜ SumIn p q x y z ⌝ }
+    ensures { λ r. ⌜ Summed p q x y z r ⌝ }
+{
+    let s = x + y * z;
+    if s < q { s } else { s - q }
+}
+
+// j - d, and 0 below
+fn over(j: usize, d: usize) -> usize
+    ensures { λ r. ⌜ r ≡ j - d ⌝ }
+{
+    if d < j { j - d } else { 0 }
+}
+
+// The coefficient at t^j of b times the series s of degree d, from n terms of b; below q = p p.
+fn terms(p: u64, q: u64, b: &[u64; 32], n: usize, s: &[u64; 32], d: usize, j: usize) -> u64
+    requires { ⌜ TermsIn p q (now b) n (now s) d j ⌝ }
+    ensures { λ r. ⌜ Terms p q (now (b .entry)) n (now (s .entry)) d j r ⌝ }
+{
+    let mut i = over(j, d);
+    let mut a: u64 = 0;
+    while i < n {
+        let t = plus(p, q, a, b[i], s[d + i - j]);
+        a = t;
+        i += 1;
+    }
+    a
+}
+
+// The coefficient at t^j of b r + c w, or of b r - c w
+fn part_at(p: u64, q: u64, minus: bool, b: &[u64; 32], c: &[u64; 32], r: &[u64; 32], w: &[u64; 32], dr: usize, dw: usize, top: usize, j: usize) -> u64
+    requires { ⌜ PartAtIn (frame p (now r) (now w) dr dw) q (now b) (now c) top j ⌝ }
+    ensures { λ v. ⌜ PartAt (frame p (now (r .entry)) (now (w .entry)) dr dw) minus (now (b .entry)) (now (c .entry)) top j v ⌝ }
+{
+    let x = terms(p, q, b, top - dr, r, dr, j);
+    let y = terms(p, q, c, top - dw, w, dw, j);
+    if minus { (x + (q - y)) % p } else { (x + y) % p }
+}
+
+// The polynomial part of b r + c w, or of b r - c w
+fn part(p: u64, minus: bool, b: &[u64; 32], c: &[u64; 32], r: &[u64; 32], w: &[u64; 32], dr: usize, dw: usize, top: usize) -> [u64; 32]
+    requires { ⌜ PartIn (frame p (now r) (now w) dr dw) (now b) (now c) top ⌝ }
+    ensures { λ z. ⌜ Parted (frame p (now (r .entry)) (now (w .entry)) dr dw) minus (now (b .entry)) (now (c .entry)) top z ⌝ }
+{
+    let q = p * p;
+    let mut z: [u64; 32] = [0; 32];
+    let mut j: usize = 0;
+    while j < top {
+        let v = part_at(p, q, minus, b, c, r, w, dr, dw, top, j);
+        z[j] = v;
+        j += 1;
+    }
+    z
+}
+
+// The coefficient of t^k y at i
+fn shifted(y: &[u64; 32], k: usize, i: usize) -> u64
+    requires { ⌜ i < 32 ⌝ }
+    ensures { λ r. ⌜ r ≡ shiftAt (now (y .entry)) k i ⌝ }
+{
+    if i < k { 0 } else { y[i - k] }
+}
+
+// s x - c t^k y, of n terms
+fn cross(p: u64, s: u64, x: &[u64; 32], c: u64, k: usize, y: &[u64; 32], n: usize) -> [u64; 32]
+    requires { ⌜ CrossIn p s (now x) c k (now y) n ⌝ }
+    ensures { λ z. ⌜ Crossed p s (now (x .entry)) c k (now (y .entry)) n z ⌝ }
+{
+    let e = p - c;
+    let mut z: [u64; 32] = [0; 32];
+    let mut i: usize = 0;
+    while i < n {
+        let v = shifted(y, k, i);
+        z[i] = (s * x[i] + e * v) % p;
+        i += 1;
+    }
+    z
+}
+
+// The length of a row that is 0 from n on: one more than the degree, 0 for the zero polynomial
+fn size(x: &[u64; 32], n: usize) -> usize
+    requires { ⌜ Below (now x) n ⌝ }
+    ensures { λ r. ⌜ Size (now (x .entry)) r ⌝ }
+{
+    let mut m = n;
+    while 0 < m {
+        if x[m - 1] != 0 {
+            return m;
+        }
+        m -= 1;
+    }
+    m
+}
