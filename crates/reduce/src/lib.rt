@@ -7,6 +7,7 @@ ghost use Prim.Native.Nat.{_+_, _*_, _-_, _%_, _<_, _≤_};
 ghost use lib.ListN.{getD};
 ghost use Rattle.reading.specs.Row.{Size, shiftAt};
 ghost use Rattle.reduce.specs.Frame.{frame};
+ghost use Rattle.reduce.specs.Clear.{CancelIn, CancelOut, ClearIn, Cleared, ShearIn, Sheared, Reduced};
 ghost use Rattle.reduce.specs.Leaves.{Below, CrossIn, Crossed, SumIn, Summed, TermsIn, Terms, PartIn, PartAtIn, PartAt, Parted};
 
 // x + y z, less q = p p where it reaches that
@@ -103,4 +104,114 @@ fn size(x: &[u64; 32], n: usize) -> usize
         m -= 1;
     }
     m
+}
+
+// Two elements b r + c w
+pub struct Pair {
+    pub mb: [u64; 32],
+    pub mc: [u64; 32],
+    pub nb: [u64; 32],
+    pub nc: [u64; 32],
+}
+
+// Two elements with the polynomial parts of X, and the length of m's
+pub struct Ends {
+    pub mb: [u64; 32],
+    pub mc: [u64; 32],
+    pub mx: [u64; 32],
+    pub nb: [u64; 32],
+    pub nc: [u64; 32],
+    pub nx: [u64; 32],
+    pub lx: usize,
+}
+
+// An element with the polynomial part z of one of its sizes, and the length of z
+struct Turn {
+    b: [u64; 32],
+    c: [u64; 32],
+    z: [u64; 32],
+    l: usize,
+}
+
+// s a - c t^k b, whose size ends before l
+fn canceled(p: u64, minus: bool, r: &[u64; 32], w: &[u64; 32], dr: usize, dw: usize, top: usize, s: u64, ab: &[u64; 32], ac: &[u64; 32], c: u64, k: usize, bb: &[u64; 32], bc: &[u64; 32], l: usize) -> Turn
+    requires { ⌜ CancelIn (frame p (now r) (now w) dr dw) minus (now ab) (now ac) (now bb) (now bc) s c k top l ⌝ }
+    ensures { λ o. ⌜ CancelOut (frame p (now (r .entry)) (now (w .entry)) dr dw) minus (now (ab .entry)) (now (ac .entry)) (now (bb .entry)) (now (bc .entry)) s c k top o ⌝ }
+{
+    let nb = cross(p, s, ab, c, k, bb, top - dr);
+    let nc = cross(p, s, ac, c, k, bc, top - dw);
+    let z = part(p, minus, &nb, &nc, r, w, dr, dw, top);
+    let m = size(&z, l);
+    Turn { b: nb, c: nc, z, l: m }
+}
+
+// Leading terms of Y are canceled until one Y lies below the denominator's degree, lu - 1; that element comes first.
+fn clear_y(p: u64, r: &[u64; 32], w: &[u64; 32], dr: usize, dw: usize, q: Pair, top: usize, lu: usize) -> Pair
+    requires { ⌜ ClearIn (frame p (now r) (now w) dr dw) q top lu ⌝ }
+    ensures { λ o. ⌜ Cleared (frame p (now (r .entry)) (now (w .entry)) dr dw) q top lu o ⌝ }
+{
+    let mut mb = q.mb;
+    let mut mc = q.mc;
+    let mut nb = q.nb;
+    let mut nc = q.nc;
+    let mut my = part(p, true, &mb, &mc, r, w, dr, dw, top);
+    let mut ny = part(p, true, &nb, &nc, r, w, dr, dw, top);
+    let mut y1 = size(&my, top);
+    let mut y2 = size(&ny, top);
+    while lu <= y1 {
+        if y2 < lu {
+            return Pair { mb: nb, mc: nc, nb: mb, nc: mc };
+        } else {
+            let s = my[y1 - 1];
+            let c = ny[y2 - 1];
+            if y1 < y2 {
+                let t = canceled(p, true, r, w, dr, dw, top, s, &nb, &nc, c, y2 - y1, &mb, &mc, y2 - 1);
+                nb = t.b;
+                nc = t.c;
+                ny = t.z;
+                y2 = t.l;
+            } else {
+                let t = canceled(p, true, r, w, dr, dw, top, c, &mb, &mc, s, y1 - y2, &nb, &nc, y1 - 1);
+                mb = t.b;
+                mc = t.c;
+                my = t.z;
+                y1 = t.l;
+            }
+        }
+    }
+    Pair { mb, mc, nb, nc }
+}
+
+// Then leading terms of n's X, until it lies below m's.
+fn clear_x(p: u64, r: &[u64; 32], w: &[u64; 32], dr: usize, dw: usize, q: Pair, top: usize) -> Ends
+    requires { ⌜ ShearIn (frame p (now r) (now w) dr dw) q top ⌝ }
+    ensures { λ o. ⌜ Sheared (frame p (now (r .entry)) (now (w .entry)) dr dw) q top o ⌝ }
+{
+    let mb = q.mb;
+    let mc = q.mc;
+    let mut nb = q.nb;
+    let mut nc = q.nc;
+    let mx = part(p, false, &mb, &mc, r, w, dr, dw, top);
+    let mut nx = part(p, false, &nb, &nc, r, w, dr, dw, top);
+    let x1 = size(&mx, top);
+    let mut x2 = size(&nx, top);
+    while x1 <= x2 {
+        let s = mx[x1 - 1];
+        let c = nx[x2 - 1];
+        let t = canceled(p, false, r, w, dr, dw, top, s, &nb, &nc, c, x2 - x1, &mb, &mc, x2 - 1);
+        nb = t.b;
+        nc = t.c;
+        nx = t.z;
+        x2 = t.l;
+    }
+    Ends { mb, mc, mx, nb, nc, nx, lx: x1 }
+}
+
+// A pair with the span of q, deg X(n) < deg X(m) and deg Y(m) < lu - 1 <= deg Y(n)
+pub fn reduced(p: u64, r: &[u64; 32], w: &[u64; 32], dr: usize, dw: usize, q: Pair, top: usize, lu: usize) -> Ends
+    requires { ⌜ ClearIn (frame p (now r) (now w) dr dw) q top lu ⌝ }
+    ensures { λ o. ⌜ Reduced (frame p (now (r .entry)) (now (w .entry)) dr dw) q top lu o ⌝ }
+{
+    let a = clear_y(p, r, w, dr, dw, q, top, lu);
+    clear_x(p, r, w, dr, dw, a, top)
 }
