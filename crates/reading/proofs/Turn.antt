@@ -15,6 +15,7 @@ use Rattle.valued.proofs.Degree.{k-domain, k-neg, lead-eq, lt-eq, has-eq, lt-ad
 use Rattle.reading.specs.Reading.{Reading}
 use Rattle.reading.specs.Row.{tpow}
 use Rattle.reading.proofs.Rows.{tpow-lead, tpow-poly, const-neg}
+
 module _ {p : ℕ} (ρ : Reading p) where
   open Reading ρ using (𝓥)
   open Valued 𝓥 using (K, L, Lead, const, t, IsPoly)

@@ -6,9 +6,17 @@ ghost use mathlib.Core.Path.{_≡_};
 ghost use Prim.Native.Nat.{_+_, _*_, _-_, _%_, _<_, _≤_};
 ghost use lib.ListN.{getD};
 ghost use Rattle.reading.specs.Row.{Size, shiftAt};
-ghost use Rattle.reduce.specs.Frame.{frame};
+ghost use Rattle.reduce.specs.Given.{given};
 ghost use Rattle.reduce.specs.Clear.{CancelIn, CancelOut, ClearIn, Cleared, ShearIn, Sheared, Reduced};
 ghost use Rattle.reduce.specs.Leaves.{Below, CrossIn, Crossed, SumIn, Summed, TermsIn, Terms, PartIn, PartAtIn, PartAt, Parted};
+
+// A modulus, the degrees of two series, and the bound of sizes: one more than the largest degree that may occur
+pub struct Bounds {
+    pub p: u64,
+    pub dr: usize,
+    pub dw: usize,
+    pub top: usize,
+}
 
 // x + y z, less q = p p where it reaches that
 fn plus(p: u64, q: u64, x: u64, y: u64, z: u64) -> u64
@@ -42,25 +50,51 @@ fn terms(p: u64, q: u64, b: &[u64; 32], n: usize, s: &[u64; 32], d: usize, j: us
 }
 
 // The coefficient at t^j of b r + c w, or of b r - c w
-fn part_at(p: u64, q: u64, minus: bool, b: &[u64; 32], c: &[u64; 32], r: &[u64; 32], w: &[u64; 32], dr: usize, dw: usize, top: usize, j: usize) -> u64
-    requires { ⌜ PartAtIn (frame p (now r) (now w) dr dw) q (now b) (now c) top j ⌝ }
-    ensures { λ v. ⌜ PartAt (frame p (now (r .entry)) (now (w .entry)) dr dw) minus (now (b .entry)) (now (c .entry)) top j v ⌝ }
+fn part_at(
+    f: Bounds,
+    q: u64,
+    minus: bool,
+    b: &[u64; 32],
+    c: &[u64; 32],
+    r: &[u64; 32],
+    w: &[u64; 32],
+    j: usize,
+) -> u64
+    requires { ⌜ PartAtIn (given f (now r) (now w)) q (now b) (now c) (f .top) j ⌝ }
+    ensures { λ v. ⌜ PartAt (given f (now (r .entry)) (now (w .entry))) minus (now (b .entry)) (now (c .entry)) (f .top) j v ⌝ }
 {
+    let p = f.p;
+    let dr = f.dr;
+    let dw = f.dw;
+    let top = f.top;
     let x = terms(p, q, b, top - dr, r, dr, j);
     let y = terms(p, q, c, top - dw, w, dw, j);
-    if minus { (x + (q - y)) % p } else { (x + y) % p }
+    if minus {
+        (x + (q - y)) % p
+    } else {
+        (x + y) % p
+    }
 }
 
 // The polynomial part of b r + c w, or of b r - c w
-fn part(p: u64, minus: bool, b: &[u64; 32], c: &[u64; 32], r: &[u64; 32], w: &[u64; 32], dr: usize, dw: usize, top: usize) -> [u64; 32]
-    requires { ⌜ PartIn (frame p (now r) (now w) dr dw) (now b) (now c) top ⌝ }
-    ensures { λ z. ⌜ Parted (frame p (now (r .entry)) (now (w .entry)) dr dw) minus (now (b .entry)) (now (c .entry)) top z ⌝ }
+fn part(
+    f: Bounds,
+    minus: bool,
+    b: &[u64; 32],
+    c: &[u64; 32],
+    r: &[u64; 32],
+    w: &[u64; 32],
+) -> [u64; 32]
+    requires { ⌜ PartIn (given f (now r) (now w)) (now b) (now c) (f .top) ⌝ }
+    ensures { λ z. ⌜ Parted (given f (now (r .entry)) (now (w .entry))) minus (now (b .entry)) (now (c .entry)) (f .top) z ⌝ }
 {
+    let p = f.p;
+    let top = f.top;
     let q = p * p;
     let mut z: [u64; 32] = [0; 32];
     let mut j: usize = 0;
     while j < top {
-        let v = part_at(p, q, minus, b, c, r, w, dr, dw, top, j);
+        let v = part_at(f, q, minus, b, c, r, w, j);
         z[j] = v;
         j += 1;
     }
@@ -134,44 +168,72 @@ struct Turn {
 }
 
 // s a - c t^k b, whose size ends before l
-fn canceled(p: u64, minus: bool, r: &[u64; 32], w: &[u64; 32], dr: usize, dw: usize, top: usize, s: u64, ab: &[u64; 32], ac: &[u64; 32], c: u64, k: usize, bb: &[u64; 32], bc: &[u64; 32], l: usize) -> Turn
-    requires { ⌜ CancelIn (frame p (now r) (now w) dr dw) minus (now ab) (now ac) (now bb) (now bc) s c k top l ⌝ }
-    ensures { λ o. ⌜ CancelOut (frame p (now (r .entry)) (now (w .entry)) dr dw) minus (now (ab .entry)) (now (ac .entry)) (now (bb .entry)) (now (bc .entry)) s c k top o ⌝ }
+fn canceled(
+    f: Bounds,
+    minus: bool,
+    r: &[u64; 32],
+    w: &[u64; 32],
+    s: u64,
+    ab: &[u64; 32],
+    ac: &[u64; 32],
+    c: u64,
+    k: usize,
+    bb: &[u64; 32],
+    bc: &[u64; 32],
+    l: usize,
+) -> Turn
+    requires { ⌜ CancelIn (given f (now r) (now w)) minus (now ab) (now ac) (now bb) (now bc) s c k (f .top) l ⌝ }
+    ensures { λ o. ⌜ CancelOut (given f (now (r .entry)) (now (w .entry))) minus (now (ab .entry)) (now (ac .entry)) (now (bb .entry)) (now (bc .entry)) s c k (f .top) o ⌝ }
 {
+    let p = f.p;
+    let dr = f.dr;
+    let dw = f.dw;
+    let top = f.top;
     let nb = cross(p, s, ab, c, k, bb, top - dr);
     let nc = cross(p, s, ac, c, k, bc, top - dw);
-    let z = part(p, minus, &nb, &nc, r, w, dr, dw, top);
+    let z = part(f, minus, &nb, &nc, r, w);
     let m = size(&z, l);
-    Turn { b: nb, c: nc, z, l: m }
+    Turn {
+        b: nb,
+        c: nc,
+        z,
+        l: m,
+    }
 }
 
 // Leading terms of Y are canceled until one Y lies below the denominator's degree, lu - 1; that element comes first.
-fn clear_y(p: u64, r: &[u64; 32], w: &[u64; 32], dr: usize, dw: usize, q: Pair, top: usize, lu: usize) -> Pair
-    requires { ⌜ ClearIn (frame p (now r) (now w) dr dw) q top lu ⌝ }
-    ensures { λ o. ⌜ Cleared (frame p (now (r .entry)) (now (w .entry)) dr dw) q top lu o ⌝ }
+fn clear_y(f: Bounds, r: &[u64; 32], w: &[u64; 32], q: Pair, lu: usize) -> Pair
+    requires { ⌜ ClearIn (given f (now r) (now w)) q (f .top) lu ⌝ }
+    ensures { λ o. ⌜ Cleared (given f (now (r .entry)) (now (w .entry))) q (f .top) lu o ⌝ }
 {
+    let top = f.top;
     let mut mb = q.mb;
     let mut mc = q.mc;
     let mut nb = q.nb;
     let mut nc = q.nc;
-    let mut my = part(p, true, &mb, &mc, r, w, dr, dw, top);
-    let mut ny = part(p, true, &nb, &nc, r, w, dr, dw, top);
+    let mut my = part(f, true, &mb, &mc, r, w);
+    let mut ny = part(f, true, &nb, &nc, r, w);
     let mut y1 = size(&my, top);
     let mut y2 = size(&ny, top);
     while lu <= y1 {
         if y2 < lu {
-            return Pair { mb: nb, mc: nc, nb: mb, nc: mc };
+            return Pair {
+                mb: nb,
+                mc: nc,
+                nb: mb,
+                nc: mc,
+            };
         } else {
             let s = my[y1 - 1];
             let c = ny[y2 - 1];
             if y1 < y2 {
-                let t = canceled(p, true, r, w, dr, dw, top, s, &nb, &nc, c, y2 - y1, &mb, &mc, y2 - 1);
+                let t = canceled(f, true, r, w, s, &nb, &nc, c, y2 - y1, &mb, &mc, y2 - 1);
                 nb = t.b;
                 nc = t.c;
                 ny = t.z;
                 y2 = t.l;
             } else {
-                let t = canceled(p, true, r, w, dr, dw, top, c, &mb, &mc, s, y1 - y2, &nb, &nc, y1 - 1);
+                let t = canceled(f, true, r, w, c, &mb, &mc, s, y1 - y2, &nb, &nc, y1 - 1);
                 mb = t.b;
                 mc = t.c;
                 my = t.z;
@@ -183,35 +245,44 @@ fn clear_y(p: u64, r: &[u64; 32], w: &[u64; 32], dr: usize, dw: usize, q: Pair, 
 }
 
 // Then leading terms of n's X, until it lies below m's.
-fn clear_x(p: u64, r: &[u64; 32], w: &[u64; 32], dr: usize, dw: usize, q: Pair, top: usize) -> Ends
-    requires { ⌜ ShearIn (frame p (now r) (now w) dr dw) q top ⌝ }
-    ensures { λ o. ⌜ Sheared (frame p (now (r .entry)) (now (w .entry)) dr dw) q top o ⌝ }
+fn clear_x(f: Bounds, r: &[u64; 32], w: &[u64; 32], q: Pair) -> Ends
+    requires { ⌜ ShearIn (given f (now r) (now w)) q (f .top) ⌝ }
+    ensures { λ o. ⌜ Sheared (given f (now (r .entry)) (now (w .entry))) q (f .top) o ⌝ }
 {
+    let top = f.top;
     let mb = q.mb;
     let mc = q.mc;
     let mut nb = q.nb;
     let mut nc = q.nc;
-    let mx = part(p, false, &mb, &mc, r, w, dr, dw, top);
-    let mut nx = part(p, false, &nb, &nc, r, w, dr, dw, top);
+    let mx = part(f, false, &mb, &mc, r, w);
+    let mut nx = part(f, false, &nb, &nc, r, w);
     let x1 = size(&mx, top);
     let mut x2 = size(&nx, top);
     while x1 <= x2 {
         let s = mx[x1 - 1];
         let c = nx[x2 - 1];
-        let t = canceled(p, false, r, w, dr, dw, top, s, &nb, &nc, c, x2 - x1, &mb, &mc, x2 - 1);
+        let t = canceled(f, false, r, w, s, &nb, &nc, c, x2 - x1, &mb, &mc, x2 - 1);
         nb = t.b;
         nc = t.c;
         nx = t.z;
         x2 = t.l;
     }
-    Ends { mb, mc, mx, nb, nc, nx, lx: x1 }
+    Ends {
+        mb,
+        mc,
+        mx,
+        nb,
+        nc,
+        nx,
+        lx: x1,
+    }
 }
 
 // A pair with the span of q, deg X(n) < deg X(m) and deg Y(m) < lu - 1 <= deg Y(n)
-pub fn reduced(p: u64, r: &[u64; 32], w: &[u64; 32], dr: usize, dw: usize, q: Pair, top: usize, lu: usize) -> Ends
-    requires { ⌜ ClearIn (frame p (now r) (now w) dr dw) q top lu ⌝ }
-    ensures { λ o. ⌜ Reduced (frame p (now (r .entry)) (now (w .entry)) dr dw) q top lu o ⌝ }
+pub fn reduced(f: Bounds, r: &[u64; 32], w: &[u64; 32], q: Pair, lu: usize) -> Ends
+    requires { ⌜ ClearIn (given f (now r) (now w)) q (f .top) lu ⌝ }
+    ensures { λ o. ⌜ Reduced (given f (now (r .entry)) (now (w .entry))) q (f .top) lu o ⌝ }
 {
-    let a = clear_y(p, r, w, dr, dw, q, top, lu);
-    clear_x(p, r, w, dr, dw, a, top)
+    let a = clear_y(f, r, w, q, lu);
+    clear_x(f, r, w, a)
 }
