@@ -21,7 +21,8 @@ use Rattle.reading.proofs.Floors.{sized, floor-le}
 use Rattle.turn.specs.Points.{Pt, Turned}
 use Rattle.turn.proofs.Turn.{turned-side, b-lt, c-lt}
 use Rattle.reduce.specs.Frame.{Frame, Fine, Meaning, Point, point, Short, Held, rd, Ser, pt, X, Y, side, Ltμ, shift, rowμ}
-use Rattle.reduce.specs.Leaves.{Below, CrossIn, Crossed, PartIn, Parted}
+use Rattle.poly.specs.Leaf.{Cut}
+use Rattle.reduce.specs.Leaves.{CrossIn, Crossed, PartIn, Parted}
 use Rattle.reduce.specs.Clear.{Rows, Room, RoomAt, CancelIn, CancelOut}
 use Rattle.reduce.specs.declared.Turn.{Turn}
 
@@ -92,7 +93,7 @@ module _ {F : Frame} {e : Bool} {ab ac bb bc : List ℕ} {s c k top l : ℕ} (i 
     turned-at μ = record { at-b = xb .law (μ .prime); at-c = xc .law (μ .prime) }
 
     module _ {z : List ℕ} (o : Parted F e nb nc top z) where
-      pub cancel-below : Below z l
+      pub cancel-below : Cut z l
       cancel-below =
           let σ = i .some in
           let (n, sn) = sized z in

@@ -17,7 +17,8 @@ use Rattle.reading.proofs.Floors.{floor-lt, floor-le, floor-top, top-not}
 use Rattle.turn.specs.Points.{Pt, Turned, Moved}
 use Rattle.turn.proofs.Turn.{turned-X, turned-Y, moved-start, moved-swap, moved-turn, moved-has, full}
 use Rattle.reduce.specs.Frame.{Frame, Fine, Meaning, Point, point, Short, Held, rd, pt, X, Y, Ltμ, shift}
-use Rattle.reduce.specs.Leaves.{Below, PartIn, Parted}
+use Rattle.poly.specs.Leaf.{Cut}
+use Rattle.reduce.specs.Leaves.{PartIn, Parted}
 use Rattle.reduce.specs.Clear.{Rows, Room, CancelIn, CancelOut, ClearIn, Clearing, Cleared}
 use Rattle.reduce.specs.declared.Pair.{Pair}
 use Rattle.reduce.specs.declared.Turn.{Turn}
@@ -26,7 +27,7 @@ use Rattle.reduce.specs.declared.Turn.{Turn}
 pub part-in : {F : Frame} {top : ℕ} {b c : List ℕ} → Room F top → Rows F top b c → PartIn F b c top
 part-in r h = record { fine = r .fine; hb = h .hb; hc = h .hc; fits = r .fits; low-r = r .low-r; low-w = r .low-w }
 
-pub part-below : {F : Frame} {e : Bool} {top : ℕ} {b c z : List ℕ} → Room F top → Parted F e b c top z → Below z top
+pub part-below : {F : Frame} {e : Bool} {top : ℕ} {b c z : List ℕ} → Room F top → Parted F e b c top z → Cut z top
 part-below r o = record { size = o .short .is-row .size; fits = r .fits; above = o .short .above }
 
 pub part-held : {F : Frame} {e : Bool} {top : ℕ} {b c z : List ℕ} → Rows F top b c → Parted F e b c top z → Held F e top (point b c z)

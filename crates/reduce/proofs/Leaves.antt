@@ -22,10 +22,12 @@ use Rattle.valued.proofs.Degree.{lead-eq, lt-eq, lt-add, lt-neg}
 use Rattle.reading.specs.Reading.{Reading}
 use Rattle.reading.specs.Made.{reading}
 use Rattle.reading.specs.Row.{Row, tab, shiftAt, fallAt, tpow, psum, coefs, row, Floor, Reads}
-use Rattle.reading.proofs.Rows.{const-zero, const-neg, cast-sub, psum-ext, psum-cross, row-32, row-upto, row-tab, shift-row}
+use Rattle.reading.proofs.Rows.{const-zero, const-neg, cast-sub, psum-ext, psum-cross, psum-plus, row-32, row-upto, row-tab, shift-law}
+use Rattle.reading.proofs.Tab.{shift-high}
 use Rattle.reading.proofs.Floors.{fall-in, fall-out}
 use Rattle.reading.proofs.Turn.{comb, lt-scale}
-use Rattle.reduce.specs.Frame.{Modulus, Frame, Meaning, Short, rd, pt, side}
+use Rattle.residue.specs.Residue.{Modulus}
+use Rattle.reduce.specs.Frame.{Frame, Meaning, Short, rd, pt, side}
 use Rattle.reduce.specs.Leaves.{CrossIn, Crossed, SumIn, Summed, TermsIn, Terms, along, PartIn, PartAtIn, PartAt, partAt, signed, Parted}
 use Rattle.reduce.proofs.Laid.{Laid, laid-short, laid-row}
 
@@ -81,7 +83,10 @@ module _ {p : ℕ} (ρ : Reading p) where
   pub cross-row : (s : ℕ) (x : List ℕ) (c k : ℕ) (y : List ℕ) → length x ≡ 32 → k ≤ 32 → ((i : ℕ) → 32 ≤ i → shiftAt y k i ≡ 0)
       → psum ρ 32 (λ i. cast s *ᵏ coefs ρ x i +ᵏ -ᵏ (cast c *ᵏ cast (shiftAt y k i))) ≡ comb ρ (cast s) (cast c) k (row ρ x) (row ρ y)
   cross-row s x c k y e l h =
-      psum-cross ρ 32 (cast s) (cast c) (coefs ρ x) (λ i. cast (shiftAt y k i)) ∙ ap₂ (λ u v. const (cast s) * u + - (const (cast c) * v)) (sym (row-32 ρ x e)) (shift-row ρ k y l h)
+      psum-cross ρ 32 (cast s) (cast c) (coefs ρ x) (λ i. cast (shiftAt y k i)) ∙ ap₂ (λ u v. const (cast s) * u + - (const (cast c) * v)) (sym (row-32 ρ x e)) (shift-law ρ 32 k (N._-_ 32 k) y (λ i u. sym (at i) ∙ h (N._+_ i k) (omega arith)) (omega arith))
+    where
+      at : (i : ℕ) → shiftAt y k (N._+_ i k) ≡ getD y i 0
+      at i = shift-high y k (N._+_ i k) (omega arith) ∙ ap (λ n. getD y n 0) (let w : N._-_ (N._+_ i k) k ≡ i = omega arith in w)
 
   -- ---- sums of terms
   pub along-none : (b s : List ℕ) (d j : ℕ) → along ρ b s d j 0 ≡ 0ᵏ
@@ -101,14 +106,6 @@ module _ {p : ℕ} (ρ : Reading p) where
       let e : suc n ≡ N._+_ n 1 = omega arith in
       ρ .cast-add a (N._*_ (getD b n 0) (fallAt s (N._+_ d n) j)) ∙ ap₂ _+ᵏ_ h (ρ .cast-mul (getD b n 0) (fallAt s (N._+_ d n) j)) ∙ ap (along ρ b s d j) e
 
-  psum-plus : (n : ℕ) (a : K .El) (f g : ℕ → K .El) → psum ρ n (λ i. f i +ᵏ a *ᵏ g i) ≡ psum ρ n f + const a * psum ρ n g
-  unfolding psum
-  psum-plus zero a f g = solve L zer (zer :+ var 0 :* zer) tt (const a ∷ [])
-  psum-plus (suc n) a f g =
-      ap₂ (λ x y. x + y * tpow ρ n) (psum-plus n a f g) (ρ .const-add (f n) (a *ᵏ g n) ∙ ap (λ z. const (f n) + z) (ρ .const-mul a (g n)))
-      ∙ solve L (var 0 :+ var 1 :* var 2 :+ (var 3 :+ var 1 :* var 4) :* var 5) (var 0 :+ var 3 :* var 5 :+ var 1 :* (var 2 :+ var 4 :* var 5)) tt
-      (psum ρ n f ∷ const a ∷ psum ρ n g ∷ const (f n) ∷ const (g n) ∷ tpow ρ n ∷ [])
-
   psum-zero : (n : ℕ) → psum ρ n (λ i. 0ᵏ) ≡ 𝟎
   unfolding psum
   psum-zero zero = refl
@@ -125,7 +122,7 @@ module _ {p : ℕ} (ρ : Reading p) where
       let w = psum ρ 32 (λ j. cast (fallAt s (N._+_ d n) j)) in
       lt-eq 𝓥 (lt-add 𝓥 (along-part b s d n z h (omega arith)) (lt-scale ρ β (lt-eq 𝓥 (h n (omega arith)) (ap (λ x. tpow ρ n * z + - x) (row-tab ρ 32 (fallAt s (N._+_ d n)))))))
       (solve L (var 0 :* var 1 :+ minus (var 2) :+ var 3 :* (var 4 :* var 1 :+ minus (var 5))) ((var 0 :+ var 3 :* var 4) :* var 1 :+ minus (var 2 :+ var 3 :* var 5)) tt (u ∷ z ∷ v ∷ const β ∷ tpow ρ n ∷ w ∷ [])
-      ∙ ap (λ x. (u + const β * tpow ρ n) * z + - x) (sym (psum-plus 32 β (λ j. along ρ b s d j n) (λ j. cast (fallAt s (N._+_ d n) j)))))
+      ∙ ap (λ x. (u + const β * tpow ρ n) * z + - x) (sym (psum-plus ρ 32 β (λ j. along ρ b s d j n) (λ j. cast (fallAt s (N._+_ d n) j)))))
 
   pub along-floor : (b s : List ℕ) (d n : ℕ) (z : L .El) → Reads ρ s d z → N._+_ n d ≤ 32 → ((i : ℕ) → n ≤ i → getD b i 0 ≡ 0) → Lt 𝓥 (row ρ b * z + - psum ρ 32 (λ j. along ρ b s d j n)) 0
   along-floor b s d n z h l e = lt-eq 𝓥 (along-part b s d n z h l) (ap (λ x. x * z + - psum ρ 32 (λ j. along ρ b s d j n)) (sym (row-upto ρ b n e)))
@@ -137,12 +134,12 @@ module _ {p : ℕ} (ρ : Reading p) where
       lt-eq 𝓥 (lt-add 𝓥 h k)
       (solve L (var 0 :+ minus (var 2) :+ (var 1 :+ minus (var 3))) (var 0 :+ var 1 :+ minus (var 2 :+ one :* var 3)) tt (x ∷ y ∷ psum ρ 32 f ∷ psum ρ 32 g ∷ [])
       ∙ ap (λ a. x + y + - (psum ρ 32 f + a * psum ρ 32 g)) (sym (ρ .const-one))
-      ∙ ap (λ a. x + y + - a) (sym (psum-plus 32 1ᵏ f g) ∙ psum-ext ρ 32 _ _ (λ j l. ap (λ a. f j +ᵏ a) (r.one-mul K (g j)))))
+      ∙ ap (λ a. x + y + - a) (sym (psum-plus ρ 32 1ᵏ f g) ∙ psum-ext ρ 32 _ _ (λ j l. ap (λ a. f j +ᵏ a) (r.one-mul K (g j)))))
   signed-floor true x y f g h k =
       lt-eq 𝓥 (lt-add 𝓥 h (lt-neg 𝓥 k))
       (solve L (var 0 :+ minus (var 2) :+ minus (var 1 :+ minus (var 3))) (var 0 :+ minus (var 1) :+ minus (var 2 :+ minus one :* var 3)) tt (x ∷ y ∷ psum ρ 32 f ∷ psum ρ 32 g ∷ [])
       ∙ ap (λ a. x + - y + - (psum ρ 32 f + a * psum ρ 32 g)) (sym (const-neg ρ 1ᵏ ∙ ap (λ a. - a) (ρ .const-one)))
-      ∙ ap (λ a. x + - y + - a) (sym (psum-plus 32 (-ᵏ 1ᵏ) f g) ∙ psum-ext ρ 32 _ _ (λ j l. ap (λ a. f j +ᵏ a) (solve K (minus one :* var 0) (minus (var 0)) tt (g j ∷ [])))))
+      ∙ ap (λ a. x + - y + - a) (sym (psum-plus ρ 32 (-ᵏ 1ᵏ) f g) ∙ psum-ext ρ 32 _ _ (λ j l. ap (λ a. f j +ᵏ a) (solve K (minus one :* var 0) (minus (var 0)) tt (g j ∷ [])))))
 
 -- ---- what the code of the leaves makes
 pub crossed : {p s : ℕ} {x : List ℕ} {c k : ℕ} {y : List ℕ} {n : ℕ} {z : List ℕ} {i : ℕ} → CrossIn p s x c k y n

@@ -1,5 +1,4 @@
 -- What the reduction is given of a field, and what that stands for.
---   Modulus p      1 < p < 2^31, prime or not
 --   Frame          a modulus p, two lists r, w and two numbers dr, dw
 --   Fine F         p is a modulus, r and w are rows of numbers below p
 --   Meaning F      p is prime, 2 is not 0 mod p, and r, w hold the first coefficients of two series of degrees dr, dw. A
@@ -21,12 +20,9 @@ use Rattle.valued.specs.Degree.{Has, Lt}
 use Rattle.reading.specs.Reading.{Reading}
 use Rattle.reading.specs.Made.{reading}
 use Rattle.reading.specs.Row.{Row, Size, row, tpow, Floor, Reads}
+use Rattle.residue.specs.Residue.{Modulus}
 use Rattle.turn.specs.Points as T
 use Rattle.turn.specs.Points.{Pt}
-
-pub record Modulus (p : ℕ) : Type 0 where
-  pub big : 1 < p
-  pub small : p < 2147483648
 
 pub record Frame : Type 0 where
   pub p : ℕ

@@ -1,5 +1,4 @@
--- The contracts of the leaves: lengths, sums of products, s x − c t^k y, polynomial parts of b r ± c w.
---   Below x n                a list of 32 that is 0 from n on
+-- The contracts of the leaves: sums of products, s x − c t^k y, polynomial parts of b r ± c w.
 --   Crossed p s x c k y n z  z is the row of s x − c t^k y, which ends before n
 --   Terms .. r               r is the coefficient at t^j of b times the series that s holds, up to multiples of p
 --   PartAt .. v              v is the coefficient at t^j of b r ± c w, below p
@@ -8,7 +7,7 @@ use mathlib.Core.Path.{_≡_}
 use mathlib.Core.Bool.{Bool, true, false}
 use mathlib.Core.List.{List}
 use Prim.Native.Nat.{ℕ, zero, suc, _+_, _*_, _-_, _<_, _≤_}
-use lib.ListN.{length, getD}
+use lib.ListN.{getD}
 use Rattle.ring.specs.Ring.{Ops, CRing}
 use Rattle.fp.specs.Fp.{Prime}
 use Rattle.valued.specs.Val.{Valued}
@@ -16,12 +15,8 @@ use Rattle.reading.specs.Reading.{Reading}
 use Rattle.reading.specs.Made.{reading}
 use Rattle.reading.specs.Row.{Row, Size, row, shiftAt, fallAt, Floor}
 use Rattle.reading.proofs.Turn.{comb}
-use Rattle.reduce.specs.Frame.{Modulus, Frame, Fine, Meaning, Short, rd, pt, side}
-
-pub record Below (x : List ℕ) (n : ℕ) : Type 0 where
-  pub size : length x ≡ 32
-  pub fits : n ≤ 32
-  pub above : (i : ℕ) → n ≤ i → getD x i 0 ≡ 0
+use Rattle.residue.specs.Residue.{Modulus}
+use Rattle.reduce.specs.Frame.{Frame, Fine, Meaning, Short, rd, pt, side}
 
 -- ---- s x − c t^k y
 pub record CrossIn (p s : ℕ) (x : List ℕ) (c k : ℕ) (y : List ℕ) (n : ℕ) : Type 0 where

@@ -2,13 +2,13 @@
 // Rows are lent; what is made comes back by value. Loops run over true lengths: top is one more than the largest degree
 // of a size, so that rows b end before top - dr and rows c before top - dw.
 // Every contract speaks of the polynomial that a row stands for; none speaks of coefficients.
+use poly::size_from;
 ghost use mathlib.Core.Path.{_≡_};
 ghost use Prim.Native.Nat.{_+_, _*_, _-_, _%_, _<_, _≤_};
-ghost use lib.ListN.{getD};
-ghost use Rattle.reading.specs.Row.{Size, shiftAt};
+ghost use Rattle.reading.specs.Row.{shiftAt};
 ghost use Rattle.reduce.specs.Given.{given};
 ghost use Rattle.reduce.specs.Clear.{CancelIn, CancelOut, ClearIn, Cleared, ShearIn, Sheared, Reduced};
-ghost use Rattle.reduce.specs.Leaves.{Below, CrossIn, Crossed, SumIn, Summed, TermsIn, Terms, PartIn, PartAtIn, PartAt, Parted};
+ghost use Rattle.reduce.specs.Leaves.{CrossIn, Crossed, SumIn, Summed, TermsIn, Terms, PartIn, PartAtIn, PartAt, Parted};
 
 // A modulus, the degrees of two series, and the bound of sizes: one more than the largest degree that may occur
 pub struct Bounds {
@@ -125,21 +125,6 @@ fn cross(p: u64, s: u64, x: &[u64; 32], c: u64, k: usize, y: &[u64; 32], n: usiz
     z
 }
 
-// The length of a row that is 0 from n on: one more than the degree, 0 for the zero polynomial
-fn size(x: &[u64; 32], n: usize) -> usize
-    requires { ⌜ Below (now x) n ⌝ }
-    ensures { λ r. ⌜ Size (now (x .entry)) r ⌝ }
-{
-    let mut m = n;
-    while 0 < m {
-        if x[m - 1] != 0 {
-            return m;
-        }
-        m -= 1;
-    }
-    m
-}
-
 // Two elements b r + c w
 pub struct Pair {
     pub mb: [u64; 32],
@@ -192,7 +177,7 @@ fn canceled(
     let nb = cross(p, s, ab, c, k, bb, top - dr);
     let nc = cross(p, s, ac, c, k, bc, top - dw);
     let z = part(f, minus, &nb, &nc, r, w);
-    let m = size(&z, l);
+    let m = size_from(&z, l);
     Turn {
         b: nb,
         c: nc,
@@ -213,8 +198,8 @@ fn clear_y(f: Bounds, r: &[u64; 32], w: &[u64; 32], q: Pair, lu: usize) -> Pair
     let mut nc = q.nc;
     let mut my = part(f, true, &mb, &mc, r, w);
     let mut ny = part(f, true, &nb, &nc, r, w);
-    let mut y1 = size(&my, top);
-    let mut y2 = size(&ny, top);
+    let mut y1 = size_from(&my, top);
+    let mut y2 = size_from(&ny, top);
     while lu <= y1 {
         if y2 < lu {
             return Pair {
@@ -256,8 +241,8 @@ fn clear_x(f: Bounds, r: &[u64; 32], w: &[u64; 32], q: Pair) -> Ends
     let mut nc = q.nc;
     let mx = part(f, false, &mb, &mc, r, w);
     let mut nx = part(f, false, &nb, &nc, r, w);
-    let x1 = size(&mx, top);
-    let mut x2 = size(&nx, top);
+    let x1 = size_from(&mx, top);
+    let mut x2 = size_from(&nx, top);
     while x1 <= x2 {
         let s = mx[x1 - 1];
         let c = nx[x2 - 1];

@@ -19,11 +19,11 @@ cross-requires-2 c κs = cancel-c (c .before .pre)
 part-requires : tie.Need-part-requires
 part-requires c κs = cancel-part (c .before .before .before .before .pre) (c .before .before .before .cross .ensures) (c .before .before .cross2 .ensures)
 
-size-requires : tie.Need-size-requires
-size-requires c κs = cancel-below (c .before .before .before .before .before .before .pre) (c .before .before .before .before .before .cross .ensures) (c .before .before .before .before .cross2 .ensures) (c .before .part .ensures)
+size-from-requires : tie.Need-size-from-requires
+size-from-requires c κs = cancel-below (c .before .before .before .before .before .before .pre) (c .before .before .before .before .before .cross .ensures) (c .before .before .before .before .cross2 .ensures) (c .before .part .ensures)
 
 returns : tie.Need-returns
-returns c = cancel-made (c .before .before .before .before .before .before .before .pre) (c .before .before .before .before .before .before .cross .ensures) (c .before .before .before .before .before .cross2 .ensures) (c .before .before .part .ensures) _ (c .size .ensures)
+returns c = cancel-made (c .before .before .before .before .before .before .before .pre) (c .before .before .before .before .before .before .cross .ensures) (c .before .before .before .before .before .cross2 .ensures) (c .before .before .part .ensures) _ (c .size-from .ensures)
 
 pub canceled-spec : {M : Type 1} → statement M
 canceled-spec =
@@ -34,5 +34,5 @@ canceled-spec =
     sub-cross-2
     cross-requires-2
     part-requires
-    size-requires
+    size-from-requires
     returns)

@@ -23,20 +23,20 @@ part-requires c κs = part-in (c .before .before .before .before .before .before
 part-requires-2 : tie.Need-part-requires-2 Inv-loop μ-loop
 part-requires-2 c κs = part-in (c .before .before .before .before .before .before .before .before .before .pre .room) (c .before .before .before .before .before .before .before .before .before .pre .hn)
 
-size-requires : tie.Need-size-requires Inv-loop μ-loop
-size-requires c κs = part-below (c .before .before .before .before .before .before .before .before .before .before .before .pre .room) (c .before .before .before .before .part .ensures)
+size-from-requires : tie.Need-size-from-requires Inv-loop μ-loop
+size-from-requires c κs = part-below (c .before .before .before .before .before .before .before .before .before .before .before .pre .room) (c .before .before .before .before .part .ensures)
 
-size-requires-2 : tie.Need-size-requires-2 Inv-loop μ-loop
-size-requires-2 c κs = part-below (c .before .before .before .before .before .before .before .before .before .before .before .before .before .pre .room) (c .before .before .before .part2 .ensures)
+size-from-requires-2 : tie.Need-size-from-requires-2 Inv-loop μ-loop
+size-from-requires-2 c κs = part-below (c .before .before .before .before .before .before .before .before .before .before .before .before .before .pre .room) (c .before .before .before .part2 .ensures)
 
 loop-holds : tie.Need-loop-holds Inv-loop μ-loop
-loop-holds c = shear-start (c .before .before .before .before .before .before .before .before .before .before .before .before .before .before .pre) (c .before .before .before .before .before .before .before .part .ensures) (c .before .before .before .before .part2 .ensures) (c .before .before .size .ensures) (c .size2 .ensures)
+loop-holds c = shear-start (c .before .before .before .before .before .before .before .before .before .before .before .before .before .before .pre) (c .before .before .before .before .before .before .before .part .ensures) (c .before .before .before .before .part2 .ensures) (c .before .before .size-from .ensures) (c .size-from2 .ensures)
 
 sub-s : tie.Need-sub-s Inv-loop μ-loop
 sub-s c =
     let l = c .before .loop in
-    let z : 0 < c .before .before .before .before .size .result = shear-pos (l .inv) (c .loop-test .taken) in
-    let a : c .before .before .before .before .size .result ≤ c .before .before .before .before .before .before .before .before .before .before .before .before .before .before .before .before .args .f .top = l .inv .bx1 in
+    let z : 0 < c .before .before .before .before .size-from .result = shear-pos (l .inv) (c .loop-test .taken) in
+    let a : c .before .before .before .before .size-from .result ≤ c .before .before .before .before .before .before .before .before .before .before .before .before .before .before .before .before .args .f .top = l .inv .bx1 in
     let b : l .x2 ≤ c .before .before .before .before .before .before .before .before .before .before .before .before .before .before .before .before .args .f .top = l .inv .bx2 in
     let f : c .before .before .before .before .before .before .before .before .before .before .before .before .before .before .before .before .args .f .top ≤ 32 = l .inv .room .fits in
     omega arith
@@ -44,8 +44,8 @@ sub-s c =
 mul-s : tie.Need-mul-s Inv-loop μ-loop
 mul-s c =
     let l = c .before .loop in
-    let z : 0 < c .before .before .before .before .size .result = shear-pos (l .inv) (c .loop-test .taken) in
-    let a : c .before .before .before .before .size .result ≤ c .before .before .before .before .before .before .before .before .before .before .before .before .before .before .before .before .args .f .top = l .inv .bx1 in
+    let z : 0 < c .before .before .before .before .size-from .result = shear-pos (l .inv) (c .loop-test .taken) in
+    let a : c .before .before .before .before .size-from .result ≤ c .before .before .before .before .before .before .before .before .before .before .before .before .before .before .before .before .args .f .top = l .inv .bx1 in
     let b : l .x2 ≤ c .before .before .before .before .before .before .before .before .before .before .before .before .before .before .before .before .args .f .top = l .inv .bx2 in
     let f : c .before .before .before .before .before .before .before .before .before .before .before .before .before .before .before .before .args .f .top ≤ 32 = l .inv .room .fits in
     record { fits = omega arith }
@@ -53,8 +53,8 @@ mul-s c =
 array-read-s : tie.Need-array-read-s Inv-loop μ-loop
 array-read-s c =
     let l = c .before .loop in
-    let z : 0 < c .before .before .before .before .size .result = shear-pos (l .inv) (c .loop-test .taken) in
-    let a : c .before .before .before .before .size .result ≤ c .before .before .before .before .before .before .before .before .before .before .before .before .before .before .before .before .args .f .top = l .inv .bx1 in
+    let z : 0 < c .before .before .before .before .size-from .result = shear-pos (l .inv) (c .loop-test .taken) in
+    let a : c .before .before .before .before .size-from .result ≤ c .before .before .before .before .before .before .before .before .before .before .before .before .before .before .before .before .args .f .top = l .inv .bx1 in
     let b : l .x2 ≤ c .before .before .before .before .before .before .before .before .before .before .before .before .before .before .before .before .args .f .top = l .inv .bx2 in
     let f : c .before .before .before .before .before .before .before .before .before .before .before .before .before .before .before .before .args .f .top ≤ 32 = l .inv .room .fits in
     omega arith
@@ -62,8 +62,8 @@ array-read-s c =
 sub-c : tie.Need-sub-c Inv-loop μ-loop
 sub-c c =
     let l = c .before .loop in
-    let z : 0 < c .before .before .before .before .size .result = shear-pos (l .inv) (c .loop-test .taken) in
-    let a : c .before .before .before .before .size .result ≤ c .before .before .before .before .before .before .before .before .before .before .before .before .before .before .before .before .args .f .top = l .inv .bx1 in
+    let z : 0 < c .before .before .before .before .size-from .result = shear-pos (l .inv) (c .loop-test .taken) in
+    let a : c .before .before .before .before .size-from .result ≤ c .before .before .before .before .before .before .before .before .before .before .before .before .before .before .before .before .args .f .top = l .inv .bx1 in
     let b : l .x2 ≤ c .before .before .before .before .before .before .before .before .before .before .before .before .before .before .before .before .args .f .top = l .inv .bx2 in
     let f : c .before .before .before .before .before .before .before .before .before .before .before .before .before .before .before .before .args .f .top ≤ 32 = l .inv .room .fits in
     omega arith
@@ -71,8 +71,8 @@ sub-c c =
 mul-c : tie.Need-mul-c Inv-loop μ-loop
 mul-c c =
     let l = c .before .loop in
-    let z : 0 < c .before .before .before .before .size .result = shear-pos (l .inv) (c .loop-test .taken) in
-    let a : c .before .before .before .before .size .result ≤ c .before .before .before .before .before .before .before .before .before .before .before .before .before .before .before .before .args .f .top = l .inv .bx1 in
+    let z : 0 < c .before .before .before .before .size-from .result = shear-pos (l .inv) (c .loop-test .taken) in
+    let a : c .before .before .before .before .size-from .result ≤ c .before .before .before .before .before .before .before .before .before .before .before .before .before .before .before .before .args .f .top = l .inv .bx1 in
     let b : l .x2 ≤ c .before .before .before .before .before .before .before .before .before .before .before .before .before .before .before .before .args .f .top = l .inv .bx2 in
     let f : c .before .before .before .before .before .before .before .before .before .before .before .before .before .before .before .before .args .f .top ≤ 32 = l .inv .room .fits in
     record { fits = omega arith }
@@ -80,8 +80,8 @@ mul-c c =
 array-read-c : tie.Need-array-read-c Inv-loop μ-loop
 array-read-c c =
     let l = c .before .loop in
-    let z : 0 < c .before .before .before .before .size .result = shear-pos (l .inv) (c .loop-test .taken) in
-    let a : c .before .before .before .before .size .result ≤ c .before .before .before .before .before .before .before .before .before .before .before .before .before .before .before .before .args .f .top = l .inv .bx1 in
+    let z : 0 < c .before .before .before .before .size-from .result = shear-pos (l .inv) (c .loop-test .taken) in
+    let a : c .before .before .before .before .size-from .result ≤ c .before .before .before .before .before .before .before .before .before .before .before .before .before .before .before .before .args .f .top = l .inv .bx1 in
     let b : l .x2 ≤ c .before .before .before .before .before .before .before .before .before .before .before .before .before .before .before .before .args .f .top = l .inv .bx2 in
     let f : c .before .before .before .before .before .before .before .before .before .before .before .before .before .before .before .before .args .f .top ≤ 32 = l .inv .room .fits in
     omega arith
@@ -89,8 +89,8 @@ array-read-c c =
 sub-canceled : tie.Need-sub-canceled Inv-loop μ-loop
 sub-canceled c =
     let l = c .before .before .before .before .before .loop in
-    let z : 0 < c .before .before .before .before .before .before .before .before .size .result = shear-pos (l .inv) (c .before .before .before .before .loop-test .taken) in
-    let a : c .before .before .before .before .before .before .before .before .size .result ≤ c .before .before .before .before .before .before .before .before .before .before .before .before .before .before .before .before .before .before .before .before .args .f .top = l .inv .bx1 in
+    let z : 0 < c .before .before .before .before .before .before .before .before .size-from .result = shear-pos (l .inv) (c .before .before .before .before .loop-test .taken) in
+    let a : c .before .before .before .before .before .before .before .before .size-from .result ≤ c .before .before .before .before .before .before .before .before .before .before .before .before .before .before .before .before .before .before .before .before .args .f .top = l .inv .bx1 in
     let b : l .x2 ≤ c .before .before .before .before .before .before .before .before .before .before .before .before .before .before .before .before .before .before .before .before .args .f .top = l .inv .bx2 in
     let f : c .before .before .before .before .before .before .before .before .before .before .before .before .before .before .before .before .before .before .before .before .args .f .top ≤ 32 = l .inv .room .fits in
     omega arith
@@ -115,8 +115,8 @@ clear-x-spec =
     μ-loop
     part-requires
     part-requires-2
-    size-requires
-    size-requires-2
+    size-from-requires
+    size-from-requires-2
     loop-holds
     sub-s
     mul-s

@@ -22,14 +22,14 @@ part-requires c κs = part-in (c .before .before .before .before .before .before
 part-requires-2 : tie.Need-part-requires-2 Inv-loop μ-loop
 part-requires-2 c κs = part-in (c .before .before .before .before .before .before .before .before .before .pre .room) (c .before .before .before .before .before .before .before .before .before .pre .hn)
 
-size-requires : tie.Need-size-requires Inv-loop μ-loop
-size-requires c κs = part-below (c .before .before .before .before .before .before .before .before .before .before .before .pre .room) (c .before .before .before .before .part .ensures)
+size-from-requires : tie.Need-size-from-requires Inv-loop μ-loop
+size-from-requires c κs = part-below (c .before .before .before .before .before .before .before .before .before .before .before .pre .room) (c .before .before .before .before .part .ensures)
 
-size-requires-2 : tie.Need-size-requires-2 Inv-loop μ-loop
-size-requires-2 c κs = part-below (c .before .before .before .before .before .before .before .before .before .before .before .before .before .pre .room) (c .before .before .before .part2 .ensures)
+size-from-requires-2 : tie.Need-size-from-requires-2 Inv-loop μ-loop
+size-from-requires-2 c κs = part-below (c .before .before .before .before .before .before .before .before .before .before .before .before .before .pre .room) (c .before .before .before .part2 .ensures)
 
 loop-holds : tie.Need-loop-holds Inv-loop μ-loop
-loop-holds c = clear-start (c .before .before .before .before .before .before .before .before .before .before .before .before .before .before .pre) (c .before .before .before .before .before .before .before .part .ensures) (c .before .before .before .before .part2 .ensures) (c .before .before .size .ensures) (c .size2 .ensures)
+loop-holds c = clear-start (c .before .before .before .before .before .before .before .before .before .before .before .before .before .before .pre) (c .before .before .before .before .before .before .before .part .ensures) (c .before .before .before .before .part2 .ensures) (c .before .before .size-from .ensures) (c .size-from2 .ensures)
 
 returns : tie.Need-returns Inv-loop μ-loop
 returns c = clear-end (clear-swap (c .before .before .loop .inv)) (omega arith)
@@ -142,8 +142,8 @@ clear-y-spec =
     μ-loop
     part-requires
     part-requires-2
-    size-requires
-    size-requires-2
+    size-from-requires
+    size-from-requires-2
     loop-holds
     returns
     sub-s
