@@ -3,3 +3,4 @@ pub mod Accept
 pub mod Parts
 pub mod Rows
 pub mod Opening
+pub mod Examples
