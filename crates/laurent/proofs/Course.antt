@@ -2,7 +2,7 @@
 --   course-at     course n = Φ n course
 --   course-upto   what obeys g n = Φ n g at every place before N agrees with it before N: what a loop that fills an array shows
 --   course-only   what obeys it everywhere is it
-use mathlib.Core.Path.{_≡_, refl, sym, _∙_, ap, fun-ext}
+use mathlib.Core.Path.{_≡_, sym, _∙_, ap, fun-ext}
 use Prim.Native.Nat.{ℕ, zero, suc, _<_}
 use native.Mathlib.Decide.{decLt}
 use native.Mathlib.Omega.{arith}

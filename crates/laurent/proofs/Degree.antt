@@ -5,8 +5,8 @@
 --   lead-unique    one coefficient at one place
 --   bounded        every series has a bound
 use mathlib.Core.Path.{_≡_, refl, sym, _∙_, ap, ap₂, subst}
-use mathlib.Core.Logic.{_≢_, ∥∥₁-prop}
-use Prim.Native.Nat.{ℕ, zero, suc, _+_, _≤_, _<_, _-_}
+use mathlib.Core.Logic.{∥∥₁-prop}
+use Prim.Native.Nat.{ℕ, suc, _+_, _≤_, _<_, _-_}
 use native.Mathlib.Nat as N
 use native.Mathlib.Decide.{decLe, ℕ-discrete}
 use native.Mathlib.Omega.{arith}
@@ -17,7 +17,7 @@ use Rattle.laurent.specs.Laurent.{Lau, mk, lau-ind, addL, mulL, negL, lo
 use Rattle.laurent.specs.Degree.{coef, Lead, term}
 use Rattle.laurent.proofs.Series.{ups-mul, mul-first}
 use Rattle.laurent.proofs.Laurent.{mul-mk}
-use Rattle.laurent.proofs.Coef.{coef-ext, coef-move, coef-in, coef-out, coef-add, coef-neg, coef-zero, coef-const, coef-const-pos, coef-t, coef-term, coef-term-above}
+use Rattle.laurent.proofs.Coef.{coef-ext, coef-move, coef-out, coef-add, coef-neg, coef-zero, coef-const, coef-const-pos, coef-term, coef-term-above}
 
 module _ (R : CRing) where
   open Ops (R .ops) using (add as _+ᵏ_, mul as _*ᵏ_, neg as -ᵏ_, 𝟎 as 0ᵏ, 𝟏 as 1ᵏ)

@@ -18,13 +18,13 @@ use Rattle.ring.specs.Power.{pow}
 use Rattle.ring.proofs.Laws as r
 use Rattle.ring.proofs.Power.{pow-suc, mul-pow}
 use Rattle.ring.proofs.Solve.{var, one, zer, minus, _:+_, _:*_, hyp, solve, solve-by}
-use Rattle.laurent.specs.Series.{Ser, tail, cons, zeroS, up, constS, mulS, sops}
+use Rattle.laurent.specs.Series.{Ser, tail, cons, up, constS, mulS, sops}
 use Rattle.laurent.specs.Laurent.{Lau, mk, mk-up, lau-ind, up-add, up-mul, mul-up, lops, const, t}
 use Rattle.laurent.specs.Degree.{coef}
 use Rattle.laurent.specs.Polynomial.{IsPoly, poly}
 use Rattle.laurent.specs.Derivative.{tilt, D}
-use Rattle.laurent.proofs.Series.{series, mul-first, mul-next, up-zero}
-use Rattle.laurent.proofs.Laurent.{laurent, lau-ind2, add-mk, mul-mk, mk-zero, const-add, const-mul, const-zero}
+use Rattle.laurent.proofs.Series.{up-zero}
+use Rattle.laurent.proofs.Laurent.{laurent, lau-ind2, add-mk, mul-mk, const-mul, const-zero}
 use Rattle.laurent.proofs.Coef.{coef-in, coef-out, coef-move, coef-zero}
 use Rattle.laurent.proofs.Polynomial.{zero-isPoly, const-isPoly, t-isPoly, add-isPoly, mul-isPoly}
 use Rattle.laurent.proofs.Lists.{poly-nil, poly-cons, poly-coef, coeff-list}

@@ -3,10 +3,10 @@
 --   poly-view     over a field, a polynomial is 0 or has a degree
 --   no-zero-div   over a field, a product of polynomials is 0 only where a factor is
 --   div-unique    over a field, quotient and remainder are the only ones
-use mathlib.Core.Path.{_≡_, refl, sym, _∙_, ap, ap₂}
+use mathlib.Core.Path.{_≡_, refl, sym}
 use mathlib.Core.List.{[], _∷_}
 use mathlib.Core.Logic.{_≢_, _⊎_, inl, inr}
-use Prim.Native.Nat.{ℕ, zero, suc, _≤_, _<_, _+_ as _+ⁿ_}
+use Prim.Native.Nat.{ℕ, zero, suc, _<_, _+_ as _+ⁿ_}
 use native.Mathlib.Omega.{arith}
 use Rattle.ring.specs.Ring.{Ops, CRing}
 use Rattle.ring.specs.Field.{Field}

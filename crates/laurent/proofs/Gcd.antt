@@ -1,17 +1,17 @@
 -- Euclid's algorithm with Bezout's coefficients, for polynomials over a field: by recursion on a bound of the second one's degree.
 --   Bezout f g   d = u f + v g, f = d a, g = d b
 --   bezout       there is one
-use mathlib.Core.Path.{_≡_, refl, sym, _∙_, ap, ap₂}
+use mathlib.Core.Path.{_≡_, sym, _∙_}
 use mathlib.Core.List.{[], _∷_}
-use mathlib.Core.Logic.{_≢_, _⊎_, inl, inr}
-use Prim.Native.Nat.{ℕ, zero, suc, _≤_, _<_, _+_ as _+ⁿ_}
+use mathlib.Core.Logic.{inl, inr}
+use Prim.Native.Nat.{ℕ, zero, suc, _≤_, _+_ as _+ⁿ_}
 use native.Mathlib.Omega.{arith}
 use Rattle.ring.specs.Ring.{Ops, CRing}
 use Rattle.ring.specs.Field.{Field}
-use Rattle.ring.specs.Subring.{Sub, subring}
+use Rattle.ring.specs.Subring.{subring}
 use Rattle.ring.proofs.Laws as r
 use Rattle.ring.proofs.Solve.{var, one, zer, minus, _:+_, _:*_, hyp, solve, solve-by}
-use Rattle.laurent.specs.Laurent.{Lau, lops}
+use Rattle.laurent.specs.Laurent.{lops}
 use Rattle.laurent.specs.Degree.{Lead}
 use Rattle.laurent.specs.Polynomial.{IsPoly}
 use Rattle.laurent.proofs.Laurent.{laurent}

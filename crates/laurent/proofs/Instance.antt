@@ -1,7 +1,6 @@
 -- Laurent series over a field have all that the theory asks of series: the instance of `Valued`.
-use mathlib.Core.Path.{_≡_, refl}
 use mathlib.Core.Logic.{_≢_}
-use Prim.Native.Nat.{ℕ, suc}
+use Prim.Native.Nat.{suc}
 use Rattle.ring.specs.Ring.{CRing}
 use Rattle.ring.specs.Field.{Field}
 use Rattle.valued.specs.Val.{Valued}

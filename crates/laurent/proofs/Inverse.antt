@@ -1,9 +1,9 @@
 -- Inverses: of a power series that begins with a unit, coefficient by coefficient, and of a Laurent series that has a degree.
 --   inverse-law   f · inverse f = 1
 --   lead-inv      where the leading coefficient of x has an inverse so has x, and the degree is the opposite one
-use mathlib.Core.Path.{_≡_, refl, sym, _∙_, ap, ap₂, fun-ext}
+use mathlib.Core.Path.{_≡_, refl, _∙_, ap, fun-ext}
 use mathlib.Core.List.{[], _∷_}
-use Prim.Native.Nat.{ℕ, zero, suc, _+_, _≤_, _<_}
+use Prim.Native.Nat.{ℕ, zero, suc, _+_}
 use native.Mathlib.Omega.{arith}
 use Rattle.ring.specs.Ring.{Ops, CRing}
 use Rattle.ring.proofs.Solve.{var, one, zer, minus, _:+_, _:*_, hyp, solve-by}

@@ -10,3 +10,4 @@ pub mod Division
 pub mod Gcd
 pub mod Derivative
 pub mod Instance
+pub mod CubeRoot

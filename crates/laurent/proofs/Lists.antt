@@ -6,7 +6,7 @@
 use mathlib.Core.Path.{_≡_, refl, sym, _∙_, ap, ap₂}
 use mathlib.Core.HLevel.{×-prop, ¬-prop, Unit-prop, Σ-prop-path}
 use mathlib.Core.List.{List, [], _∷_}
-use mathlib.Core.Logic.{_≢_, ∥∥₁-elim}
+use mathlib.Core.Logic.{∥∥₁-elim}
 use mathlib.Core.Quot.{Quot-set}
 use Prim.Native.Nat.{ℕ, zero, suc, _+_, _≤_, _<_, _-_}
 use native.Mathlib.Decide.{decLt}
@@ -24,7 +24,7 @@ use Rattle.laurent.proofs.Polynomial.{zero-isPoly, const-isPoly, t-isPo
 
 module _ (R : CRing) where
   open Ops (R .ops) using (add as _+ᵏ_, 𝟎 as 0ᵏ)
-  open Ops (lops R) using (add as _⊕_, mul as _⊗_, neg as ⊖_, 𝟎, 𝟏)
+  open Ops (lops R) using (add as _⊕_, mul as _⊗_, 𝟎)
 
   infixl 60 _⊕_ _+ᵏ_
   infixl 70 _⊗_

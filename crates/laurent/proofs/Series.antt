@@ -7,16 +7,14 @@
 --   keep-in ..   what `keep`, `after` and `ups` do at one place
 use mathlib.Core.Path.{_≡_, refl, sym, _∙_, ap, ap₂, fun-ext}
 use mathlib.Core.HLevel.{→-set}
-use mathlib.Core.List.{List, [], _∷_}
 use Prim.Native.Nat.{ℕ, zero, suc, _≤_, _<_, _-_}
 use Prim.Native.Nat as Nt
 use native.Mathlib.Nat as N
 use native.Mathlib.Omega.{arith}
 use Rattle.ring.specs.Ring.{Ops, Laws, CRing}
 use Rattle.ring.proofs.Laws as r
-use Rattle.ring.proofs.Solve.{var, one, zer, minus, _:+_, _:*_, hyp, solve-by}
 use Rattle.laurent.specs.Series.{Ser, tail, after, cons, zeroS, up, ups, constS, scaleS, keep, mulS, sops}
-use Rattle.laurent.specs.Laurent.{up-add, up-neg, up-mul, mul-up}
+use Rattle.laurent.specs.Laurent.{up-add, up-mul, mul-up}
 
 module _ (R : CRing) where
   open Ops (R .ops) using (add as _+_, mul as _*_, neg as -_, 𝟎, 𝟏)

@@ -13,7 +13,7 @@ use Rattle.laurent.specs.Series.{Ser, cons, up}
 use Rattle.laurent.specs.Laurent.{Lau, mk, mk-up, lau-rec}
 
 module _ (R : CRing) where
-  open Ops (R .ops) using (add as _+_, mul as _*_, neg as -_, 𝟎, 𝟏)
+  open Ops (R .ops) using (add as _+_, mul as _*_, neg as -_)
 
   infixl 60 _+_
   infixl 70 _*_

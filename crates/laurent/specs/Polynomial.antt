@@ -7,7 +7,7 @@
 --   CoeffList x    a list of x that does not end in 0
 -- In proofs/Polynomial: polynomials are a subring, floor and rest, uniqueness of the floor. In proofs/Lists: each polynomial over a field has
 -- just one such list.
-use mathlib.Core.Path.{_≡_, refl}
+use mathlib.Core.Path.{_≡_}
 use mathlib.Core.Logic.{_≢_}
 use mathlib.Core.List.{List, [], _∷_}
 use mathlib.Core.Quot.{Quot-set}
@@ -18,7 +18,7 @@ use Rattle.laurent.specs.Laurent.{Lau, mk, mk-up, lau-rec, lops, const, 
 use Rattle.laurent.specs.Degree.{coef}
 
 module _ (R : CRing) where
-  open Ops (lops R) using (add as _+_, mul as _*_, neg as -_, 𝟎, 𝟏)
+  open Ops (lops R) using (add as _+_, mul as _*_, 𝟎)
 
   infixl 60 _+_
   infixl 70 _*_

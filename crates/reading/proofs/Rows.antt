@@ -102,7 +102,7 @@ module _ {p : ℕ} (ρ : Reading p) where
   tpow-lead zero = 𝓥 .lead-one
   tpow-lead (suc k) = lead-eq 𝓥 (𝓥 .lead-move (suc k) 0 (𝓥 .lead-mul (𝓥 .t-lead) (tpow-lead k)) (omega arith)) refl (r.one-mul K 1ᵏ)
 
-  term-lead : (a : K .El) (n : ℕ) → Lead (const a * tpow ρ n) n 0 a
+  pub term-lead : (a : K .El) (n : ℕ) → Lead (const a * tpow ρ n) n 0 a
   term-lead a n = lead-eq 𝓥 (𝓥 .lead-move n 0 (𝓥 .lead-mul (𝓥 .const-lead a) (tpow-lead n)) (omega arith)) refl (K .laws .mul-one a)
 
   pub psum-lt : (n : ℕ) (f : ℕ → K .El) → Lt 𝓥 (psum ρ n f) n

@@ -1,24 +1,29 @@
 -- The reading at a prime, with its derivative: Laurent series over the integers mod p.
 --   reading p      shut: proofs use the fields of `Reading`, nothing computes in it
 --   derivation p   d/dt on its series
+--   cube-roots p   cube roots of its series
 use mathlib.Core.Path.{_≡_, refl, sym, ap, _∙_}
 use mathlib.Core.Logic.{_≢_}
-use Prim.Native.Nat.{ℕ, _%_, _<_}
+use Prim.Native.Nat.{ℕ, _%_}
 use native.Mathlib.Nat.{mod-mod, mod-eq-of-lt}
 use native.Mathlib.Omega.{arith}
-use Rattle.ring.specs.Ring.{Ops, CRing, nat}
-use Rattle.ring.specs.Power.{pow}
+use mathlib.Core.List.{[], _∷_}
+use Rattle.ring.specs.Ring.{Ops, nat}
+use Rattle.ring.proofs.Solve.{var, one, _:+_, _:*_, hyp, solve-by}
 use Rattle.fp.specs.Fp.{F, Prime, cls}
 use Rattle.fp.proofs.Ring.{F-path, cls-add, cls-mul, cls-val, cls-p}
-use Rattle.fp.proofs.Field.{Fld, ppos, field, cancel-zero}
+use Rattle.fp.proofs.Field.{Fld, ppos, field, inverse, cancel-zero}
 use Rattle.fp.proofs.Fermat.{nat-cls, cls-nonzero, frob, fermat}
 use Rattle.laurent.specs.Laurent.{lops, const}
 use Rattle.laurent.specs.Derivative.{D}
 use Rattle.laurent.proofs.Laurent.{laurent, const-add, const-mul, const-zero, const-nat}
+use Rattle.laurent.proofs.Degree.{lead-eq}
 use Rattle.laurent.proofs.Derivative.{D-add, D-mul, D-const, D-t, D-poly, D-root}
+use Rattle.laurent.proofs.CubeRoot.{lead-root}
 use Rattle.laurent.proofs.Instance.{valued}
 use Rattle.reading.specs.Reading.{Reading}
 use Rattle.reading.specs.Derivation.{Derivation}
+use Rattle.reading.specs.Roots.{CubeRoots}
 
 module _ (p : ℕ) (pr : Prime p) where
   one-not : Fld p pr .ops .𝟏 ≢ Fld p pr .ops .𝟎
@@ -58,4 +63,29 @@ module _ (p : ℕ) (pr : Prime p) where
     D-t = D-t (Fld p pr);
     D-poly = D-poly (Fld p pr);
     D-zero = D-root (Fld p pr) (field p pr) p (ppos p pr) (frob p pr (laurent (Fld p pr)) series-char) (fermat p pr) number-cancel;
+  }
+
+  open Ops (Fld p pr .ops) using (add as _⊕_, mul as _⊗_, 𝟎, 𝟏)
+
+  infixl 60 _⊕_
+  infixl 70 _⊗_
+  -- the inverse of 3 c²
+  thrice-inverse : (c : F p) → c ≢ 𝟎 → 𝟏 ⊕ 𝟏 ⊕ 𝟏 ≢ 𝟎 → (w : F p) × ((c ⊗ c ⊕ c ⊗ c ⊕ c ⊗ c) ⊗ w ≡ 𝟏)
+  thrice-inverse c h h3 =
+      let (u, e) = inverse p pr c h in
+      let (w, f) = inverse p pr (𝟏 ⊕ 𝟏 ⊕ 𝟏) h3 in
+      let C = var 0 in let U = var 1 in let W = var 2 in
+      -- 3 c² · u² w − 1 = (3 w − 1) + 3 w (c u + 1)(c u − 1)
+      (
+        u ⊗ u ⊗ w,
+        solve-by (Fld p pr) ((C :* C :+ C :* C :+ C :* C) :* (U :* U :* W)) one
+            (hyp one ((one :+ one :+ one) :* W) one ∷ hyp ((one :+ one :+ one) :* W :* (C :* U :+ one)) (C :* U) one ∷ []) tt (c ∷ u ∷ w ∷ []) (f, (e, tt)),
+      )
+
+  pub cube-roots : CubeRoots reading
+  unfolding reading
+  cube-roots = record {
+    cube-root = λ x d c h h3 l.
+        let (w, e) = thrice-inverse c h h3 in
+        lead-root (Fld p pr) d 0 c w e (lead-eq (Fld p pr) l refl (Fld p pr .laws .mul-assoc c c c));
   }
