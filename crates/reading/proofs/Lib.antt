@@ -4,3 +4,4 @@ pub mod Turn
 pub mod Floors
 pub mod Product
 pub mod Unique
+pub mod Constants
