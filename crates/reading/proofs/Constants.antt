@@ -64,11 +64,13 @@ module _ {p : ℕ} (ρ : Reading p) (pr : Prime p) where
   φ-onto u = let (n, l, e) = ρ .cast-onto u in ((n, l), e)
 
   module _ (m : p % 3 ≡ 2) where
-    pub three≢ : nat (K .ops) 3 ≢ 𝟎
-    three≢ e = c.three p pr m (φ-none (nat (Fld p pr .ops) 3) (φ-nat 3 ∙ e))
+    pub two≢ : 2 < p → 𝟏 + 𝟏 ≢ 𝟎
+    unfolding nat
+    two≢ l e = c.two p pr m l (φ-none (nat (Fld p pr .ops) 2) (φ-nat 2 ∙ ap (λ t. 𝟏 + t) (K .laws .add-zero 𝟏) ∙ e))
 
-    pub two≢ : 2 < p → nat (K .ops) 2 ≢ 𝟎
-    two≢ l e = c.two p pr m l (φ-none (nat (Fld p pr .ops) 2) (φ-nat 2 ∙ e))
+    pub three≢ : 𝟏 + 𝟏 + 𝟏 ≢ 𝟎
+    unfolding nat
+    three≢ e = c.three p pr m (φ-none (nat (Fld p pr .ops) 3) (φ-nat 3 ∙ ap (λ t. 𝟏 + (𝟏 + t)) (K .laws .add-zero 𝟏) ∙ sym (K .laws .add-assoc 𝟏 𝟏 𝟏) ∙ e))
 
     pub no-omega : (z : K .El) → z * z + z + 𝟏 ≢ 𝟎
     no-omega z h =
