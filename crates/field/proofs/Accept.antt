@@ -19,7 +19,8 @@ use Rattle.reading.specs.Made.{reading}
 use Rattle.reading.specs.Row.{row, Size}
 use Rattle.reading.proofs.Rows.{size-lead}
 use Rattle.prime.specs.Table.{largest}
-use Rattle.field.specs.Refusal.{longest, highest, Degree, polynomial, Fault1, Fault2, Fault3, Fault4, Fault5, Fault6, Fault7, Fault8, End, Rows12, Rows36, Rows78, Refusal, Accepted}
+use Rattle.poly.specs.Factors.{polynomial}
+use Rattle.field.specs.Refusal.{longest, highest, Degree, Fault1, Fault2, Fault3, Fault4, Fault5, Fault6, Fault7, Fault8, End, Rows12, Rows36, Rows78, Refusal, Accepted}
 use Rattle.field.specs.Parts.{Shaped}
 use Rattle.field.proofs.Stages.{later, past, degree-one}
 

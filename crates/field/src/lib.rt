@@ -103,6 +103,20 @@ fn check_factors(p: u64, g: &[u64], h: &[u64]) -> u32
     requires { ⌜ Shaped p (now g) (now h) ⌝ }
     ensures { λ n. ⌜ Rows78 p (now (g .entry)) (now (h .entry)) n ⌝ }
 {
+    let x = poly::from_list(g);
+    let y = poly::from_list(h);
+    let left = poly::squarefree(p, &x);
+    if !left {
+        return 7;
+    }
+    let right = poly::squarefree(p, &y);
+    if !right {
+        return 7;
+    }
+    let apart = poly::coprime(p, &x, &y);
+    if !apart {
+        return 8;
+    }
     0
 }
 
@@ -172,8 +186,14 @@ pub fn open(p: u64, g: &[u64], h: &[u64]) -> Opened
     let n = refusal(p, g, h);
     if n != 0 {
         let z = no_field();
-        return Opened { refusal: n, field: z };
+        return Opened {
+            refusal: n,
+            field: z,
+        };
     }
     let f = field_of(p, g, h);
-    Opened { refusal: 0, field: f }
+    Opened {
+        refusal: 0,
+        field: f,
+    }
 }
