@@ -1,0 +1,4 @@
+pub mod Pair
+pub mod First
+pub mod Begin
+pub mod Near
