@@ -1,5 +1,6 @@
 -- What the functions that fill the two lists ask and hand out. g and h are the coefficients of G and H from the leading one down.
 --   Place p i                  a modulus, and an index within the longest list
+--   Point p i                  the same with a modulus below 2^16
 --   Entry s i x                x is the entry i of a stored list, 0 past its end
 --   Rest p n x                 x is the remainder of n by p
 --   Two, Four                  a modulus below 2^16, with numbers below it and stored numbers
@@ -15,6 +16,11 @@ use Rattle.cubicfield.specs.SeriesOf.{entry, prod}
 
 pub record Place (p i : ℕ) : Type 0 where
   pub pos : 0 < p
+  pub near : i < 4096
+
+pub record Point (p i : ℕ) : Type 0 where
+  pub pos : 0 < p
+  pub small : p < 65536
   pub near : i < 4096
 
 pub record Entry (s : List ℕ) (i x : ℕ) : Type 0 where

@@ -2,7 +2,7 @@
 ghost use mathlib.Core.Path.{_≡_};
 ghost use Prim.Native.Nat.{_+_, _*_, _-_, _%_};
 ghost use Rattle.cubicfield.specs.SeriesOf.{entry, prod};
-ghost use Rattle.series.specs.Fill.{Place, Entry, Rest, Two, Four, Filling, Turned, Filler, Made};
+ghost use Rattle.series.specs.Fill.{Place, Point, Entry, Rest, Two, Four, Filling, Turned, Filler, Made};
 
 fn wide(x: u16) -> u64
     ensures { λ r. ⌜ r ≡ x ⌝ }
@@ -56,6 +56,14 @@ fn next_w(p: u64, u: u64, w: u64, a: u64, x: u64, y: u64) -> u64
     (2 * a * x + w * (p - y)) % p * u % p
 }
 
+// What f g lacks of x y at i.
+fn shortfall(p: u64, x: &[u16], y: &[u16], f: &[u16], g: &[u16], i: usize) -> u64
+    requires { ⌜ Point p i ⌝ }
+    ensures { λ r. ⌜ Rest p (prod (entry (now (x .entry))) (entry (now (y .entry))) i % p + (p - prod (entry (now (f .entry))) (entry (now (g .entry))) i % p)) r ⌝ }
+{
+    lack(p, product_at(p, x, y, i), product_at(p, f, g, i))
+}
+
 // The pair i, where those before it are there. What is missing at i of r w = G H and of r² = H w is a = r0 w_i + w0 r_i and
 // b = 2 r0 r_i - h0 w_i; u is the inverse of 3 r0².
 fn turn(p: u64, g: &[u16], h: &[u16], u: u64, r: &mut [u16], w: &mut [u16], i: usize)
@@ -64,8 +72,8 @@ fn turn(p: u64, g: &[u16], h: &[u16], u: u64, r: &mut [u16], w: &mut [u16], i: u
 {
     r[i] = 0;
     w[i] = 0;
-    let a = lack(p, product_at(p, g, h, i), product_at(p, r, w, i));
-    let b = lack(p, product_at(p, h, w, i), product_at(p, r, r, i));
+    let a = shortfall(p, g, h, r, w, i);
+    let b = shortfall(p, h, w, r, r, i);
     let h0 = coefficient(h, 0);
     let r0 = coefficient(r, 0);
     let w0 = coefficient(w, 0);
