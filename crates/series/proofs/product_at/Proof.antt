@@ -1,3 +1,4 @@
+-- `series::product_at` meets its contract. The loop's invariant: the sum of the products passed; past the end of the first list there are none.
 use Prim.Native.Nat.{ℕ, zero, suc, _≤_, _<_, _-_, _*_, _+_, _%_}
 use mathlib.Core.Path.{_≡_, _∙_, sym, ap, ap₂, refl, subst}
 use mathlib.Core.List.{List, [], _∷_, _++_}
