@@ -5,9 +5,10 @@
 --   begins-close, begins-near one beginning, one series but for what lies below it
 --   begins-only               a series has one beginning
 --   begins-row                a row begins with its coefficients, read from the top
+--   begins-cut, begins-floor  fewer coefficients; the polynomial parts of t^k z
 --   stand-in                  a series that begins so
 --   cast-conv                 the coefficients of a product of numbers, in the field
-use mathlib.Core.Path.{_≡_, refl, sym, ap, ap₂, _∙_}
+use mathlib.Core.Path.{_≡_, refl, sym, ap, ap₂, _∙_, subst}
 use mathlib.Core.List.{List, [], _∷_}
 use Prim.Native.Nat.{ℕ, zero, suc, _≤_, _<_}
 use Prim.Native.Nat as N
@@ -22,8 +23,8 @@ use Rattle.valued.specs.Val.{Valued}
 use Rattle.valued.specs.Degree.{Has, Lt}
 use Rattle.valued.proofs.Degree.{lead-eq, lt-eq, lt-add, lt-neg, lt-up, lt-cancel}
 use Rattle.reading.specs.Reading.{Reading}
-use Rattle.reading.specs.Row.{tpow, psum, coefs, row, fallAt}
-use Rattle.reading.proofs.Rows.{const-zero, tpow-add, tpow-lead}
+use Rattle.reading.specs.Row.{tab, tpow, psum, coefs, row, fallAt, Floor}
+use Rattle.reading.proofs.Rows.{tpow-add, tpow-lead, psum-cut, row-tab}
 use Rattle.reading.proofs.Floors.{fall-in, fall-out}
 use Rattle.reading.proofs.Turn.{lt-mul-sharp}
 use Rattle.cubicfield.specs.First.{conv, fall, Begins}
@@ -112,10 +113,40 @@ module _ {p : ℕ} (ρ : Reading p) where
       let F : L .El = fall ρ n f in
       let G : L .El = fall ρ n g in
       let small : Lt 𝓥 (T (suc d) * (F + - G)) (N._+_ (suc d) 0) =
-          lt-up 𝓥 (N._+_ (suc d) 0)
-          (lt-eq 𝓥 (lt-add 𝓥 hg (lt-neg 𝓥 hf)) (solve L (var 0 :+ minus (var 1 :* var 3) :+ minus (var 0 :+ minus (var 1 :* var 2))) (var 1 :* (var 2 :+ minus (var 3))) tt (T n * z ∷ T (suc d) ∷ F ∷ G ∷ []))) (omega arith) in
+      lt-up 𝓥 (N._+_ (suc d) 0)
+      (lt-eq 𝓥 (lt-add 𝓥 hg (lt-neg 𝓥 hf)) (solve L (var 0 :+ minus (var 1 :* var 3) :+ minus (var 0 :+ minus (var 1 :* var 2))) (var 1 :* (var 2 :+ minus (var 3))) tt (T n * z ∷ T (suc d) ∷ F ∷ G ∷ []))) (omega arith) in
       let gone : F + - G ≡ 𝟎 = 𝓥 .poly-small (F + - G) (𝓥 .closed .add _ _ (fall-poly ρ n f) (𝓥 .closed .neg _ (fall-poly ρ n g))) (lt-cancel 𝓥 0 (t-has (suc d)) small) in
       fall-inj ρ n f g (r.eq-of-sub L F G gone)
+
+  -- fewer coefficients
+  pub begins-cut : {z : L .El} {d : ℕ} (m k : ℕ) (f : ℕ → K .El) → Begins ρ (N._+_ k m) f d z → Begins ρ m f d z
+  begins-cut {z} {d} m k f h =
+      let low : L .El = fall ρ k (λ i. f (N._+_ i m)) in
+      let A : L .El = T (suc d) in
+      lt-cancel 𝓥 (suc d) (t-has k)
+      (lt-up 𝓥 (N._+_ k (suc d))
+      (lt-eq 𝓥 (lt-add 𝓥 (lt-up 𝓥 (N._+_ (suc d) k) h (omega arith)) (t-lt (suc d) (fall-lt ρ k (λ i. f (N._+_ i m)))))
+      (ap₂ (λ x y. x * z + - (A * y) + A * low) (tpow-add ρ k m) (fall-split ρ k m f)
+      ∙ solve L (var 0 :* var 1 :* var 2 :+ minus (var 3 :* (var 0 :* var 4 :+ var 5)) :+ var 3 :* var 5) (var 0 :* (var 1 :* var 2 :+ minus (var 3 :* var 4))) tt (T k ∷ T m ∷ z ∷ A ∷ fall ρ m f ∷ low ∷ []))) (omega arith))
+
+  -- its first d + k + 1 coefficients are the polynomial part of t^k z
+  pub begins-floor : {z : L .El} {d : ℕ} (n k : ℕ) (s : List ℕ) → N._+_ d k < n → N._+_ d k < 32 → Begins ρ n (λ i. cast (getD s i 0)) d z → Floor ρ (T k * z) (tab 32 (fallAt s (N._+_ d k)))
+  begins-floor {z} {d} n k s l u h =
+      let m : ℕ = N._+_ (suc d) k in
+      let f : ℕ → K .El = (λ i. cast (getD s i 0)) in
+      let g : ℕ → K .El = (λ i. cast (fallAt s (N._+_ d k) i)) in
+      let e : n ≡ N._+_ (N._-_ n m) m = omega arith in
+      let o : 32 ≡ N._+_ (N._-_ 32 m) m = omega arith in
+      let q : m ≡ suc (N._+_ d k) = suc-add d k in
+      let same : fall ρ m f ≡ row ρ (tab 32 (fallAt s (N._+_ d k))) =
+      fall-psum ρ m f g (λ i j y. ap cast (sym (fall-in s (N._+_ d k) j (omega arith) ∙ ap (λ v. getD s v 0) (let x : N._-_ (N._+_ d k) j ≡ i = omega arith in x))))
+      ∙ sym (ap (λ v. psum ρ v g) o ∙ psum-cut ρ m (N._-_ 32 m) g (λ i y. ap cast (fall-out s (N._+_ d k) i (omega arith)) ∙ ρ .cast-zero))
+      ∙ sym (row-tab ρ 32 (fallAt s (N._+_ d k))) in
+      lt-cancel 𝓥 0 (t-has (suc d))
+      (lt-up 𝓥 (N._+_ (suc d) 0)
+      (lt-eq 𝓥 (begins-cut m (N._-_ n m) f (subst (λ v. Begins ρ v f d z) e h))
+      (ap₂ (λ x y. x * z + - (T (suc d) * y)) (tpow-add ρ (suc d) k) same
+      ∙ solve L (var 0 :* var 1 :* var 2 :+ minus (var 0 :* var 3)) (var 0 :* (var 1 :* var 2 :+ minus (var 3))) tt (T (suc d) ∷ T k ∷ z ∷ row ρ (tab 32 (fallAt s (N._+_ d k))) ∷ []))) (omega arith))
 
   pub stand-in : (n : ℕ) (f : ℕ → K .El) (d : ℕ) → (z : L .El) × Begins ρ n f d z
   stand-in n f d =
@@ -149,9 +180,9 @@ module _ {p : ℕ} (ρ : Reading p) where
   begins-row n d l e =
       let f : ℕ → K .El = (λ i. cast (fallAt l d i)) in
       let same : fall ρ (suc d) f ≡ row ρ l =
-          fall-psum ρ (suc d) f (coefs ρ l)
-          (λ i j q. ap cast (fall-in l d i (omega arith) ∙ ap (λ m. getD l m 0) (let u : N._-_ d i ≡ j = omega arith in u)))
-          ∙ ap (λ m. psum ρ m (coefs ρ l)) (sym e) in
+      fall-psum ρ (suc d) f (coefs ρ l)
+      (λ i j q. ap cast (fall-in l d i (omega arith) ∙ ap (λ m. getD l m 0) (let u : N._-_ d i ≡ j = omega arith in u)))
+      ∙ ap (λ m. psum ρ m (coefs ρ l)) (sym e) in
       lt-eq 𝓥 (begins-poly n d f (λ i u. ap cast (fall-out l d i u) ∙ ρ .cast-zero)) (ap (λ x. T n * x + - (T (suc d) * fall ρ n f)) same)
 
   pub cast-conv : (n : ℕ) (f g : ℕ → ℕ) → cast (conv N._+_ N._*_ f g n) ≡ convᵏ ρ (λ i. cast (f i)) (λ i. cast (g i)) n

@@ -10,18 +10,18 @@ use mathlib.Core.List.{List, [], _∷_}
 use Prim.Native.Nat.{ℕ, zero, suc, _≤_, _<_}
 use Prim.Native.Nat as N
 use native.Mathlib.Nat.{zero-add, add-zero, suc-add}
-use native.Mathlib.Decide.{ℕ-discrete}
 use native.Mathlib.Omega.{arith}
 use Rattle.ring.specs.Ring.{Ops, CRing}
 use Rattle.ring.proofs.Laws as r
 use Rattle.ring.proofs.Solve.{var, one, zer, minus, _:+_, _:*_, _:-_, hyp, solve, solve-by}
 use Rattle.valued.specs.Val.{Valued}
-use Rattle.valued.specs.Degree.{Has, Lt}
-use Rattle.valued.proofs.Degree.{lead-eq, lt-eq, lt-add, lt-neg, lt-up, lt-cancel}
+use Rattle.valued.specs.Degree.{Lt}
+use Rattle.valued.proofs.Degree.{lead-eq, lt-add}
 use Rattle.reading.specs.Reading.{Reading}
 use Rattle.reading.specs.Row.{tpow, psum}
 use Rattle.reading.proofs.Rows.{const-zero, tpow-add, tpow-lead}
-use Rattle.reading.proofs.Turn.{lt-scale, lead-scale, lead-shift}
+use Rattle.reading.proofs.Turn.{lt-scale, lead-scale}
+use Rattle.reading.proofs.Unique.{psum-unique}
 use Rattle.cubicfield.specs.First.{conv, fall}
 
 module _ {p : ℕ} (ρ : Reading p) where
@@ -88,27 +88,11 @@ module _ {p : ℕ} (ρ : Reading p) where
       ∙ ap₂ (λ x y. const x * tpow ρ n + y) (h 0 n (ap suc (zero-add n))) (fall-psum n (λ i. f (suc i)) g (λ i j e. h (suc i) j (ap suc (suc-add i j ∙ e))))
       ∙ L .laws .add-comm (const (g n) * tpow ρ n) (psum ρ n g)
 
-  -- t x + a = t y + b for polynomials x, y and constants a, b: x = y and a = b
-  horner-inj : (x y : L .El) (a b : K .El) → IsPoly x → IsPoly y → t * x + const a ≡ t * y + const b → (x ≡ y) × (a ≡ b)
-  horner-inj x y a b hx hy e =
-      let z : L .El = x + - y in
-      let small : Lt 𝓥 (const b + - const a) 1 = lt-add 𝓥 (𝓥 .lead-up 1 0 (𝓥 .const-lead b) (omega arith)) (lt-neg 𝓥 (𝓥 .lead-up 1 0 (𝓥 .const-lead a) (omega arith))) in
-      let same : const b + - const a ≡ t * z = solve-by L (var 4 :+ minus (var 3)) (var 0 :* (var 1 :+ minus (var 2))) (hyp (minus one) (var 0 :* var 1 :+ var 3) (var 0 :* var 2 :+ var 4) ∷ []) tt (t ∷ x ∷ y ∷ const a ∷ const b ∷ []) (e, tt) in
-      let gone : z ≡ 𝟎 = 𝓥 .poly-small z (𝓥 .closed .add _ _ hx (𝓥 .closed .neg _ hy)) (lt-cancel 𝓥 0 (1ᵏ, 𝓥 .one≢zero, 𝓥 .t-lead) (lt-up 𝓥 1 (lt-eq 𝓥 small same) (omega arith))) in
-      let q : x ≡ y = r.eq-of-sub L x y gone in
-      let s : const a ≡ const b = solve-by L (var 3) (var 4) (hyp one (var 0 :* var 1 :+ var 3) (var 0 :* var 2 :+ var 4) ∷ hyp (minus (var 0)) (var 1) (var 2) ∷ []) tt (t ∷ x ∷ y ∷ const a ∷ const b ∷ []) (e, (q, tt)) in
-      (q, 𝓥 .lead-unique (lead-eq 𝓥 (𝓥 .const-lead a) s refl) (𝓥 .const-lead b))
-
   pub fall-inj : (n : ℕ) (f g : ℕ → K .El) → fall ρ n f ≡ fall ρ n g → (i : ℕ) → i < n → f i ≡ g i
-  unfolding fall
-  fall-inj zero f g e i l = absurd (omega arith)
-  fall-inj (suc n) f g e i l =
-      let (q, s) = horner-inj (fall ρ n f) (fall ρ n g) (f n) (g n) (fall-poly n f) (fall-poly n g) e in
-      at s (λ u. fall-inj n f g q i u) (ℕ-discrete i n)
-    where
-      at : f n ≡ g n → (i < n → f i ≡ g i) → Dec (i ≡ n) → f i ≡ g i
-      at s k (yes u) = ap f u ∙ s ∙ ap g (sym u)
-      at s k (no u) = k (omega arith)
+  fall-inj n f g e i l =
+      let back : (h : ℕ → K .El) → fall ρ n h ≡ psum ρ n (λ j. h (N._-_ n (suc j))) = (λ h. fall-psum n h (λ j. h (N._-_ n (suc j))) (λ k j q. ap h (let u : k ≡ N._-_ n (suc j) = omega arith in u))) in
+      let u : N._-_ n (suc (N._-_ n (suc i))) ≡ i = omega arith in
+      sym (ap f u) ∙ psum-unique ρ n (λ j. f (N._-_ n (suc j))) (λ j. g (N._-_ n (suc j))) (sym (back f) ∙ e ∙ back g) (N._-_ n (suc i)) (omega arith) ∙ ap g u
 
   -- ---- products
   pub fall-conv : (n : ℕ) (f g : ℕ → K .El) → fall ρ (suc n) (convᵏ f g) ≡ const (f 0) * fall ρ (suc n) g + fall ρ n (convᵏ (λ i. f (suc i)) g)
@@ -121,10 +105,12 @@ module _ {p : ℕ} (ρ : Reading p) where
 
   pub fall-mul : (n : ℕ) (f g : ℕ → K .El) → (x : L .El) × Lt 𝓥 x n × (fall ρ (suc n) f * fall ρ (suc n) g ≡ tpow ρ n * fall ρ (suc n) (convᵏ f g) + x)
   unfolding fall tpow conv
-  fall-mul zero f g =
-      (𝟎, 𝓥 .lead-zero 0 0,
-      solve L ((var 0 :* zer :+ var 1) :* (var 0 :* zer :+ var 2)) (one :* (var 0 :* zer :+ var 1 :* var 2) :+ zer) tt (t ∷ const (f 0) ∷ const (g 0) ∷ [])
-      ∙ ap (λ x. 𝟏 * (t * 𝟎 + x) + 𝟎) (sym (ρ .const-mul (f 0) (g 0))))
+  fall-mul zero f g = (
+    𝟎,
+    𝓥 .lead-zero 0 0,
+    solve L ((var 0 :* zer :+ var 1) :* (var 0 :* zer :+ var 2)) (one :* (var 0 :* zer :+ var 1 :* var 2) :+ zer) tt (t ∷ const (f 0) ∷ const (g 0) ∷ [])
+        ∙ ap (λ x. 𝟏 * (t * 𝟎 + x) + 𝟎) (sym (ρ .const-mul (f 0) (g 0))),
+  )
   fall-mul (suc n) f g =
       let f′ : ℕ → K .El = (λ i. f (suc i)) in
       let F : L .El = fall ρ (suc n) f′ in
@@ -132,10 +118,11 @@ module _ {p : ℕ} (ρ : Reading p) where
       let c : L .El = const (f 0) in
       let b : L .El = const (g (suc n)) in
       let C : L .El = fall ρ (suc n) (convᵏ f′ g) in
-      let (x, hx, e) = fall-mul n f′ g in
-      (t * x + b * F,
-      lt-add 𝓥 (lead-eq 𝓥 (𝓥 .lead-move (suc n) 0 (𝓥 .lead-mul (𝓥 .t-lead) hx) (omega arith)) refl (r.mul-zero K 1ᵏ)) (lt-scale ρ (g (suc n)) (fall-lt (suc n) f′)),
-      ap (λ y. y * (t * G + b)) (fall-head (suc n) f)
-      ∙ solve-by L ((var 0 :* (var 1 :* var 2) :+ var 3) :* (var 1 :* var 4 :+ var 5)) (var 1 :* var 2 :* (var 0 :* (var 1 :* var 4 :+ var 5) :+ var 6) :+ (var 1 :* var 7 :+ var 5 :* var 3))
-      (hyp (var 1) (var 3 :* var 4) (var 2 :* var 6 :+ var 7) ∷ []) tt (c ∷ t ∷ tpow ρ n ∷ F ∷ G ∷ b ∷ C ∷ x ∷ []) (e, tt)
-      ∙ ap (λ y. t * tpow ρ n * y + (t * x + b * F)) (sym (fall-conv (suc n) f g)))
+      let (x, hx, e) = fall-mul n f′ g in (
+        t * x + b * F,
+        lt-add 𝓥 (lead-eq 𝓥 (𝓥 .lead-move (suc n) 0 (𝓥 .lead-mul (𝓥 .t-lead) hx) (omega arith)) refl (r.mul-zero K 1ᵏ)) (lt-scale ρ (g (suc n)) (fall-lt (suc n) f′)),
+        ap (λ y. y * (t * G + b)) (fall-head (suc n) f)
+            ∙ solve-by L ((var 0 :* (var 1 :* var 2) :+ var 3) :* (var 1 :* var 4 :+ var 5)) (var 1 :* var 2 :* (var 0 :* (var 1 :* var 4 :+ var 5) :+ var 6) :+ (var 1 :* var 7 :+ var 5 :* var 3))
+            (hyp (var 1) (var 3 :* var 4) (var 2 :* var 6 :+ var 7) ∷ []) tt (c ∷ t ∷ tpow ρ n ∷ F ∷ G ∷ b ∷ C ∷ x ∷ []) (e, tt)
+            ∙ ap (λ y. t * tpow ρ n * y + (t * x + b * F)) (sym (fall-conv (suc n) f g)),
+      )

@@ -2,3 +2,7 @@ pub mod Pair
 pub mod First
 pub mod Begin
 pub mod Near
+pub mod Constants
+pub mod Root
+pub mod Only
+pub mod Prefix

@@ -55,19 +55,20 @@ module _ {p : ℕ} (ρ : Reading p) where
         let xa : Lt 𝓥 (x * (T * a)) D = lt-up 𝓥 D (lt-mul-sharp ρ x-lt e₁) (omega arith) in
         let hb : Lt 𝓥 (H * (T * b)) D = lt-up 𝓥 D (lt-mul-sharp ρ (has-up 𝓥 (suc dH) hH (omega arith)) e₂) (omega (arith, s .r-size, s .w-size)) in
         let r-near : Lt 𝓥 (T * (r + - x)) (suc dr) =
-            lt-cancel 𝓥 (suc dr) (trio-has 𝓥 hc h3 (pair .lead) hx)
-            (lt-up 𝓥 (N._+_ (N._+_ dr dr) (suc dr))
-            (lt-eq 𝓥 (lt-neg 𝓥 (lt-add 𝓥 xa hb))
-            (solve-by L (minus (var 0 :* (var 1 :* (var 0 :* var 0 :+ minus (var 2 :* var 3))) :+ var 2 :* (var 1 :* (var 0 :* var 3 :+ minus (var 4 :* var 2)))))
-            ((var 5 :* var 5 :+ var 5 :* var 0 :+ var 0 :* var 0) :* (var 1 :* (var 5 :+ minus (var 0))))
-            (hyp (minus (var 1)) (var 5 :* var 5 :* var 5) (var 4 :* (var 2 :* var 2)) ∷ []) tt (x ∷ T ∷ H ∷ y ∷ G ∷ r ∷ []) (r-cube 𝓥 pair, tt))) (omega arith)) in
+        lt-cancel 𝓥 (suc dr) (trio-has 𝓥 hc h3 (pair .lead) hx)
+        (lt-up 𝓥 (N._+_ (N._+_ dr dr) (suc dr))
+        (lt-eq 𝓥 (lt-neg 𝓥 (lt-add 𝓥 xa hb))
+        (solve-by L (minus (var 0 :* (var 1 :* (var 0 :* var 0 :+ minus (var 2 :* var 3))) :+ var 2 :* (var 1 :* (var 0 :* var 3 :+ minus (var 4 :* var 2)))))
+        ((var 5 :* var 5 :+ var 5 :* var 0 :+ var 0 :* var 0) :* (var 1 :* (var 5 :+ minus (var 0))))
+        (hyp (minus (var 1)) (var 5 :* var 5 :* var 5) (var 4 :* (var 2 :* var 2)) ∷ []) tt (x ∷ T ∷ H ∷ y ∷ G ∷ r ∷ []) (r-cube 𝓥 pair, tt))) (omega arith)) in
         let k : ℕ = N._+_ dr (suc dw) in
-        let xy : Lt 𝓥 (y * (T * (r + - x))) k = lt-up 𝓥 k (lt-mul-sharp ρ hy r-near) (omega arith) in
-        (r-near,
-        lt-cancel 𝓥 (suc dw) (c, hc, pair .lead)
-        (lt-eq 𝓥 (lt-neg 𝓥 (lt-add 𝓥 (lt-up 𝓥 k e₂ (omega arith)) xy))
-        (solve-by L (minus (var 1 :* (var 0 :* var 3 :+ minus (var 4 :* var 2)) :+ var 3 :* (var 1 :* (var 5 :+ minus (var 0)))))
-        (var 5 :* (var 1 :* (var 6 :+ minus (var 3)))) (hyp (minus (var 1)) (var 5 :* var 6) (var 4 :* var 2) ∷ []) tt (x ∷ T ∷ H ∷ y ∷ G ∷ r ∷ w ∷ []) (pair .r-w, tt))))
+        let xy : Lt 𝓥 (y * (T * (r + - x))) k = lt-up 𝓥 k (lt-mul-sharp ρ hy r-near) (omega arith) in (
+          r-near,
+          lt-cancel 𝓥 (suc dw) (c, hc, pair .lead)
+              (lt-eq 𝓥 (lt-neg 𝓥 (lt-add 𝓥 (lt-up 𝓥 k e₂ (omega arith)) xy))
+              (solve-by L (minus (var 1 :* (var 0 :* var 3 :+ minus (var 4 :* var 2)) :+ var 3 :* (var 1 :* (var 5 :+ minus (var 0)))))
+              (var 5 :* (var 1 :* (var 6 :+ minus (var 3)))) (hyp (minus (var 1)) (var 5 :* var 6) (var 4 :* var 2) ∷ []) tt (x ∷ T ∷ H ∷ y ∷ G ∷ r ∷ w ∷ []) (pair .r-w, tt))),
+        )
 
     pub pair-begins : (n : ℕ) (g h R W : ℕ → K .El) → Begins ρ n g dG G → Begins ρ n h dH H → (0 < n → R 0 ≡ c)
         → ((i : ℕ) → i < n → convᵏ ρ R R i ≡ convᵏ ρ h W i) → ((i : ℕ) → i < n → convᵏ ρ R W i ≡ convᵏ ρ g h i)
@@ -80,9 +81,9 @@ module _ {p : ℕ} (ρ : Reading p) where
         let (y, hy) = stand-in ρ (suc n) W dw in
         let same : N._+_ dH dw ≡ N._+_ dr dr = omega (arith, s .r-size, s .w-size) in
         let e₁ : Lt 𝓥 (tpow ρ (suc n) * (x * x + - (H * y))) (suc (N._+_ dr dr)) =
-            begins-close ρ (suc n) (convᵏ ρ R R) (convᵏ ρ h W) square (begins-mul ρ n R R hx hx) (subst (λ m. Begins ρ (suc n) (convᵏ ρ h W) m (H * y)) same (begins-mul ρ n h W hh hy)) in
+        begins-close ρ (suc n) (convᵏ ρ R R) (convᵏ ρ h W) square (begins-mul ρ n R R hx hx) (subst (λ m. Begins ρ (suc n) (convᵏ ρ h W) m (H * y)) same (begins-mul ρ n h W hh hy)) in
         let e₂ : Lt 𝓥 (tpow ρ (suc n) * (x * y + - (G * H))) (suc (N._+_ dr dw)) =
-            begins-close ρ (suc n) (convᵏ ρ R W) (convᵏ ρ g h) product (begins-mul ρ n R W hx hy) (subst (λ m. Begins ρ (suc n) (convᵏ ρ g h) m (G * H)) (sym (s .w-size)) (begins-mul ρ n g h hg hh)) in
+        begins-close ρ (suc n) (convᵏ ρ R W) (convᵏ ρ g h) product (begins-mul ρ n R W hx hy) (subst (λ m. Begins ρ (suc n) (convᵏ ρ g h) m (G * H)) (sym (s .w-size)) (begins-mul ρ n g h hg hh)) in
         let lead : Lead x dr 0 c = lead-eq 𝓥 (begins-lead ρ n R hx) refl (first (omega arith)) in
         let (a, b) = near (suc n) lead (𝓥 .lead-up (suc dw) 0 (begins-lead ρ n W hy) (omega arith)) e₁ e₂ in
         (begins-near ρ (suc n) R a hx, begins-near ρ (suc n) W b hy)

@@ -1,8 +1,8 @@
 -- The laws of the pair r, w.
---   r-cube, w-square, w-cube   r³ = G H², w² = G r, w³ = G² H
---   w-has                      deg w = 2 deg r − deg H
---   pair-only                  one pair for one leading coefficient
---   pair-from                  a cube root of G H² makes a pair
+--   r-cube      r³ = G H²
+--   w-has       deg w = 2 deg r − deg H
+--   pair-from   a cube root of G H² makes a pair
+--   trio-has    r² + r s + s² has degree 2 d where r and s have degree d and one leading coefficient
 use mathlib.Core.Path.{_≡_, refl, sym, ap, ap₂, _∙_}
 use mathlib.Core.Logic.{_≢_}
 use mathlib.Core.List.{List, [], _∷_}
@@ -14,7 +14,7 @@ use Rattle.ring.proofs.Laws as r
 use Rattle.ring.proofs.Solve.{var, one, zer, minus, _:+_, _:*_, _:-_, hyp, solve, solve-by}
 use Rattle.valued.specs.Val.{Valued}
 use Rattle.valued.specs.Degree.{HasDeg, Has, Lt}
-use Rattle.valued.proofs.Degree.{lead-eq, k-domain, has-mul, has-inv, has-move, has-eq, has-cancel, cancel}
+use Rattle.valued.proofs.Degree.{lead-eq, k-domain, has-mul, has-inv, has-move, has-eq, has-cancel}
 use Rattle.cubicfield.specs.Pair.{RootPair}
 
 module _ (𝓥 : Valued) where
@@ -33,42 +33,29 @@ module _ (𝓥 : Valued) where
   trio x y = x * x + x * y + y * y
 
   pub trio-has : {x y : L .El} {d : ℕ} {c : K .El} → c ≢ 0ᵏ → three ≢ 0ᵏ → Lead x d 0 c → Lead y d 0 c → Has 𝓥 (trio x y) (N._+_ d d)
-  trio-has {x} {y} {d} {c} hc h3 hx hy =
-      (three *ᵏ (c *ᵏ c), k-domain 𝓥 three (c *ᵏ c) h3 (k-domain 𝓥 c c hc hc),
-      lead-eq 𝓥 (𝓥 .lead-add (𝓥 .lead-add (𝓥 .lead-mul hx hx) (𝓥 .lead-mul hx hy)) (𝓥 .lead-mul hy hy)) refl
-      (solve K (var 0 :* var 0 :+ var 0 :* var 0 :+ var 0 :* var 0) ((one :+ one :+ one) :* (var 0 :* var 0)) tt (c ∷ [])))
+  trio-has {x} {y} {d} {c} hc h3 hx hy = (
+    three *ᵏ (c *ᵏ c),
+    k-domain 𝓥 three (c *ᵏ c) h3 (k-domain 𝓥 c c hc hc),
+    lead-eq 𝓥 (𝓥 .lead-add (𝓥 .lead-add (𝓥 .lead-mul hx hx) (𝓥 .lead-mul hx hy)) (𝓥 .lead-mul hy hy)) refl
+        (solve K (var 0 :* var 0 :+ var 0 :* var 0 :+ var 0 :* var 0) ((one :+ one :+ one) :* (var 0 :* var 0)) tt (c ∷ [])),
+  )
 
   module _ {G H : L .El} {d : ℕ} {c : K .El} where
     pub r-cube : {r w : L .El} → RootPair 𝓥 G H d c r w → r * r * r ≡ G * (H * H)
     r-cube {r} {w} h =
         solve-by L (var 2 :* var 2 :* var 2) (var 0 :* (var 1 :* var 1)) (hyp (var 2) (var 2 :* var 2) (var 1 :* var 3) ∷ hyp (var 1) (var 2 :* var 3) (var 0 :* var 1) ∷ []) tt (G ∷ H ∷ r ∷ w ∷ []) (h .r-r, (h .r-w, tt))
 
-    pub w-square : {r w : L .El} → c ≢ 0ᵏ → RootPair 𝓥 G H d c r w → w * w ≡ G * r
-    w-square {r} {w} hc h =
-        cancel 𝓥 {x = r} (w * w) (G * r) (c, hc, h .lead)
-        (solve-by L (var 2 :* (var 3 :* var 3)) (var 2 :* (var 0 :* var 2)) (hyp (var 3) (var 2 :* var 3) (var 0 :* var 1) ∷ hyp (minus (var 0)) (var 2 :* var 2) (var 1 :* var 3) ∷ []) tt (G ∷ H ∷ r ∷ w ∷ []) (h .r-w, (h .r-r, tt)))
-
-    pub w-cube : {r w : L .El} → c ≢ 0ᵏ → RootPair 𝓥 G H d c r w → w * w * w ≡ G * G * H
-    w-cube {r} {w} hc h =
-        solve-by L (var 3 :* var 3 :* var 3) (var 0 :* var 0 :* var 1) (hyp (var 3) (var 3 :* var 3) (var 0 :* var 2) ∷ hyp (var 0) (var 2 :* var 3) (var 0 :* var 1) ∷ []) tt (G ∷ H ∷ r ∷ w ∷ []) (w-square hc h, (h .r-w, tt))
-
     pub w-has : {r w : L .El} {e : ℕ} (dw : ℕ) → c ≢ 0ᵏ → Has 𝓥 H e → N._+_ dw e ≡ N._+_ d d → RootPair 𝓥 G H d c r w → Has 𝓥 w dw
     w-has {r} {w} dw hc hH e h = has-move 𝓥 dw 0 (has-cancel 𝓥 hH (has-eq 𝓥 (has-mul 𝓥 (c, hc, h .lead) (c, hc, h .lead)) (h .r-r))) (omega arith)
-
-    -- r³ = s³ gives (r − s)(r² + r s + s²) = 0, and the second factor has a degree
-    pub pair-only : {r w r′ w′ : L .El} {e : ℕ} → c ≢ 0ᵏ → three ≢ 0ᵏ → Has 𝓥 H e → RootPair 𝓥 G H d c r w → RootPair 𝓥 G H d c r′ w′ → (r ≡ r′) × (w ≡ w′)
-    pair-only {r} {w} {r′} {w′} hc h3 hH h h′ =
-        let q : r ≡ r′ =
-            cancel 𝓥 {x = trio r r′} r r′ (trio-has hc h3 (h .lead) (h′ .lead))
-            (solve-by L ((var 0 :* var 0 :+ var 0 :* var 1 :+ var 1 :* var 1) :* var 0) ((var 0 :* var 0 :+ var 0 :* var 1 :+ var 1 :* var 1) :* var 1) (hyp one (var 0 :* var 0 :* var 0) (var 1 :* var 1 :* var 1) ∷ []) tt (r ∷ r′ ∷ []) (r-cube h ∙ sym (r-cube h′), tt)) in
-        (q, cancel 𝓥 {x = H} w w′ hH (sym (h .r-r) ∙ ap₂ _*_ q q ∙ h′ .r-r))
 
     -- w = r²/H
     pub pair-from : {r : L .El} {e : ℕ} → Has 𝓥 H e → r * r * r ≡ G * (H * H) → Lead r d 0 c → (w : L .El) × RootPair 𝓥 G H d c r w
     pair-from {r} hH e l =
-        let (i, u, hi) = has-inv 𝓥 hH in
-        (r * r * i, record {
-          r-r = solve-by L (var 0 :* var 0) (var 1 :* (var 0 :* var 0 :* var 2)) (hyp (minus (var 0 :* var 0)) (var 1 :* var 2) one ∷ []) tt (r ∷ H ∷ i ∷ []) (u, tt);
-          r-w = solve-by L (var 0 :* (var 0 :* var 0 :* var 2)) (var 3 :* var 1) (hyp (var 2) (var 0 :* var 0 :* var 0) (var 3 :* (var 1 :* var 1)) ∷ hyp (var 3 :* var 1) (var 1 :* var 2) one ∷ []) tt (r ∷ H ∷ i ∷ G ∷ []) (e, (u, tt));
-          lead = l;
-        })
+        let (i, u, hi) = has-inv 𝓥 hH in (
+          r * r * i,
+          record {
+            r-r = solve-by L (var 0 :* var 0) (var 1 :* (var 0 :* var 0 :* var 2)) (hyp (minus (var 0 :* var 0)) (var 1 :* var 2) one ∷ []) tt (r ∷ H ∷ i ∷ []) (u, tt);
+            r-w = solve-by L (var 0 :* (var 0 :* var 0 :* var 2)) (var 3 :* var 1) (hyp (var 2) (var 0 :* var 0 :* var 0) (var 3 :* (var 1 :* var 1)) ∷ hyp (var 3 :* var 1) (var 1 :* var 2) one ∷ []) tt (r ∷ H ∷ i ∷ G ∷ []) (e, (u, tt));
+            lead = l;
+          },
+        )

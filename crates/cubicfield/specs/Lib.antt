@@ -1,3 +1,4 @@
 pub mod Pair
 pub mod First
 pub mod SeriesOf
+pub mod Prefix

@@ -1,7 +1,7 @@
 -- The pair r, w of a cubic field, in any ring of series.
 --   RootPair G H d c r w   r² = H w and r w = G H, and r has degree d with leading coefficient c
--- In proofs/: Pair (it follows that r³ = G H², w² = G r, w³ = G² H and deg w = 2 d − deg H; there is at most one such pair, and there is one
--- where G H² has a cube root).
+-- In proofs/: Pair (it follows that r³ = G H² and deg w = 2 d − deg H; there is such a pair where G H² has a cube root), Root (each accepted field
+-- has one, with all that the theory of ideals asks: r³ = D, w² = G r, w³ = G² H and that there is no other are theorems of crate ideals).
 use mathlib.Core.Path.{_≡_}
 use Prim.Native.Nat.{ℕ}
 use Rattle.ring.specs.Ring.{Ops, CRing}

@@ -1,13 +1,13 @@
 -- Sums of products of numbers, as loops add them up.
---   upto n u       u 0 + u 1 + .. + u (n − 1)
---   prod-upto      the coefficient n of a product is such a sum
---   upto-cut       terms that are 0 may be left out at the end
+--   prod-sum       the coefficient n of a product is a sum of n + 1 products
 --   prod-ext       it asks only for the coefficients up to n
 --   prod-change    how it changes with the coefficients n of the two factors
 use mathlib.Core.Path.{_≡_, refl, sym, ap, ap₂, _∙_}
 use Prim.Native.Nat.{ℕ, zero, suc, _+_, _*_, _-_, _≤_, _<_}
-use native.Mathlib.Nat.{zero-add, add-zero, suc-add, add-assoc, mul-le-mul}
+use native.Mathlib.Nat.{zero-add, add-assoc, mul-le-mul}
 use native.Mathlib.Omega.{arith}
+use Rattle.reading.specs.Sum.{sumTo}
+use Rattle.reading.proofs.Product.{sum-ext}
 use Rattle.cubicfield.specs.First.{conv}
 use Rattle.cubicfield.specs.SeriesOf.{prod}
 
@@ -15,44 +15,19 @@ use Rattle.cubicfield.specs.SeriesOf.{prod}
 pub product-small : (a b : ℕ) → a < 65536 → b < 65536 → a * b ≤ 4294836225
 product-small a b ha hb = let e : a * b ≤ 65535 * 65535 = mul-le-mul {n₁ = a} {m₁ = b} {n₂ = 65535} {m₂ = 65535} (omega arith) (omega arith) in e
 
-unfoldable pub upto : ℕ → (ℕ → ℕ) → ℕ
-upto zero u = 0
-upto (suc n) u = upto n u + u n
+sum-head : (n : ℕ) (u : ℕ → ℕ) → sumTo u (suc n) ≡ u 0 + sumTo (λ i. u (suc i)) n
+unfolding sumTo
+sum-head zero u = omega arith
+sum-head (suc n) u = ap (λ x. x + u (suc n)) (sum-head n u) ∙ add-assoc (u 0) (sumTo (λ i. u (suc i)) n) (u (suc n))
 
-pub upto-none : (u : ℕ → ℕ) → upto 0 u ≡ 0
-unfolding upto
-upto-none u = refl
-
-pub upto-more : (n : ℕ) (u : ℕ → ℕ) → upto (suc n) u ≡ upto n u + u n
-unfolding upto
-upto-more n u = refl
-
-upto-ext : (n : ℕ) (u v : ℕ → ℕ) → ((i : ℕ) → i < n → u i ≡ v i) → upto n u ≡ upto n v
-unfolding upto
-upto-ext zero u v h = refl
-upto-ext (suc n) u v h = ap₂ _+_ (upto-ext n u v (λ i l. h i (omega arith))) (h n (omega arith))
-
-upto-head : (n : ℕ) (u : ℕ → ℕ) → upto (suc n) u ≡ u 0 + upto n (λ i. u (suc i))
-unfolding upto
-upto-head zero u = omega arith
-upto-head (suc n) u = ap (λ x. x + u (suc n)) (upto-head n u) ∙ add-assoc (u 0) (upto n (λ i. u (suc i))) (u (suc n))
-
-upto-past : (n k : ℕ) (u : ℕ → ℕ) → ((i : ℕ) → n ≤ i → u i ≡ 0) → upto (k + n) u ≡ upto n u
-unfolding upto
-upto-past n zero u h = ap (λ m. upto m u) (zero-add n)
-upto-past n (suc k) u h = ap (λ m. upto m u) (suc-add k n) ∙ ap₂ _+_ (upto-past n k u h) (h (k + n) (omega arith)) ∙ add-zero (upto n u)
-
-pub upto-cut : (n m : ℕ) (u : ℕ → ℕ) → n ≤ m → ((i : ℕ) → n ≤ i → u i ≡ 0) → upto m u ≡ upto n u
-upto-cut n m u l h = ap (λ j. upto j u) (let e : m ≡ (m - n) + n = omega arith in e) ∙ upto-past n (m - n) u h
-
-pub prod-upto : (f g : ℕ → ℕ) (n : ℕ) → prod f g n ≡ upto (suc n) (λ i. f i * g (n - i))
-unfolding conv upto
-prod-upto f g zero = sym (zero-add (f 0 * g 0))
-prod-upto f g (suc n) =
+pub prod-sum : (f g : ℕ → ℕ) (n : ℕ) → prod f g n ≡ sumTo (λ i. f i * g (n - i)) (suc n)
+unfolding conv sumTo
+prod-sum f g zero = sym (zero-add (f 0 * g 0))
+prod-sum f g (suc n) =
     ap₂ (λ k x. f 0 * g k + x) (let e : suc n ≡ suc n - 0 = omega arith in e)
-    (prod-upto (λ i. f (suc i)) g n
-    ∙ upto-ext (suc n) (λ i. f (suc i) * g (n - i)) (λ i. f (suc i) * g (suc n - suc i)) (λ i l. ap (λ m. f (suc i) * g m) (let e : n - i ≡ suc n - suc i = omega arith in e)))
-    ∙ sym (upto-head (suc n) (λ i. f i * g (suc n - i)))
+    (prod-sum (λ i. f (suc i)) g n
+    ∙ sum-ext (λ i. f (suc i) * g (n - i)) (λ i. f (suc i) * g (suc n - suc i)) (suc n) (λ i l. ap (λ m. f (suc i) * g m) (let e : n - i ≡ suc n - suc i = omega arith in e)))
+    ∙ sym (sum-head (suc n) (λ i. f i * g (suc n - i)))
 
 pub prod-ext : (f g f′ g′ : ℕ → ℕ) (n : ℕ) → ((i : ℕ) → i ≤ n → f′ i ≡ f i) → ((i : ℕ) → i ≤ n → g′ i ≡ g i) → prod f′ g′ n ≡ prod f g n
 unfolding conv

@@ -50,10 +50,15 @@ loop-holds c =
     let r = s .args .r .now in
     let w = s .args .w .now in
     let x = c .first-w .result in
-    let some : 0 < length r = omega arith in
-    (refl, length-set w 0 x ∙ s .pre .even ∙ sym (length-set r 0 (s .args .c)), omega arith, omega (arith, length-set r 0 (s .args .c)), getD-set-same r 0 (s .args .c) 0 some,
-    started (s .args .p) (s .args .g .now) (s .args .h .now) (s .args .c) (s .args .u) r w x (s .pre) some
-    (c .first-w .ensures .value ∙ ap₂ (λ a b. w-first (s .args .p) a b (s .args .c) (s .args .u)) (c .before .before .coefficient .ensures .value) (c .before .coefficient2 .ensures .value)))
+    let some : 0 < length r = omega arith in (
+      refl,
+      length-set w 0 x ∙ s .pre .even ∙ sym (length-set r 0 (s .args .c)),
+      omega arith,
+      omega (arith, length-set r 0 (s .args .c)),
+      getD-set-same r 0 (s .args .c) 0 some,
+      started (s .args .p) (s .args .g .now) (s .args .h .now) (s .args .c) (s .args .u) r w x (s .pre) some
+          (c .first-w .ensures .value ∙ ap₂ (λ a b. w-first (s .args .p) a b (s .args .c) (s .args .u)) (c .before .before .coefficient .ensures .value) (c .before .coefficient2 .ensures .value)),
+    )
 
 turn-requires : tie.Need-turn-requires Inv-loop μ-loop
 turn-requires c κs =

@@ -9,7 +9,9 @@ use native.Mathlib.Nat.{zero-mul, mod-lt}
 use mathlib.Core.Logic.{_⊎_, inl, inr, ⊎-elim}
 use borrow.Author.Needs.{needs}
 use Rattle.cubicfield.specs.SeriesOf.{entry, prod}
-use Rattle.series.proofs.Sums.{upto, upto-none, upto-more, upto-cut, prod-upto, product-small}
+use Rattle.series.proofs.Sums.{prod-sum, product-small}
+use Rattle.reading.specs.Sum.{sumTo}
+use Rattle.reading.proofs.Product.{sum-more, sum-skip, sum-none}
 use Rattle.series.proofs.product_at.Statement.{statement}
 use Rattle.series.proofs.product_at.Tie as tie
 use Rattle.series.proofs.product_at.Reads as reads
@@ -17,7 +19,7 @@ use Rattle.series.proofs.product_at.Lts as lts
 use Rattle.series.proofs.coefficient.Reads as coefficient-reads
 
 abbrev Inv-loop : tie.InvT-loop
-Inv-loop p f g i n sum₀ j₀ sum j = (n ≤ suc i) × ((suc i ≤ n) ⊎ (length f ≤ n)) × (j ≤ n) × (sum ≤ j * 4294836225) × (sum ≡ upto j (λ m. entry f m * entry g (i - m)))
+Inv-loop p f g i n sum₀ j₀ sum j = (n ≤ suc i) × ((suc i ≤ n) ⊎ (length f ≤ n)) × (j ≤ n) × (sum ≤ j * 4294836225) × (sum ≡ sumTo (λ m. entry f m * entry g (i - m)) j)
 
 abbrev μ-loop : tie.MeasureT-loop
 μ-loop p f g i n sum₀ j₀ sum j = n - j
@@ -28,8 +30,8 @@ add-n c = search needs
 loop-holds : tie.Need-loop-holds Inv-loop μ-loop
 loop-holds c =
     ⊎-elim
-    (λ w. (omega arith, inl (omega arith), omega arith, omega arith, sym (upto-none _)))
-    (λ w. (omega arith, inr (omega arith), omega arith, omega arith, sym (upto-none _)))
+    (λ w. (omega arith, inl (omega arith), omega arith, omega arith, sym (sum-none _ 0 (λ i l. absurd (omega arith)))))
+    (λ w. (omega arith, inr (omega arith), omega arith, omega arith, sym (sum-none _ 0 (λ i l. absurd (omega arith)))))
     (c .if1 .came)
 
 coefficient-requires : tie.Need-coefficient-requires Inv-loop μ-loop
@@ -64,10 +66,14 @@ loop-again c =
     let at = c .before .before .before in
     let a = at .before .before .before .before .args in
     let inv = at .loop .inv in
-    let term : ℕ → ℕ = (λ m. entry (a .f .now) m * entry (a .g .now) (a .i - m)) in
-    (inv .0, inv .1, omega arith, omega (arith, small c),
-    ap₂ _+_ (inv .4) (ap₂ _*_ (c .before .coefficient .ensures .value) (c .coefficient2 .ensures .value))
-    ∙ sym (upto-more (at .loop .j) term) ∙ ap (λ m. upto m term) (sym (add-one (at .loop .j))))
+    let term : ℕ → ℕ = (λ m. entry (a .f .now) m * entry (a .g .now) (a .i - m)) in (
+      inv .0,
+      inv .1,
+      omega arith,
+      omega (arith, small c),
+      ap₂ _+_ (inv .4) (ap₂ _*_ (c .before .coefficient .ensures .value) (c .coefficient2 .ensures .value))
+          ∙ sym (sum-more term (at .loop .j)) ∙ ap (sumTo term) (sym (add-one (at .loop .j))),
+    )
 
 rem-result : tie.Need-rem-result Inv-loop μ-loop
 rem-result c = search needs
@@ -79,12 +85,15 @@ returns c =
     let inv = at .loop .inv in
     let term : ℕ → ℕ = (λ m. entry (a .f .now) m * entry (a .g .now) (a .i - m)) in
     let e : at .loop .j ≡ at .before .if1 .n = omega arith in
-    record { below = mod-lt (at .loop .sum) (at .before .before .before .before .pre .pos); value = ap (λ x. x % a .p) (inv .4 ∙ ap (λ m. upto m term) e ∙ sym (prod-upto (entry (a .f .now)) (entry (a .g .now)) (a .i)
-    ∙ ⊎-elim
-    (λ (l : suc (a .i) ≤ at .before .if1 .n). ap (λ m. upto m term) (let q : suc (a .i) ≡ at .before .if1 .n = omega arith in q))
-    (λ (l : length (a .f .now) ≤ at .before .if1 .n). upto-cut (at .before .if1 .n) (suc (a .i)) term (omega arith)
-    (λ m u. ap (λ x. x * entry (a .g .now) (a .i - m)) (List·getD-eq-default (a .f .now) 0 {n = m} (omega arith)) ∙ zero-mul (entry (a .g .now) (a .i - m))))
-    (inv .1))) }
+    record {
+      below = mod-lt (at .loop .sum) (at .before .before .before .before .pre .pos);
+      value = ap (λ x. x % a .p) (inv .4 ∙ ap (sumTo term) e ∙ sym (prod-sum (entry (a .f .now)) (entry (a .g .now)) (a .i)
+          ∙ ⊎-elim
+          (λ (l : suc (a .i) ≤ at .before .if1 .n). ap (sumTo term) (let q : suc (a .i) ≡ at .before .if1 .n = omega arith in q))
+          (λ (l : length (a .f .now) ≤ at .before .if1 .n). sum-skip term (at .before .if1 .n) (suc (a .i)) (omega arith)
+          (λ m u v. ap (λ x. x * entry (a .g .now) (a .i - m)) (List·getD-eq-default (a .f .now) 0 {n = m} (omega arith)) ∙ zero-mul (entry (a .g .now) (a .i - m))))
+          (inv .1)));
+    }
 
 pub product-at-spec : {M : Type 1} → statement M
 product-at-spec =
