@@ -1,5 +1,6 @@
 -- A text cut at one byte: the laws of `until`, `pieces` and `restAt`.
 --   until-here, until-skip, until-past   `until` from a place on, byte by byte
+--   search-here, search-on               a search from place to place
 --   until-take, until-le                 it is the front of the text
 --   piece-at     the pieces from a place on: the one that ends at the next c, then those behind it
 --   rest-start, rest-none                from the start on, and past the end
@@ -44,6 +45,16 @@ until-skip c s i h e =
 
 pub until-past : (c : ℕ) (s : List ℕ) (i : ℕ) → length s ≤ i → until c (drop i s) ≡ []
 until-past c s i h = ap (until c) (drop-of-length-le s h) ∙ until-none c
+
+-- a search for c, at i, for the place m
+pub search-here : (c : ℕ) (s : List ℕ) (i m : ℕ) → until c (drop i s) ≡ [] → i + length (until c (drop i s)) ≡ m → i ≡ m
+search-here c s i m u e = let a : length (until c (drop i s)) ≡ 0 = ap length u in omega arith
+
+pub search-on : (c : ℕ) (s : List ℕ) (i m : ℕ) → i < length s → (getD s i 0 ≡ c → ⊥) → i + length (until c (drop i s)) ≡ m
+    → i + 1 + length (until c (drop (i + 1) s)) ≡ m
+search-on c s i m h n e =
+    let a : length (until c (drop i s)) ≡ suc (length (until c (drop (i + 1) s))) = ap length (until-skip c s i h n) in
+    omega arith
 
 pub until-le : (c : ℕ) (s : List ℕ) → length (until c s) ≤ length s
 unfolding until untilIf

@@ -2,3 +2,4 @@ pub mod Puts
 pub mod Digits
 pub mod Texts
 pub mod Cuts
+pub mod Numbers
