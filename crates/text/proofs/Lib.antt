@@ -3,3 +3,5 @@ pub mod Digits
 pub mod Texts
 pub mod Cuts
 pub mod Numbers
+pub mod Lists
+pub mod Parts

@@ -10,7 +10,7 @@ use lib.ListN.{length, getD, take}
 use lib.Seq.{take-suc, take-all, length-take-le}
 use Rattle.text.specs.Grammar.{comma, newline}
 use Rattle.text.specs.Print.{Put, number-text, join, list-text, refused-text, refused-word}
-use Rattle.text.proofs.Puts.{put-none, put-then}
+use Rattle.text.proofs.Puts.{placed-none, put-then}
 use Rattle.text.proofs.Digits.{text-small, text-more}
 
 pub put-small : (n : ℕ) {d : List ℕ} {at r : ℕ} {d' : List ℕ} → n < 10 → Put d at ((48 + n % 10) ∷ []) r d' → Put d at (number-text n) r d'
@@ -42,7 +42,7 @@ one-text n = refl
 
 pub list-none : (l : List ℕ) {d : List ℕ} {at : ℕ} → length l ≡ 0 → Put d at (list-text l) at d
 unfolding list-text join
-list-none [] {d} {at} h = put-none d at
+list-none [] {d} {at} h = placed-none (length d) d at
 list-none (a ∷ l) h = absurd (omega arith)
 
 pub list-first : (l : List ℕ) {d : List ℕ} {at r : ℕ} {d' : List ℕ} → 0 < length l → Put d at (number-text (getD l 0 0)) r d' → Put d at (list-text (take 1 l)) r d'

@@ -4,7 +4,8 @@
 --   list-text l       the numbers l with commas
 --   line-text p G H   p;G;H
 --   refused-text n    refused n, and a newline
---   Put d at x r d'   d' is d with the bytes x from `at` on, as far as d reaches, and r is the place after them
+--   Placed n d at x r d'   d' is d with the bytes x from `at` on, as far as d reaches; r is the place after them, counted up to n
+--   Put d at x r d'        the same, and places are counted up to the end of d
 -- Laws: proofs/Digits, proofs/Inverse (printing and reading), proofs/Puts (one piece after another).
 use mathlib.Core.Path.{_≡_}
 use mathlib.Core.Bool.{true, false}
@@ -41,10 +42,9 @@ refused-word = 114 ∷ 101 ∷ 102 ∷ 117 ∷ 115 ∷ 101 ∷ 100 ∷ 32 ∷ []
 unfoldable pub refused-text : ℕ → List ℕ
 refused-text n = refused-word ++ number-text n ++ newline ∷ []
 
--- the place after k bytes put at `at` into a slice of n: it stops at the slice's end
-abbrev pub after : ℕ → ℕ → ℕ → ℕ
-after n at k = max at (min (at + k) n)
-
-pub record Put (d : List ℕ) (at : ℕ) (x : List ℕ) (r : ℕ) (d' : List ℕ) : Type 0 where
-  pub next : r ≡ after (length d) at (length x)
+pub record Placed (n : ℕ) (d : List ℕ) (at : ℕ) (x : List ℕ) (r : ℕ) (d' : List ℕ) : Type 0 where
+  pub next : r ≡ max at (min (at + length x) n)
   pub done : d' ≡ sets d at x
+
+abbrev pub Put : List ℕ → ℕ → List ℕ → ℕ → List ℕ → Type 0
+Put d at x r d' = Placed (length d) d at x r d'

@@ -1,4 +1,5 @@
 // The input taken apart into lines, whatever the pieces in which it arrives.
+ghost use mathlib.Core.List.{[], _∷_};
 ghost use Rattle.text.specs.Tells.{CutTells, Carried};
 
 // What a piece of the input has from a place on.
@@ -11,22 +12,29 @@ pub enum Step {
     Pending(usize),
 }
 
-// The bytes of s from `from` to `e` behind the n that are kept, as many as there is room for. Returns how many bytes the line has by
-// now, counted up to one more than there is room for.
+// A byte behind the m that are pending; nothing where the slice is full. Returns how many are pending by now, counted up to one more
+// than there is room for.
+fn keep(kept: &mut [u8], m: usize, b: u8) -> usize
+    ensures { λ r. ⌜ Carried (now (kept .entry)) m (b ∷ []) r (now (kept .exit)) ⌝ }
+{
+    if m < kept.len() {
+        kept[m] = b;
+        return m + 1;
+    }
+    if m == kept.len() {
+        return m + 1;
+    }
+    m
+}
+
+// The bytes of s behind the n that are pending.
 fn carry(kept: &mut [u8], n: usize, s: &[u8]) -> usize
     ensures { λ r. ⌜ Carried (now (kept .entry)) n (now (s .entry)) r (now (kept .exit)) ⌝ }
 {
     let mut m = n;
     let mut i: usize = 0;
     while i < s.len() {
-        if m < kept.len() {
-            kept[m] = s[i];
-            m += 1;
-        } else {
-            if m == kept.len() {
-                m += 1;
-            }
-        }
+        m = keep(kept, m, s[i]);
         i += 1;
     }
     m

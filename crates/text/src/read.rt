@@ -4,7 +4,7 @@ ghost use Prim.Native.Nat.{_+_, _≤_};
 ghost use lib.ListN.{length, drop};
 ghost use Rattle.text.specs.Grammar.{comma};
 ghost use Rattle.text.specs.Pieces.{until, pieces};
-ghost use Rattle.text.specs.Tells.{NumberTells, SizeTells, ValueOf, FieldsTell, Filled, ParseTells};
+ghost use Rattle.text.specs.Tells.{NumberTells, SizeTells, ValueOf, FieldsTell, ShapeTells, Filled, ParseTells};
 
 // A text as a number.
 pub enum Numeral {
@@ -22,6 +22,21 @@ pub enum Entries {
 pub enum Split {
     Three(usize, usize),
     Other,
+}
+
+// A line that reads: G stands from a to j and H from b on; p, and how many numbers G and H have.
+pub struct Marks {
+    pub a: usize,
+    pub j: usize,
+    pub b: usize,
+    pub p: u64,
+    pub ng: usize,
+    pub nh: usize,
+}
+
+pub enum Shape {
+    Sound(Marks),
+    Bad,
 }
 
 // A line: p, and how many numbers G and H have.
@@ -147,32 +162,49 @@ fn fields(line: &[u8]) -> Split
     Split::Three(i, j)
 }
 
-// A line without its newline. G goes to the front of g and H to the front of h; what is behind stays, and all of both where the line
-// does not read or a slice is too short.
-pub fn parse(line: &[u8], g: &mut [u64], h: &mut [u64]) -> Parsed
-    ensures { λ r. ⌜ ParseTells (now (line .entry)) (now (g .entry)) (now (h .entry)) r (now (g .exit)) (now (h .exit)) ⌝ }
+// Whether a line reads, and its marks if it does.
+fn shape_of(line: &[u8]) -> Shape
+    ensures { λ r. ⌜ ShapeTells (now (line .entry)) r ⌝ }
 {
     if 255 < line.len() {
-        return Parsed::Malformed;
+        return Shape::Bad;
     }
     let f = fields(line);
     let Split::Three(i, j) = f else {
-        return Parsed::Malformed;
+        return Shape::Bad;
     };
     let a = i + 1;
     let b = j + 1;
     let first = number(&line[..i]);
     let Numeral::Value(p) = first else {
-        return Parsed::Malformed;
+        return Shape::Bad;
     };
     let second = list_size(&line[a..j]);
     let Entries::Count(ng) = second else {
-        return Parsed::Malformed;
+        return Shape::Bad;
     };
     let third = list_size(&line[b..]);
     let Entries::Count(nh) = third else {
+        return Shape::Bad;
+    };
+    Shape::Sound(Marks { a, j, b, p, ng, nh })
+}
+
+// A line without its newline. G goes to the front of g and H to the front of h; what is behind stays, and all of both where the line
+// does not read or a slice is too short.
+pub fn parse(line: &[u8], g: &mut [u64], h: &mut [u64]) -> Parsed
+    ensures { λ r. ⌜ ParseTells (now (line .entry)) (now (g .entry)) (now (h .entry)) r (now (g .exit)) (now (h .exit)) ⌝ }
+{
+    let s = shape_of(line);
+    let Shape::Sound(m) = s else {
         return Parsed::Malformed;
     };
+    let a = m.a;
+    let j = m.j;
+    let b = m.b;
+    let p = m.p;
+    let ng = m.ng;
+    let nh = m.nh;
     if g.len() < ng {
         return Parsed::Short;
     }

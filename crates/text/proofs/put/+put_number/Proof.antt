@@ -5,7 +5,7 @@ use native.Mathlib.Omega.{arith}
 use borrow.Author.Needs.{needs}
 use borrow.Fn.Kinds.{In}
 use borrow.Fn.PlainCycle.{Measures, is, falls, and}
-use Rattle.text.proofs.Puts.{put-same}
+use Rattle.text.proofs.Puts.{placed-same}
 use Rattle.text.proofs.Texts.{put-small, put-tens}
 use Rattle.text.proofs.put.put_number.Reads as put-number
 use Rattle.text.proofs.put.put_number.Kinds as put-number-kinds
@@ -33,7 +33,7 @@ put-byte-requires : (t : ℕ) → put-number-lts.Need-put-byte-requires (put-byt
 put-byte-requires t c κs = search needs
 
 same-length : (t : ℕ) → put-number-lts.Need-same-length (put-byte-reads.Asked, put-byte-reads.Learnt, put-number-below t, put-number.Post) (put-number-at t) put-number.Post
-same-length t c = put-same (c .before .before .put-byte .ensures)
+same-length t c = placed-same (c .before .before .put-byte .ensures)
 
 returns : (t : ℕ) → put-number-lts.Need-returns (put-byte-reads.Asked, put-byte-reads.Learnt, put-number-below t, put-number.Post) (put-number-at t) put-number.Post
 returns t c = put-small (c .before .before .before .before .before .before .args .n) (c .before .before .before .before .if1 .taken) (c .before .before .put-byte .ensures)
@@ -45,7 +45,7 @@ put-byte-requires-2 : (t : ℕ) → put-number-lts.Need-put-byte-requires-2 (put
 put-byte-requires-2 t c κs = search needs
 
 same-length-2 : (t : ℕ) → put-number-lts.Need-same-length-2 (put-byte-reads.Asked, put-byte-reads.Learnt, put-number-below t, put-number.Post) (put-number-at t) put-number.Post
-same-length-2 t c = put-same (c .before .before .put-byte2 .ensures) ∙ put-same (c .before .before .before .before .before .before .put-number .ensures)
+same-length-2 t c = placed-same (c .before .before .put-byte2 .ensures) ∙ placed-same (c .before .before .before .before .before .before .put-number .ensures)
 
 returns-2 : (t : ℕ) → put-number-lts.Need-returns-2 (put-byte-reads.Asked, put-byte-reads.Learnt, put-number-below t, put-number.Post) (put-number-at t) put-number.Post
 returns-2 t c = put-tens (c .before .before .before .before .before .before .before .before .before .before .args .n) (c .before .before .before .before .before .before .before .before .if1 .left) (c .before .before .before .before .before .before .put-number .ensures) (c .before .before .put-byte2 .ensures)

@@ -6,7 +6,7 @@ use mathlib.Core.Path.{_≡_, _∙_}
 use native.Mathlib.Omega.{arith}
 use lib.ListN.{length, take}
 use Rattle.text.specs.Print.{Put, list-text}
-use Rattle.text.proofs.Puts.{put-same}
+use Rattle.text.proofs.Puts.{placed-same}
 use Rattle.text.proofs.Texts.{list-none, list-first, list-more, list-all}
 use borrow.Author.Needs.{needs}
 use Rattle.text.proofs.put.put_all.Statement.{statement}
@@ -59,7 +59,7 @@ loop-again : tie.Need-loop-again Inv-loop μ-loop
 loop-again c = (omega arith, omega arith, λ d a q. list-more (c .before .before .before .before .before .before .before .before .before .before .before .before .before .before .before .before .before .before .before .args .l .now) (c .before .before .before .before .before .before .before .before .before .before .loop .i) (omega arith) (omega arith) (c .before .before .before .before .before .before .before .before .before .before .loop .inv .2 d a q) (c .before .before .before .before .before .before .before .put-byte .ensures) (c .before .before .put-number2 .ensures))
 
 same-length : tie.Need-same-length Inv-loop μ-loop
-same-length c = put-same (c .before .loop .inv .2 (c .before .before .before .before .before .before .before .before .before .before .args .out .now) (c .before .before .before .before .before .before .before .before .before .before .args .at) (list-first (c .before .before .before .before .before .before .before .before .before .before .args .l .now) (omega arith) (c .before .before .before .before .put-number .ensures)))
+same-length c = placed-same (c .before .loop .inv .2 (c .before .before .before .before .before .before .before .before .before .before .args .out .now) (c .before .before .before .before .before .before .before .before .before .before .args .at) (list-first (c .before .before .before .before .before .before .before .before .before .before .args .l .now) (omega arith) (c .before .before .before .before .put-number .ensures)))
 
 returns-2 : tie.Need-returns-2 Inv-loop μ-loop
 returns-2 c = list-all (c .before .before .before .before .before .before .before .before .before .before .args .l .now) (c .before .loop .i) (omega arith) (c .before .loop .inv .2 (c .before .before .before .before .before .before .before .before .before .before .args .out .now) (c .before .before .before .before .before .before .before .before .before .before .args .at) (list-first (c .before .before .before .before .before .before .before .before .before .before .args .l .now) (omega arith) (c .before .before .before .before .put-number .ensures)))

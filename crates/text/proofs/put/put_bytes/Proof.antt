@@ -4,7 +4,7 @@ use native.Mathlib.Omega.{arith}
 use lib.ListN.{length, take}
 use borrow.Author.Needs.{needs}
 use Rattle.text.specs.Print.{Put}
-use Rattle.text.proofs.Puts.{put-none, put-more, put-all, put-same}
+use Rattle.text.proofs.Puts.{placed-none, put-more, placed-all, placed-same}
 use Rattle.text.proofs.put.put_bytes.Statement.{statement}
 use Rattle.text.proofs.put.put_bytes.Tie as tie
 
@@ -15,7 +15,7 @@ abbrev μ-loop : tie.MeasureT-loop
 μ-loop out₀ at s to₀ i₀ out to i = length s - i
 
 loop-holds : tie.Need-loop-holds Inv-loop μ-loop
-loop-holds c = (omega arith, put-none (c .before .before .args .out .now) (c .before .before .args .at))
+loop-holds c = (omega arith, placed-none _ (c .before .before .args .out .now) (c .before .before .args .at))
 
 shared-slice-read-put-byte : tie.Need-shared-slice-read-put-byte Inv-loop μ-loop
 shared-slice-read-put-byte c = search needs
@@ -33,10 +33,10 @@ loop-again : tie.Need-loop-again Inv-loop μ-loop
 loop-again c = (omega arith, put-more (c .before .before .before .before .before .before .before .before .before .args .s .now) (c .before .before .before .before .before .before .loop .i) (omega arith) (c .before .before .before .before .before .before .loop .inv .1) (c .before .before .put-byte .ensures))
 
 same-length : tie.Need-same-length Inv-loop μ-loop
-same-length c = put-same (c .before .loop .inv .1)
+same-length c = placed-same (c .before .loop .inv .1)
 
 returns : tie.Need-returns Inv-loop μ-loop
-returns c = put-all (c .before .before .before .before .args .s .now) (c .before .loop .i) (omega arith) (c .before .loop .inv .1)
+returns c = placed-all (c .before .before .before .before .args .s .now) (c .before .loop .i) (omega arith) (c .before .loop .inv .1)
 
 pub put-bytes-spec : {M : Type 1} → statement M
 put-bytes-spec =

@@ -1,6 +1,6 @@
 -- `text::put::put_refused` meets its contract.
 use mathlib.Core.Path.{_∙_}
-use Rattle.text.proofs.Puts.{put-same}
+use Rattle.text.proofs.Puts.{placed-same}
 use Rattle.text.proofs.Texts.{refused-put}
 use borrow.Author.Needs.{needs}
 use Rattle.text.proofs.put.put_refused.Statement.{statement}
@@ -19,7 +19,7 @@ put-byte-requires : tie.Need-put-byte-requires
 put-byte-requires c κs = search needs
 
 same-length : tie.Need-same-length
-same-length c = put-same (c .before .before .put-byte .ensures) ∙ put-same (c .before .before .before .before .before .before .put-number .ensures) ∙ put-same (c .before .before .before .before .before .before .before .before .before .before .put-bytes .ensures)
+same-length c = placed-same (c .before .before .put-byte .ensures) ∙ placed-same (c .before .before .before .before .before .before .put-number .ensures) ∙ placed-same (c .before .before .before .before .before .before .before .before .before .before .put-bytes .ensures)
 
 returns : tie.Need-returns
 returns c = refused-put (c .before .before .before .before .before .before .before .before .before .before .before .before .before .before .args .n) (c .before .before .before .before .before .before .before .before .before .before .put-bytes .ensures) (c .before .before .before .before .before .before .put-number .ensures) (c .before .before .put-byte .ensures)
