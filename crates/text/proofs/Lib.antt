@@ -5,3 +5,4 @@ pub mod Cuts
 pub mod Numbers
 pub mod Lists
 pub mod Parts
+pub mod Steps
