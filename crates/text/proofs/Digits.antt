@@ -89,3 +89,35 @@ value-small s h d =
     let a : value s < (0 + 1) * 10 ^ length s = from-bound 0 s d in
     let b : 10 ^ length s ≤ 10000 = ten-small (length s) h in
     omega arith
+
+ten-large : (k : ℕ) → k ≤ 5 → 10 ^ k ≤ 100000
+ten-large zero h = lit≤ tt
+ten-large (suc k) h =
+    let p : 10 ^ suc k ≡ 10 ^ k * 10 = pow-suc 10 k in
+    let q : 10 ^ k ≤ 10000 = ten-small k (omega arith) in
+    omega arith
+
+pub value-bound : (s : List ℕ) → length s ≤ 5 → ((k : ℕ) → k < length s → Digit (getD s k 0)) → value s < 100000
+value-bound s h d =
+    let a : value s < (0 + 1) * 10 ^ length s = from-bound 0 s d in
+    let b : 10 ^ length s ≤ 100000 = ten-large (length s) h in
+    omega arith
+
+-- ---- what number-text says
+value-lt : (f n : ℕ) → n < 10 → value (digitsOf (suc f) n) ≡ n
+unfolding valueFrom
+value-lt f n h = ap value (of-small (suc f) n h) ∙ (let e : 0 * 10 + (48 + n % 10 - 48) ≡ n = omega arith in e)
+
+value-ge : (f n : ℕ) → 10 ≤ n → value (digitsOf f (n / 10)) ≡ n / 10 → value (digitsOf (suc f) n) ≡ n
+value-ge f n h e =
+    ap value (of-more f n h) ∙ value-last (digitsOf f (n / 10)) (48 + n % 10)
+    ∙ (let q : value (digitsOf f (n / 10)) * 10 + (48 + n % 10 - 48) ≡ n = omega arith in q)
+
+of-value : (f n : ℕ) → n ≤ f → value (digitsOf f n) ≡ n
+unfolding digitsOf valueFrom
+of-value zero n h = omega arith
+of-value (suc f) n h = elim (decLe 10 n) [ yes p ↦ value-ge f n p (of-value f (n / 10) (omega arith)) | no p ↦ value-lt f n (omega arith) ]
+
+pub value-text : (n : ℕ) → value (number-text n) ≡ n
+unfolding number-text
+value-text n = of-value n n (omega arith)

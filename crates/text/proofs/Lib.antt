@@ -6,3 +6,7 @@ pub mod Numbers
 pub mod Lists
 pub mod Parts
 pub mod Steps
+pub mod Inverse
+pub mod Joins
+pub mod Writings
+pub mod Answers

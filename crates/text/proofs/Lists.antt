@@ -53,7 +53,7 @@ pub filling-none : (s d : List ℕ) → Filling s d d 0
 filling-none s d = record { same = refl; front = λ l r. refl }
 
 -- entry n of a list is what its piece n stands for
-entry-value : (s l : List ℕ) (n : ℕ) → Listed s l → getD l n 0 ≡ value (getD (pieces comma s) n [])
+pub entry-value : (s l : List ℕ) (n : ℕ) → Listed s l → getD l n 0 ≡ value (getD (pieces comma s) n [])
 unfolding valueFrom
 entry-value s l n r = ap (λ (z : List ℕ). getD z n 0) (r .means) ∙ List·getD-map value (pieces comma s) n []
 

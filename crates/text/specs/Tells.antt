@@ -73,6 +73,8 @@ pub record ReadAs (line : List ℕ) (g h : List ℕ) (p ng nh : ℕ) (g' h' : Li
   pub reads : Reads line p G H
   pub count-G : length G ≡ ng
   pub count-H : length H ≡ nh
+  pub room-G : ng ≤ length g
+  pub room-H : nh ≤ length h
   pub front-G : g' ≡ G ++ drop ng g
   pub front-H : h' ≡ H ++ drop nh h
 

@@ -73,6 +73,8 @@ returns-4 c = let q : Sound (c .before .before .before .before .before .before .
       reads = q .reads;
       count-G = q .count-G;
       count-H = q .count-H;
+      room-G = omega arith;
+      room-H = omega arith;
       front-G = front (q .G) (c .before .before .before .before .before .before .before .before .before .before .before .before .before .before .before .before .before .before .before .args .g .now) _ (c .before .before .before .before .before .before .before .before .before .before .before .before .before .s .given .0 .0 .ng) (q .count-G) (c .before .before .before .before .before .before .before .fill .ensures (q .G) (q .G-text));
       front-H = front (q .H) (c .before .before .before .before .before .before .before .before .before .before .before .before .before .before .before .before .before .before .before .args .h .now) _ (c .before .before .before .before .before .before .before .before .before .before .before .before .before .s .given .0 .0 .nh) (q .count-H) (c .before .before .fill2 .ensures (q .H) (q .H-text));
     }
