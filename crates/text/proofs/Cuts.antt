@@ -16,7 +16,7 @@ use native.Mathlib.Omega.{arith}
 use lib.Dec.{eqb, leb, leb·suc-suc}
 use lib.ListN.{length, getD, take, drop, length-drop, drop-of-length-le}
 use lib.Seq.{drop-cons, drop-drop, getD-drop}
-use borrow.Author.Tests.{eq-eqb, ne-eqb, le-leb, lt-leb}
+use borrow.Author.Tests.{eq-eqb, ne-eqb, eqb-true, eqb-false, le-leb, lt-leb}
 use Rattle.text.specs.Pieces.{until, ahead, pieces, restAt}
 
 -- ---- until
@@ -73,6 +73,30 @@ until-take c (x ∷ s) = go (eqb x c) (until-take c s)
     go : (b : Bool) → until c s ≡ take (length (until c s)) s → untilIf c x s b ≡ take (length (untilIf c x s b)) (x ∷ s)
     go true h = refl
     go false h = ap (λ (z : List ℕ). x ∷ z) h
+
+-- c is not among the bytes before the first c, and stands behind them where they are not all
+pub until-free : (c : ℕ) (s : List ℕ) (k : ℕ) → k < length (until c s) → getD (until c s) k 0 ≡ c → ⊥
+unfolding until untilIf
+until-free c [] k h e = absurd (omega arith)
+until-free c (x ∷ s) k h e = go (eqb x c) refl (until-free c s) k h e
+  where
+    go : (b : Bool) → eqb x c ≡ b → ((j : ℕ) → j < length (until c s) → getD (until c s) j 0 ≡ c → ⊥)
+        → (j : ℕ) → j < length (untilIf c x s b) → getD (untilIf c x s b) j 0 ≡ c → ⊥
+    go true q ih j l z = absurd (omega arith)
+    go false q ih zero l z = eqb-false x c q z
+    go false q ih (suc j) l z = ih j (omega arith) z
+
+pub until-stop : (c : ℕ) (s : List ℕ) → length (until c s) < length s → drop (length (until c s)) s ≡ c ∷ drop (length (until c s) + 1) s
+unfolding until untilIf
+until-stop c [] h = absurd (omega arith)
+until-stop c (x ∷ s) h = go (eqb x c) refl (until-stop c s) h
+  where
+    go : (b : Bool) → eqb x c ≡ b → (length (until c s) < length s → drop (length (until c s)) s ≡ c ∷ drop (length (until c s) + 1) s)
+        → length (untilIf c x s b) < suc (length s) → drop (length (untilIf c x s b)) (x ∷ s) ≡ c ∷ drop (length (untilIf c x s b) + 1) (x ∷ s)
+    go true q ih l = ap (λ (y : ℕ). y ∷ s) (eqb-true x c q)
+    go false q ih l =
+        ih (omega arith)
+        ∙ ap (λ (j : ℕ). c ∷ drop j (x ∷ s)) (let e : suc (length (until c s) + 1) ≡ suc (length (until c s)) + 1 = omega arith in e)
 
 -- ---- the pieces from a place on
 restIf : ℕ → List ℕ → ℕ → Bool → List (List ℕ)

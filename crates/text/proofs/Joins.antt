@@ -96,7 +96,7 @@ join-long c t (u ∷ ts) f =
     omega arith
 
 -- ---- a byte that is in none of the pieces
-free-append : (c : ℕ) (t u : List ℕ) → Free c t → Free c u → Free c (t ++ u)
+pub free-append : (c : ℕ) (t u : List ℕ) → Free c t → Free c u → Free c (t ++ u)
 free-append c [] u f g k h = g k h
 free-append c (x ∷ t) u f g zero h = f 0 (omega arith)
 free-append c (x ∷ t) u f g (suc k) h = free-append c t u (λ j l. f (suc j) (omega arith)) g k (omega arith)

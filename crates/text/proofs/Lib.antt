@@ -10,3 +10,4 @@ pub mod Inverse
 pub mod Joins
 pub mod Writings
 pub mod Answers
+pub mod Feeds

@@ -3,3 +3,4 @@ pub mod Grammar
 pub mod Print
 pub mod Lines
 pub mod Tells
+pub mod Feed
