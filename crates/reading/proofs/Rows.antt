@@ -102,7 +102,7 @@ module _ {p : ℕ} (ρ : Reading p) where
   tpow-lead zero = 𝓥 .lead-one
   tpow-lead (suc k) = lead-eq 𝓥 (𝓥 .lead-move (suc k) 0 (𝓥 .lead-mul (𝓥 .t-lead) (tpow-lead k)) (omega arith)) refl (r.one-mul K 1ᵏ)
 
-  term-lead : (a : K .El) (n : ℕ) → Lead (const a * tpow ρ n) n 0 a
+  pub term-lead : (a : K .El) (n : ℕ) → Lead (const a * tpow ρ n) n 0 a
   term-lead a n = lead-eq 𝓥 (𝓥 .lead-move n 0 (𝓥 .lead-mul (𝓥 .const-lead a) (tpow-lead n)) (omega arith)) refl (K .laws .mul-one a)
 
   pub psum-lt : (n : ℕ) (f : ℕ → K .El) → Lt 𝓥 (psum ρ n f) n
@@ -196,6 +196,29 @@ module _ {p : ℕ} (ρ : Reading p) where
       ∙ ap (λ z. const a * psum ρ 32 (coefs ρ x) + - (z * psum ρ 32 (coefs ρ y))) (const-neg b)
       ∙ ap₂ (λ u v. const a * u + - (- const b * v)) (sym (row-32 x sx)) (sym (row-32 y sy))
       ∙ solve L (var 0 :+ minus (minus (var 1) :* var 2)) (var 0 :+ var 1 :* var 2) tt (const a * row ρ x ∷ const b ∷ row ρ y ∷ [])
+
+  pub add-law : (x y : List ℕ) → length x ≡ 32 → length y ≡ 32 → row ρ (tab 32 (λ i. N._+_ (getD x i 0) (getD y i 0) % p)) ≡ row ρ x + row ρ y
+  add-law x y sx sy =
+      place-law (λ i. N._+_ (getD x i 0) (getD y i 0) % p) 1ᵏ 1ᵏ x y sx sy
+      (λ i. ρ .cast-mod (N._+_ (getD x i 0) (getD y i 0)) ∙ ρ .cast-add (getD x i 0) (getD y i 0) ∙ solve K (var 0 :+ var 1) (one :* var 0 :+ one :* var 1) tt (coefs ρ x i ∷ coefs ρ y i ∷ []))
+      ∙ ap (λ a. a * row ρ x + a * row ρ y) (ρ .const-one)
+      ∙ solve L (one :* var 0 :+ one :* var 1) (var 0 :+ var 1) tt (row ρ x ∷ row ρ y ∷ [])
+
+  pub sub-law : (x y : List ℕ) → length x ≡ 32 → Row p y → row ρ (tab 32 (λ i. N._+_ (getD x i 0) (N._-_ p (getD y i 0)) % p)) ≡ row ρ x + - row ρ y
+  sub-law x y sx hy =
+      place-law (λ i. N._+_ (getD x i 0) (N._-_ p (getD y i 0)) % p) 1ᵏ (-ᵏ 1ᵏ) x y sx (hy .size)
+      (λ i. let l : getD y i 0 < p = hy .each i in
+      ρ .cast-mod (N._+_ (getD x i 0) (N._-_ p (getD y i 0))) ∙ ρ .cast-add (getD x i 0) (N._-_ p (getD y i 0)) ∙ ap (λ z. coefs ρ x i +ᵏ z) (cast-sub (getD y i 0) (omega arith))
+      ∙ solve K (var 0 :+ minus (var 1)) (one :* var 0 :+ minus one :* var 1) tt (coefs ρ x i ∷ coefs ρ y i ∷ []))
+      ∙ ap₂ (λ a b. a * row ρ x + b * row ρ y) (ρ .const-one) (const-neg 1ᵏ ∙ ap (λ a. - a) (ρ .const-one))
+      ∙ solve L (one :* var 0 :+ minus one :* var 1) (var 0 :+ minus (var 1)) tt (row ρ x ∷ row ρ y ∷ [])
+
+  pub scale-law : (c : ℕ) (x : List ℕ) → length x ≡ 32 → row ρ (tab 32 (λ i. N._*_ c (getD x i 0) % p)) ≡ const (cast c) * row ρ x
+  scale-law c x sx =
+      place-law (λ i. N._*_ c (getD x i 0) % p) (cast c) 0ᵏ x x sx sx
+      (λ i. ρ .cast-mod (N._*_ c (getD x i 0)) ∙ ρ .cast-mul c (getD x i 0) ∙ solve K (var 0) (var 0 :+ zer :* var 1) tt (cast c *ᵏ coefs ρ x i ∷ coefs ρ x i ∷ []))
+      ∙ ap (λ a. const (cast c) * row ρ x + a * row ρ x) const-zero
+      ∙ solve L (var 0 :+ zer :* var 1) (var 0) tt (const (cast c) * row ρ x ∷ row ρ x ∷ [])
 
   -- f + c g
   pub psum-plus : (n : ℕ) (c : K .El) (f g : ℕ → K .El) → psum ρ n (λ i. f i +ᵏ c *ᵏ g i) ≡ psum ρ n f + const c * psum ρ n g

@@ -3,3 +3,4 @@ pub mod Made
 pub mod Row
 pub mod Sum
 pub mod Derivation
+pub mod Roots
