@@ -7,31 +7,30 @@
 --   closing-unit           the product at a closing has an inverse
 --   unit-exists unit-unique   the unit of document 01 exists and is one; `unit-degree`: deg E0 = d, and d is even
 use mathlib.Core.Path.{_≡_, refl, sym, ap, ap₂, _∙_, subst}
-use mathlib.Core.List.{List, [], _∷_}
+use mathlib.Core.List.{[], _∷_}
 use mathlib.Core.Logic.{_≢_, _⊎_, inl, inr}
 use Prim.Native.Nat.{ℕ, _≤_, _+_ as _+ⁿ_, _-_ as _-ⁿ_}
 use native.Mathlib.Omega.{arith}
 use Rattle.ring.proofs.Laws as rg
 use Rattle.ring.specs.Ring.{Ops, CRing}
-use Rattle.ring.proofs.Solve.{Expr, exprs, var, hyp, one, zer, minus, _:+_, _:*_, _:=_, solve, solve-by, ring₁, ring₃}
+use Rattle.ring.proofs.Solve.{exprs, var, hyp, one, zer, minus, _:+_, _:*_, _:=_, solve, solve-by, ring₃}
 use Rattle.cubic.specs.Tri.{triE, normT}
 use Rattle.valued.specs.Val.{Valued}
 use Rattle.valued.specs.Degree.{HasDeg, Has, Lt, Leads}
 use Rattle.valued.specs.Polynomial.{polys, IsUnit}
 use Rattle.valued.proofs.Degree as d
-use Rattle.valued.proofs.Compare.{has-scale, has-unscale, leads-mul, leads-unique, leads-one, k-zero}
-use Rattle.valued.proofs.Polynomial.{P-path, view, degree, factor, unit-of, unit-const, const-path, not-zero}
+use Rattle.valued.proofs.Compare.{has-scale, has-unscale, leads-mul, leads-unique, k-zero}
+use Rattle.valued.proofs.Polynomial.{view, unit-of, unit-const, const-path, not-zero}
 use Rattle.ideals.specs.Setting.{Setting, P}
 use Rattle.ideals.specs.Element.{O, sc, ev, Y, Z, norm, cof}
 use Rattle.ideals.specs.Ideal.{Basis}
-use Rattle.ideals.specs.Basis.{Good}
 use Rattle.ideals.specs.Next.{Start}
 use Rattle.ideals.proofs.Sizes.{sc-a, sc-cancel, ev-sc, three-a}
 use Rattle.ideals.proofs.Values.{Q, Q-YZ, Q-mul, Q-one, ev-Q, ev-mul, ev-one, norm-mul, norm-cof, plain}
 use Rattle.ideals.proofs.Form.{has-two, has-three, form-lt}
 use Rattle.ideals.proofs.Lattice.{sc-mul}
 use Rattle.ideals.proofs.Norm.{YZ-lt, Q-deg}
-use Rattle.chain.specs.Chain.{Chain, tops, bottoms, Product, Closing}
+use Rattle.chain.specs.Chain.{tops, bottoms, Closing}
 use Rattle.chain.specs.Unit.{UnitOf}
 use Rattle.chain.proofs.Walk.{same-products, closing-unique, chain-room}
 use Rattle.chain.proofs.Passed.{Passed, passed, bottoms-deg}

@@ -6,7 +6,7 @@ use mathlib.Core.Path.{_≡_}
 use Prim.Native.Nat.{ℕ}
 use Rattle.ring.specs.Ring.{Ops}
 use Rattle.valued.specs.Degree.{Leads}
-use Rattle.valued.specs.Polynomial.{polys, IsUnit}
+use Rattle.valued.specs.Polynomial.{IsUnit}
 use Rattle.ideals.specs.Setting.{Setting, P}
 use Rattle.ideals.specs.Element.{O, sc}
 use Rattle.ideals.specs.Ideal.{Basis}
