@@ -32,7 +32,7 @@ use Rattle.ideals.proofs.Reduced.{OnlyPolys, reduced-of}
 use Rattle.ideals.proofs.Divided.{next-ideal, next-reduced, next-unique}
 use Rattle.chain.proofs.Parts.{Parts, Cut, x1, y1, pt, base, base-next}
 use Rattle.chain.proofs.Room.{Room, room}
-use Rattle.chain.proofs.Turned.{Pair, Turned, Alone}
+use Rattle.chain.proofs.Changed.{Pair, Changed, Alone}
 use Rattle.chain.proofs.Frame.{pair, off, Framed, Rebased, rebased-to, rebased-U, rebased-rank, rebased-alone, rebased-over}
 
 module _ (S : Setting) where
@@ -139,8 +139,8 @@ module _ (S : Setting) where
       by-one : (a : P S) → Divides 𝓥 (B .U) a
       by-one a = (a, sym (ap (λ t. t ⊠ a) e ∙ rg.one-mul Rg a))
 
-  pub order-correct : (B : Basis S) → B .U ≡ 1ₚ → Turned 𝓥 (record { b = 1ₚ; c = 0ₚ }) (record { b = 0ₚ; c = 1ₚ }) (pair S (B .M)) (pair S (B .N)) → Ends B → Start S B
-  order-correct B U-one turn e = record {
+  pub order-correct : (B : Basis S) → B .U ≡ 1ₚ → Changed 𝓥 (record { b = 1ₚ; c = 0ₚ }) (record { b = 0ₚ; c = 1ₚ }) (pair S (B .M)) (pair S (B .N)) → Ends B → Start S B
+  order-correct B U-one change e = record {
     good = record {
       ideal = record { U≢ = nz; rank = rank; one = in-U S B; only = only-of-rank S B nz rank; by-r = λ v i. whole (el-r S ⊗ v); by-w = λ v i. whole (el-w S ⊗ v) };
       basis = ends-basis B e;
@@ -158,7 +158,7 @@ module _ (S : Setting) where
         unit = 1ₚ;
         is-unit = (1ₚ, sym (Rg .laws .mul-one 1ₚ));
         U-eq = U-one ∙ sym (Rg .laws .mul-one 1ₚ);
-        turn = turn;
+        change = change;
       }
 
       nz : B .U .0 ≢ 𝟎

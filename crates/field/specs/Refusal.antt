@@ -23,7 +23,7 @@ use Rattle.valued.specs.Polynomial.{Squarefree, Coprime}
 use Rattle.valued.specs.Factor.{SquareFactor, CommonFactor}
 use Rattle.reading.specs.Reading.{Reading}
 use Rattle.reading.specs.Made.{reading}
-use Rattle.poly.specs.Factors.{polynomial}
+pub use Rattle.poly.specs.Factors.{polynomial}
 use Rattle.prime.specs.Table.{largest}
 
 -- the most coefficients of G and of H, and the most that deg G + deg H may be
