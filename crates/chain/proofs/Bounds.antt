@@ -1,4 +1,4 @@
--- How large x0 .. y2 of 4.1 are, so that code knows that its rows hold them.
+-- How large x0 .. y2 (Parts) are, so that code knows that its rows hold them.
 --   Bounds bounds   deg x1 ≤ deg r, deg y1 ≤ deg w, and x0 w, x2 w, y0 r, y2 r have degree below deg GH
 use mathlib.Core.Path.{_≡_, sym, ap, _∙_}
 use mathlib.Core.List.{[], _∷_}

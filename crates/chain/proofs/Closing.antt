@@ -1,4 +1,4 @@
--- 5.2: the chain closes where U = 1, which is where the ideal is the whole order; then its basis is the order's own.
+-- The chain closes where U = 1, which is where the ideal is the whole order; then its basis is the order's own.
 --   whole-of-one   U = 1: the lattice is the order
 --   one-of-whole   1 in the lattice: U = 1
 --   start-of-one   so a good basis with U = 1 is that of the order

@@ -1,4 +1,4 @@
--- Section 4 put together: what the reduction ends with is the scaled reduced basis of the next ideal, or of the order.
+-- The step put together: what the reduction ends with is the scaled reduced basis of the next ideal, or of the order.
 --   Ends Finished   the inequalities and leading coefficients at the end, in numbers and without
 --   step-correct    the seven polynomials made from the divided pairs of a good basis are the good basis of its next ideal
 --   order-correct   those made from (1, 0), (0, 1) and U = 1 are the basis of the order

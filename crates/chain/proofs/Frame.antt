@@ -1,4 +1,4 @@
--- Bases whose first row is settled by their pairs. In 4.1 the first coordinate of an element with the pair c₁, c₂ is −(c₁ x + c₂ y), up to
+-- Bases whose first row is settled by their pairs. In the step the first coordinate of an element with the pair c₁, c₂ is −(c₁ x + c₂ y), up to
 -- multiples of U: so only the pairs are carried through the reduction, and the first row is found at its end.
 --   Framed x y B    M0 = −(M1 x + M2 y) and N0 = −(N1 x + N2 y) modulo U
 --   Rebased B B′    both framed, U′ = U times a unit, and the pairs of B′ are those of B changed

@@ -1,4 +1,4 @@
--- 4.3, level: the first row, so that deg Z < 0.
+-- Levelling: the first row, so that deg Z < 0.
 --   Levelled        a = (T − R)/2, where T is the polynomial part of X and R the remainder of T + 2(b x + c y) by U
 --   level-frame     then a = −(b x + c y) modulo U
 --   level-Z         and deg Z < deg U

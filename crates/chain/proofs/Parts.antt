@@ -1,4 +1,4 @@
--- 4.1: dividing an ideal by m without cofactor or norm.
+-- Dividing an ideal by m without cofactor or norm.
 --   Parts          r m = x0 + x1 m + x2 n and w m = y0 + y1 m + y2 n, as exact quotients by e and by U
 --   parts          they exist for every ideal; `parts-unique`: there is one choice
 --   pt c₁ c₂       c₁ (r − x1) + c₂ (w − y1): an element settled by its pair c₁, c₂

@@ -1,4 +1,4 @@
--- 5.1 (demand 3): the three basis elements times all minima passed fill the order.
+-- Demand 3: the three basis elements times all minima passed fill the order.
 --   over-step over-start   E · (Λ/U) = O goes on to E m, and starts with 1
 --   Passed passed          the product E of the m passed lies in the order, has the degree sum as its degree, and E · (Λ/U) = O
 --   Spans spans            so E, E m, E n lie in the order, span it, and their determinant is a unit, a constant that is not 0

@@ -1,4 +1,4 @@
--- 4.3 as a theorem: every two pairs of rank 2 can be changed into a reduced pair, for each degree u of U.
+-- The reduction as a theorem: every two pairs of rank 2 can be changed into a reduced pair, for each degree u of U.
 --   el            the element with a pair and first coordinate 0: X and Y see the pair only
 --   swap shear    the two moves: m, n to n, m, and n to n + c m
 --   Shape         deg X(n) < deg X(m), deg Y(m) < u ≤ deg Y(n)

@@ -1,4 +1,4 @@
--- 4.2: d is not 0, and how large the pairs are from which the reduction starts.
+-- d is not 0, and how large the pairs are from which the reduction starts.
 --   Room room    with s = deg GH − deg g and u the degree of d/g: P and Q, without g, have sizes at most a and b, where a + b = s + u is
 --                the degree of their determinant X(P) Y(Q) − X(Q) Y(P); u < a < s and u < b < s
 --   d-deg d-not-zero   deg d, and that d is not 0

@@ -1,4 +1,4 @@
--- 5.4: how long the rows of the unit, of its inverse, and of the products on the way are.
+-- How long the rows of the unit, of its inverse, and of the products on the way are.
 --   Fit c v        the three rows of v fit c coefficients
 --   unit-rows      deg E = n = 2h: rows of E have degree at most n, rows of F at most h
 --   unit-fits      so c coefficients hold all six rows exactly where c ≥ n + 1

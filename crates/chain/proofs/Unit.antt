@@ -1,4 +1,4 @@
--- 5.3: what the chain passed from the order to a closing is a unit, of even degree.
+-- What the chain passed from the order to a closing is a unit, of even degree.
 --   norm-eq Q-E half       for E F = 1: the norms are units, the cofactor's value has the opposite degree, and the degree is even
 --   large                  a unit of positive degree: Y and Z lie below 0, and E0 has the degree of E
 --   inverse-cof cof-inverse   F = cof(E)/N(E), and where N(E) is a unit that is the inverse

@@ -1,4 +1,4 @@
--- Section 7, membership: v lies in Λ exactly where three divisions are exact, two by e (Cramer's rule) and one by U.
+-- Membership: v lies in Λ exactly where three divisions are exact, two by e (Cramer's rule) and one by U.
 --   Coords            the three exact divisions; `coords-of` and `in-of` say that they are the same as `In`
 --   only-of-rank      "of the fractions of polynomials, only the polynomials" follows from the rank
 --   ideal-of          an ideal is U ≠ 0, e ≠ 0 and six memberships; `by-r`, `by-w` of Lattice write out their elements

@@ -1,4 +1,4 @@
--- 3.4: how large the rows of the scaled reduced basis of a reduced ideal are.
+-- How large the rows of the scaled reduced basis of a reduced ideal are.
 --   Small small    all of it: deg U < deg GH, rows at most deg GH, M0 monic, deg m = deg M0 − deg U between 1 and deg GH
 --   Fits fits      no row above deg GH
 --   det-lead       lead(e) · lead(GH) = −1: the leading coefficient of e needs no inversion

@@ -1,4 +1,4 @@
--- 4.4: the next ideal is one, it is reduced, and it has one basis.
+-- The next ideal is one, it is reduced, and it has one basis.
 --   ev-M norm-M      the value of m has the degree of X(m), and the norm of M is not 0
 --   poly-only        only polynomials have all sizes at most 0 in the next ideal
 --   next-ideal       what is the next of an ideal is an ideal
@@ -103,11 +103,11 @@ module _ (S : Setting) where
           (solve-by (O S) (var 0 :* var 1) (var 0 :* (var 2 :* var 3)) (hyp one (var 0 :* var 1) (var 4 :* (var 2 :* var 5)) ∷ hyp (minus (var 2)) (var 0 :* var 3) (var 4 :* var 5) ∷ []) tt
           (B .M ∷ v′ ∷ x ∷ v ∷ sc S (B′ .U) ∷ u ∷ []) (e′, (e, tt)))) i′
 
-  -- 4.4
+  -- so the next ideal is reduced
   pub next-reduced : (B B′ : Basis S) → Good S B → Next S B B′ → B′ .U .0 ≢ 𝟎 → det S B′ .0 ≢ 𝟎 → ReducedBasis S B′ → Reduced S B′
   next-reduced B B′ good next nz rank basis = reduced-of S B′ nz rank basis (poly-only B B′ good next)
 
-  -- The relation `Next` settles the ideal, and so (3.2) its scaled reduced basis.
+  -- The relation `Next` settles the ideal, and so its scaled reduced basis.
   pub next-same : (B B′ B″ : Basis S) → Good S B → Next S B B′ → Next S B B″ → Same S B′ B″
   next-same B B′ B″ good n′ n″ = record {
     into = λ v i.

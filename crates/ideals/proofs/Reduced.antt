@@ -1,4 +1,4 @@
--- 3.5: reduced by degrees is the same as "1 is a minimum".
+-- Reduced by degrees is the same as "1 is a minimum".
 --   OnlyPolys        only polynomials have all sizes at most those of 1
 --   reduced-of       then the ideal is reduced
 --   only-of          and if it is reduced, only polynomials do

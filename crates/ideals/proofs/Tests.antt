@@ -1,4 +1,4 @@
--- Section 7: the tests of refusal 9. Each is decided on rows; each is necessary, and together they are the definition.
+-- The tests of refusal 9. Each is decided on rows; each is necessary, and together they are the definition.
 --   Tests               the list of tests
 --   good-of tests-of    it is the same as `Good`
 --   no-factor-gcd       the seven have no common factor exactly where their greatest common divisor is a unit
