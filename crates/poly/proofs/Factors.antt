@@ -94,6 +94,13 @@ euclid-end p a b x y n m i z = record {
       span-gcd R (polynomial p pr a) (polynomial p pr b) (polynomial p pr x) (row R y) (i .each pr) (zero-row R y (subst (λ j. Size y j) (let e : m ≡ 0 = omega arith in e) (i .sy)));
 }
 
+-- a row is its greatest common divisor with 0
+pub common-self : (p : ℕ) (x d : List ℕ) (m : ℕ) → Row p x → Size d m → m ≡ 0 → Common p x d x
+common-self p x d m h s e = record {
+  is-row = h;
+  law = λ pr. let R = reading p pr in span-gcd R (polynomial p pr x) (polynomial p pr d) (polynomial p pr x) (row R d) (span-start R (row R x) (row R d)) (zero-row R d (subst (λ j. Size d j) e s));
+}
+
 -- ---- the tests
 module _ (p : ℕ) (pr : Prime p) (g : List ℕ) (hg : Row p g) where
   unit-one : Size g 1 → IsUnit (reading p pr .𝓥) (polynomial p pr g)
