@@ -2,3 +2,4 @@ pub mod Leaf
 pub mod Terms
 pub mod Division
 pub mod Factors
+pub mod Floors

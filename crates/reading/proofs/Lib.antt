@@ -8,3 +8,4 @@ pub mod Quotient
 pub mod Derivative
 pub mod Square
 pub mod Euclid
+pub mod FloorSum
