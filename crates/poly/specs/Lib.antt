@@ -2,4 +2,3 @@ pub mod Leaf
 pub mod Terms
 pub mod Division
 pub mod Factors
-pub mod Floors

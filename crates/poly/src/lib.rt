@@ -11,9 +11,8 @@ ghost use Rattle.poly.specs.Leaf.{CrossIn, Crossed, CrossAt, MulIn, Prod
 ghost use Rattle.poly.specs.Terms.{MoreIn, More, PartIn, Part, PlaceIn};
 ghost use Rattle.poly.specs.Division.{DivIn, Quotient, Exact, Divided, DigitIn, Digit};
 ghost use Rattle.poly.specs.Factors.{Derived, Over, OverBoth, Common, SquareTest, CoprimeTest};
-ghost use Rattle.poly.specs.Floors.{FloorIn, Floored, FallIn};
 ghost use Rattle.reading.specs.Row.{shiftAt};
-ghost use Rattle.reading.specs.Sum.{sumTo, termAt, fallTerm};
+ghost use Rattle.reading.specs.Sum.{sumTo, termAt};
 
 // The trimmed length of x, whose coefficients from n on are 0.
 pub fn size_from(x: &[u64; 32], n: usize) -> usize
@@ -323,33 +322,4 @@ pub fn coprime(p: u64, x: &[u64; 32], y: &[u64; 32]) -> bool
     let g = gcd(p, x, y);
     let n = size(&g);
     if n == 1 { true } else { false }
-}
-
-// Coefficient j of b times the series s of degree d: the sum of the b[i] s[d + i - j].
-fn fall_sum(p: u64, b: &[u64; 32], n: usize, s: &[u64; 32], d: usize, j: usize) -> u64
-    requires { ⌜ FallIn p (now b) n (now s) d j ⌝ }
-    ensures { λ r. ⌜ r ≡ sumTo (fallTerm (now (b .entry)) (now (s .entry)) d j) n % p ⌝ }
-{
-    let mut v: u64 = 0;
-    let mut i = if d < j { j - d } else { 0 };
-    while i < n {
-        v = more(p, v, b[i], s[d + i - j]);
-        i += 1;
-    }
-    v % p
-}
-
-// The polynomial part of b times the series s of degree d, of which s holds the first 32 coefficients, highest first.
-pub fn floor_mul(p: u64, b: &[u64; 32], s: &[u64; 32], d: usize) -> [u64; 32]
-    requires { ⌜ FloorIn p (now b) (now s) d ⌝ }
-    ensures { λ r. ⌜ Floored p (now (b .entry)) (now (s .entry)) d r ⌝ }
-{
-    let n = size(b);
-    let mut r: [u64; 32] = [0; 32];
-    let mut j: usize = 0;
-    while j < d + n {
-        r[j] = fall_sum(p, b, n, s, d, j);
-        j += 1;
-    }
-    r
 }

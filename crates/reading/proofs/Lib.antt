@@ -8,4 +8,3 @@ pub mod Quotient
 pub mod Derivative
 pub mod Square
 pub mod Euclid
-pub mod FloorSum
