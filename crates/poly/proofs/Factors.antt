@@ -27,7 +27,7 @@ use Rattle.reading.proofs.Turn.{comb-drop}
 use Rattle.reading.proofs.Floors.{sized, zero-row, top-not}
 use Rattle.reading.proofs.Derivative.{derivative-law}
 use Rattle.reading.proofs.Square.{∂, squarefree-unit, square-factor}
-use Rattle.reading.proofs.Euclid.{Span, span-start, span-swap, span-turn, span-gcd}
+use Rattle.turn.proofs.Euclid.{Span, span-start, span-swap, span-turn, span-gcd}
 use Rattle.poly.specs.Leaf.{Given, CrossIn, Crossed}
 use Rattle.poly.specs.Factors.{polynomial, Derived, Over, OverBoth, Common, SquareTest, CoprimeTest}
 use Rattle.poly.proofs.Leaf.{size-one}

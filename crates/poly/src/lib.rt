@@ -201,7 +201,16 @@ pub fn from_list(s: &[u64]) -> [u64; 32]
 }
 
 // The coefficient of a / b at k, where q holds those above, up to top.
-fn digit(p: u64, a: &[u64; 32], q: &[u64; 32], b: &[u64; 32], m: usize, il: u64, top: usize, k: usize) -> u64
+fn digit(
+    p: u64,
+    a: &[u64; 32],
+    q: &[u64; 32],
+    b: &[u64; 32],
+    m: usize,
+    il: u64,
+    top: usize,
+    k: usize,
+) -> u64
     requires { ⌜ DigitIn p (now a) (now q) (now b) m il top k ⌝ }
     ensures { λ v. ⌜ Digit p (now (a .entry)) (now (q .entry)) (now (b .entry)) m il k v ⌝ }
 {

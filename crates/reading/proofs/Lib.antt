@@ -7,4 +7,3 @@ pub mod Unique
 pub mod Quotient
 pub mod Derivative
 pub mod Square
-pub mod Euclid

@@ -48,8 +48,7 @@ module _ {p : ℕ} (ρ : Reading p) (δ : Derivation ρ) where
 
   pub squarefree-unit : (G g : Poly 𝓥) → IsGcd 𝓥 G (∂ G) g → IsUnit 𝓥 g → Squarefree 𝓥 G
   squarefree-unit G g h u d (q, e) =
-      coprime-unit 𝓥 h u d (d * q, e ∙ R .laws .mul-assoc d d q)
-      (
+      coprime-unit 𝓥 h u d (d * q, e ∙ R .laws .mul-assoc d d q) (
         d * ∂ q + (∂ d + ∂ d) * q,
         ap ∂ e ∙ ∂-mul (d * d) q ∙ ap (λ x. x * q + d * d * ∂ q) (∂-mul d d)
             ∙ solve R ((var 2 :* var 0 :+ var 0 :* var 2) :* var 1 :+ var 0 :* var 0 :* var 3) (var 0 :* (var 0 :* var 3 :+ (var 2 :+ var 2) :* var 1)) tt (d ∷ q ∷ ∂ d ∷ ∂ q ∷ []),
