@@ -10,7 +10,6 @@ use mathlib.Core.List.{[], _∷_}
 use mathlib.Core.Logic.{_≢_, _⊎_, inl, inr}
 use Prim.Native.Nat.{ℕ, zero, suc, _≤_, _<_, _+_ as _+ⁿ_}
 use native.Mathlib.Omega.{arith}
-use Rattle.ring.proofs.Laws as rg
 use Rattle.ring.specs.Ring.{Ops, CRing}
 use Rattle.ring.proofs.Solve.{var, one, zer, minus, _:+_, _:*_, _:=_, solve, ring₁}
 use Rattle.valued.specs.Val.{Valued}

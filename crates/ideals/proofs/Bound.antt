@@ -23,7 +23,7 @@ use Rattle.valued.proofs.Polynomial.{P-path, view, degree, factor}
 use Rattle.valued.proofs.Divide.{Bez, bez-sym, coprime-bez, euclid, cube-divides, p-cancel}
 use Rattle.ideals.specs.Setting.{Setting, P, dGH}
 use Rattle.ideals.specs.Element.{O, X, Y}
-use Rattle.ideals.proofs.Values.{form′, X-form}
+use Rattle.ideals.proofs.Values.{X-form}
 use Rattle.ideals.proofs.Form.{form′-has}
 
 module _ (S : Setting) where

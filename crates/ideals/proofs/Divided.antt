@@ -4,20 +4,20 @@
 --   next-ideal       what is the next of an ideal is an ideal
 --   next-reduced     and it is reduced
 --   next-same next-unique   a basis has one next
-use mathlib.Core.Path.{_≡_, refl, sym, ap, _∙_, subst}
+use mathlib.Core.Path.{_≡_, sym, ap, _∙_, subst}
 use mathlib.Core.List.{[], _∷_}
 use mathlib.Core.Logic.{_≢_}
 use Prim.Native.Nat.{ℕ, suc, _<_, _+_ as _+ⁿ_}
 use native.Mathlib.Omega.{arith}
 use Rattle.ring.specs.Ring.{Ops}
-use Rattle.ring.proofs.Solve.{var, hyp, solve-by, one, minus, _:+_, _:*_, _:=_, ring₃}
+use Rattle.ring.proofs.Solve.{var, hyp, solve-by, one, minus, _:*_, _:=_, ring₃}
 use Rattle.valued.specs.Val.{Valued}
 use Rattle.valued.specs.Degree.{Has, Lt}
 use Rattle.valued.specs.Polynomial.{polys}
 use Rattle.valued.proofs.Degree as d
 use Rattle.valued.proofs.Compare.{lt-mul-sharp, has-scale, has-unscale, lt-scale, lt-unscale}
 use Rattle.ideals.specs.Setting.{Setting}
-use Rattle.ideals.specs.Element.{O, sc, el-r, el-w, ev, X, Y, Z, norm}
+use Rattle.ideals.specs.Element.{O, sc, el-r, el-w, ev, Y, Z, norm}
 use Rattle.ideals.specs.Ideal.{Basis, In, det, Ideal}
 use Rattle.ideals.specs.Basis.{ReducedBasis, Reduced, Good}
 use Rattle.ideals.specs.Next.{Next, Same}

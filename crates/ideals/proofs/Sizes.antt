@@ -14,7 +14,6 @@ use Rattle.cubic.specs.Tri.{Tri, triE}
 use Rattle.cubic.specs.Order.{triops}
 use Rattle.valued.specs.Val.{Valued}
 use Rattle.valued.specs.Degree.{Has}
-use Rattle.valued.specs.Polynomial.{polys}
 use Rattle.valued.proofs.Degree as d
 use Rattle.valued.proofs.Polynomial.{P-path}
 use Rattle.ideals.specs.Setting.{Setting, P}

@@ -2,10 +2,10 @@
 --   same-sym     "the ideals are one" is symmetric
 --   half-M half-N   what the M and the N of two reduced bases of one ideal have to do with one another
 --   unique       two scaled reduced bases of one ideal are equal, row by row; `good-unique` for reduced ideals
-use mathlib.Core.Path.{_≡_, refl, sym, ap, ap₂, _∙_, subst}
+use mathlib.Core.Path.{_≡_, sym, ap, ap₂, _∙_, subst}
 use mathlib.Core.List.{List, [], _∷_}
 use mathlib.Core.Logic.{_≢_, _⊎_, inl, inr}
-use Prim.Native.Nat.{ℕ, zero, _+_ as _+ⁿ_}
+use Prim.Native.Nat.{ℕ, _+_ as _+ⁿ_}
 use native.Mathlib.Omega.{arith}
 use Rattle.ring.proofs.Laws as r
 use Rattle.ring.specs.Ring.{Ops}
@@ -15,7 +15,7 @@ use Rattle.valued.specs.Degree.{HasDeg, Has, Lt}
 use Rattle.valued.specs.Polynomial.{polys, Divides}
 use Rattle.valued.proofs.Degree as d
 use Rattle.valued.proofs.Compare.{leads-one}
-use Rattle.valued.proofs.Polynomial.{P-path, degree, factor, one-of}
+use Rattle.valued.proofs.Polynomial.{P-path, factor, one-of}
 use Rattle.valued.proofs.Gcds.{gcds, comb-divides}
 use Rattle.ideals.specs.Setting.{Setting, P}
 use Rattle.ideals.specs.Element.{O, sc, X, Y, Z}
