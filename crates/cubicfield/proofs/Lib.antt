@@ -2,7 +2,6 @@ pub mod Pair
 pub mod First
 pub mod Begin
 pub mod Near
-pub mod Constants
 pub mod Root
 pub mod Only
 pub mod Prefix

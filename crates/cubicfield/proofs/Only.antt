@@ -20,9 +20,9 @@ use Rattle.field.specs.Refusal.{Degree, Accepted}
 use Rattle.cubicfield.specs.First.{conv, Begins}
 use Rattle.cubicfield.specs.SeriesOf.{top, entry, prod, SeriesOf}
 use Rattle.cubicfield.proofs.First.{convᵏ}
-use Rattle.cubicfield.proofs.Begin.{begins-row, begins-only, begins-floor, cast-conv}
+use Rattle.cubicfield.proofs.Begin.{begins-row, begins-only, begins-floor, cast-conv, same-cast, cast-cube}
 use Rattle.cubicfield.proofs.Near.{pair-begins}
-use Rattle.cubicfield.proofs.Constants.{cast-cube, same-cast, three-not, cube-inj}
+use Rattle.reading.proofs.Constants.{three≢, cube-inj}
 use Rattle.cubicfield.proofs.Root.{degR, degW, sizes, leadR, leadR-cube, leadR-not, H-has, root-r, root-w, root-pair}
 
 -- a list of coefficients, read from its leading one
@@ -47,7 +47,7 @@ module _ {p : ℕ} {G H : List ℕ} (A : Accepted p G H) (pr : Prime p) where
       → Begins (reading p pr) (length r) (λ i. reading p pr .cast (entry r i)) (degR (A .degG) (A .degH)) (root-r A pr)
       × Begins (reading p pr) (length r) (λ i. reading p pr .cast (entry w i)) (degW (A .degG) (A .degH)) (root-w A pr)
   series-of-begins {r} {w} s =
-      pair-begins ρ (sizes A pr) (leadR-not A pr) (three-not ρ pr (A .kind)) (H-has A pr) (root-pair A pr) (length r) g h (λ i. cast (entry r i)) (λ i. cast (entry w i))
+      pair-begins ρ (sizes A pr) (leadR-not A pr) (three≢ ρ pr (A .kind)) (H-has A pr) (root-pair A pr) (length r) g h (λ i. cast (entry r i)) (λ i. cast (entry w i))
       (begins-row ρ (length r) (A .degG) G (A .listG .whole)) (begins-row ρ (length r) (A .degH) H (A .listH .whole)) first
       (λ i l. sym (cast-conv ρ i (entry r) (entry r)) ∙ same-cast ρ _ _ (s .square i l) ∙ cast-conv ρ i (top H) (entry w) ∙ ap (λ f. convᵏ ρ f (λ j. cast (entry w j)) i) (sym h-is))
       (λ i l. sym (cast-conv ρ i (entry r) (entry w)) ∙ same-cast ρ _ _ (s .product i l) ∙ cast-conv ρ i (top G) (top H) ∙ ap₂ (λ f k. convᵏ ρ f k i) (sym g-is) (sym h-is))

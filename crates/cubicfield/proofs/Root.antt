@@ -22,14 +22,16 @@ use Rattle.reading.specs.Reading.{Reading}
 use Rattle.reading.specs.Made.{reading, cube-roots}
 use Rattle.reading.specs.Roots.{CubeRoots}
 use Rattle.reading.specs.Row.{row}
-use Rattle.field.specs.Refusal.{Degree, Accepted, polynomial}
+use Rattle.poly.specs.Factors.{polynomial}
+use Rattle.field.specs.Refusal.{Degree, Accepted}
 use Rattle.field.proofs.Accept.{degree-size, degree-has}
 use Rattle.reading.proofs.Rows.{size-lead}
 use Rattle.ideals.specs.Setting.{Setting}
 use Rattle.cubicfield.specs.Pair.{RootPair}
 use Rattle.cubicfield.proofs.Pair.{three, w-has, pair-from}
 use Rattle.cubicfield.proofs.Near.{Sizes}
-use Rattle.cubicfield.proofs.Constants.{cast-cube, same-cast, two-not, three-not, form-zero}
+use Rattle.cubicfield.proofs.Begin.{cast-cube}
+use Rattle.reading.proofs.Constants.{two≢, three≢, form}
 
 abbrev pub degR : ℕ → ℕ → ℕ
 degR d e = (d + 2 * e) / 3
@@ -109,7 +111,7 @@ module _ {p : ℕ} {G H : List ℕ} (A : Accepted p G H) (pr : Prime p) where
 
   both : (r : L .El) × (w : L .El) × RootPair 𝓥 (row ρ G) (row ρ H) dr leadR r w
   both =
-      let (r, e, l) = cube-roots p pr .cube-root (row ρ G *ˡ (row ρ H *ˡ row ρ H)) dr leadR leadR-not (three-not ρ pr (A .kind)) D-lead in
+      let (r, e, l) = cube-roots p pr .cube-root (row ρ G *ˡ (row ρ H *ˡ row ρ H)) dr leadR leadR-not (three≢ ρ pr (A .kind)) D-lead in
       let (w, h) = pair-from 𝓥 H-has e l in
       (r, w, h)
 
@@ -132,8 +134,8 @@ module _ {p : ℕ} {G H : List ℕ} (A : Accepted p G H) (pr : Prime p) where
   abbrev pub setting : Setting
   setting = record {
     𝓥 = reading p pr .𝓥;
-    two≢ = two-not (reading p pr) (let l : 5 ≤ p = A .low in omega arith);
-    form = form-zero (reading p pr) pr (A .kind);
+    two≢ = two≢ (reading p pr) pr (A .kind) (let l : 5 ≤ p = A .low in omega arith);
+    form = form (reading p pr) pr (A .kind);
     G = polynomial p pr G;
     H = polynomial p pr H;
     G-free = A .freeG pr;
