@@ -10,9 +10,11 @@ use Rattle.valued.specs.Val.{Valued}
 use Rattle.valued.specs.Polynomial.{polys, Poly, Divides}
 use Rattle.valued.specs.Gcd.{IsGcd}
 use Rattle.valued.proofs.Polynomial.{P-path}
 use Rattle.reading.specs.Reading.{Reading}
 use Rattle.reading.specs.Row.{tpow}
-use Rattle.reading.proofs.Turn.{Pt, comb, Turned, Moved, moved-start, moved-swap, moved-turn, moved-back}
+use Rattle.reading.proofs.Turn.{comb}
+use Rattle.turn.specs.Points.{Pt, Turned, Moved}
+use Rattle.turn.proofs.Turn.{moved-start, moved-swap, moved-turn, moved-back}
 
 module _ {p : ℕ} (ρ : Reading p) where
   open Reading ρ using (𝓥)
@@ -27,20 +29,20 @@ module _ {p : ℕ} (ρ : Reading p) where
   alone x = record { b = x; c = 𝟎 }
 
   abbrev pub Span : L .El → L .El → L .El → L .El → Type 0
-  Span a b x y = Moved ρ 𝟎 𝟎 (alone a) (alone b) (alone x) (alone y)
+  Span a b x y = Moved ρ (alone a) (alone b) (alone x) (alone y)
 
   pub span-start : (a b : L .El) → Span a b a b
-  span-start a b = moved-start ρ 𝟎 𝟎 (alone a) (alone b)
+  span-start a b = moved-start ρ (alone a) (alone b)
 
   pub span-swap : {a b x y : L .El} → Span a b x y → Span a b y x
-  span-swap h = moved-swap ρ 𝟎 𝟎 h
+  span-swap h = moved-swap ρ h
 
   pub span-turn : {a b x y z : L .El} (s c : K .El) (k : ℕ) → s ≢ K .ops .𝟎 → Span a b x y → z ≡ comb ρ s c k x y → Span a b z y
-  span-turn s c k hs h e = moved-turn ρ 𝟎 𝟎 hs h (record { at-b = e; at-c = solve L zer (var 0 :* zer :+ minus (var 1 :* (var 2 :* zer))) tt (const s ∷ const c ∷ tpow ρ k ∷ []) })
+  span-turn s c k hs h e = moved-turn ρ hs h (record { at-b = e; at-c = solve L zer (var 0 :* zer :+ minus (var 1 :* (var 2 :* zer))) tt (const s ∷ const c ∷ tpow ρ k ∷ []) })
 
   pub span-gcd : (a b x : Poly (ρ .𝓥)) (y : L .El) → Span (a .0) (b .0) (x .0) y → y ≡ 𝟎 → IsGcd (ρ .𝓥) a b x
   span-gcd a b x y h z =
-      let g = moved-back ρ 𝟎 𝟎 h in record {
+      let g = moved-back ρ h in record {
         left = ((g .α, g .α-poly), P-path 𝓥 (part (a .0) (g .α) (g .β) (g .m-b)));
         right = ((g .γ, g .γ-poly), P-path 𝓥 (part (b .0) (g .γ) (g .δ) (g .n-b)));
         u = (h .α, h .α-poly);
