@@ -127,9 +127,9 @@ module _ (S : Setting) (B : Basis S) (s : Small S B) where
       let yE = m1 :* rr :+ minus (m2 :* ww) in
       let zE = (one :+ one) :* m0 :+ minus (m1 :* rr) :+ minus (m2 :* ww) in
       let low-y : Lt 𝓥 (B .M .a .0 + - (B .M .b .0 * r)) (s .u) = half-lt (ZM + - YM) (d.lt-add 𝓥 Z-lt (d.lt-neg 𝓥 Y-lt))
-          (solve L (zE :+ minus yE) ((one :+ one) :* (m0 :+ minus (m1 :* rr))) tt ms) in
+      (solve L (zE :+ minus yE) ((one :+ one) :* (m0 :+ minus (m1 :* rr))) tt ms) in
       let low-z : Lt 𝓥 ((𝟏 + 𝟏) * (B .M .c .0 * w) + - B .M .a .0 + - (B .M .b .0 * r)) (s .u) = half-lt (- ((𝟏 + 𝟏 + 𝟏) * YM + ZM)) (d.lt-neg 𝓥 (d.lt-add 𝓥 (lt-scale 𝓥 (has-three S) Y-lt) Z-lt))
-          (solve L (minus ((one :+ one :+ one) :* yE :+ zE)) ((one :+ one) :* ((one :+ one) :* (m2 :* ww) :+ minus m0 :+ minus (m1 :* rr))) tt ms) in
+      (solve L (minus ((one :+ one :+ one) :* yE :+ zE)) ((one :+ one) :* ((one :+ one) :* (m2 :* ww) :+ minus m0 :+ minus (m1 :* rr))) tt ms) in
       record {
         X-lt = d.lt-eq 𝓥 (d.lt-up 𝓥 (suc (s .x +ⁿ S .dr)) (d.lt-has-mul 𝓥 (d.lt-add 𝓥 (d.has-up 𝓥 (suc (s .x)) (s .M0) (omega arith)) (d.has-up 𝓥 (suc (s .x)) (s .M1) (omega arith))) (S .r-deg)) (omega arith))
             (sym (solve-by L (m0 :* rr :+ m1 :* h :* ww) ((m0 :+ m1 :* rr) :* rr) (hyp (minus m1) (rr :* rr) (h :* ww) ∷ []) tt ms (S .r-r, tt)));
@@ -147,9 +147,9 @@ module _ (S : Setting) (B : Basis S) (s : Small S B) where
       let yE = m1 :* rr :+ minus (m2 :* ww) in
       let zE = (one :+ one) :* m0 :+ minus (m1 :* rr) :+ minus (m2 :* ww) in
       let low-y : Lt 𝓥 (B .M .c .0 * w + - B .M .a .0) (s .u) = half-lt (- (YM + ZM)) (d.lt-neg 𝓥 (d.lt-add 𝓥 Y-lt Z-lt))
-          (solve L (minus (yE :+ zE)) ((one :+ one) :* (m2 :* ww :+ minus m0)) tt ms) in
+      (solve L (minus (yE :+ zE)) ((one :+ one) :* (m2 :* ww :+ minus m0)) tt ms) in
       let low-z : Lt 𝓥 ((𝟏 + 𝟏) * (B .M .b .0 * r) + - (B .M .c .0 * w) + - B .M .a .0) (s .u) = half-lt ((𝟏 + 𝟏 + 𝟏) * YM + - ZM) (d.lt-add 𝓥 (lt-scale 𝓥 (has-three S) Y-lt) (d.lt-neg 𝓥 Z-lt))
-          (solve L ((one :+ one :+ one) :* yE :+ minus zE) ((one :+ one) :* ((one :+ one) :* (m1 :* rr) :+ minus (m2 :* ww) :+ minus m0)) tt ms) in
+      (solve L ((one :+ one :+ one) :* yE :+ minus zE) ((one :+ one) :* ((one :+ one) :* (m1 :* rr) :+ minus (m2 :* ww) :+ minus m0)) tt ms) in
       record {
         X-lt = d.lt-eq 𝓥 (d.lt-up 𝓥 (suc (s .x +ⁿ S .dw)) (d.lt-has-mul 𝓥 (d.lt-add 𝓥 (d.has-up 𝓥 (suc (s .x)) (s .M2) (omega arith)) (d.has-up 𝓥 (suc (s .x)) (s .M0) (omega arith))) (S .w-deg)) (omega arith))
             (sym (solve-by L (m2 :* g :* rr :+ m0 :* ww) ((m2 :* ww :+ m0) :* ww) (hyp (minus m2) (ww :* ww) (g :* rr) ∷ []) tt ms (w-w S, tt)));

@@ -23,8 +23,8 @@ use Rattle.ideals.specs.Basis.{Good}
 use Rattle.ideals.proofs.Degrees.{small}
 use Rattle.chain.proofs.Parts.{Parts, parts, Cut, base, base-d}
 use Rattle.chain.proofs.Room.{d-not-zero}
-use Rattle.record.specs.Roots.{Roots, setting}
-use Rattle.record.specs.Record.{polyOf}
+use Rattle.field.specs.Refusal.{Accepted}
+use Rattle.record.specs.Record.{setting, polyOf}
 use Rattle.generators.specs.Rows.{Seven, rowsOf, Holds}
 use Rattle.generators.specs.Quotients.{Det, CoordsIn, Coordinates, CutIn, Without, PairsIn, Pairing, Paired, fourDet}
 use Rattle.generators.specs.Generated.{GeneratorsIn, Generated, AreGenerators}
@@ -37,10 +37,10 @@ module _ {p : ℕ} {g h gh : List ℕ} {ie : ℕ} {b : Seven} (i : GeneratorsIn 
     {e m1h m2g m1gh m2gh : List ℕ} (de : Det p (b .m1) (b .n2) (b .m2) (b .n1) e) (h1 : Product p (b .m1) h m1h) (g2 : Product p (b .m2) g m2g)
     (h1g : Product p (b .m1) gh m1gh) (g2h : Product p (b .m2) gh m2gh) where
   abbrev ρ : Reading p
-  ρ = reading p (i .σ .acc .prime)
+  ρ = reading p (i .σ .prime)
 
   abbrev n : ℕ
-  n = i .σ .acc .degG + i .σ .acc .degH
+  n = i .σ .degG + i .σ .degH
 
   abbrev k : Parts (setting (i .σ)) (rowsOf (i .σ) b)
   k = parts (setting (i .σ)) (rowsOf (i .σ) b) (i .good .ideal)
@@ -48,16 +48,16 @@ module _ {p : ℕ} {g h gh : List ℕ} {ie : ℕ} {b : Seven} (i : GeneratorsIn 
   z : Sizes (i .σ) b
   z = sizes (i .σ) b (i .good)
 
-  m1h-lt : Lt (ρ .𝓥) (row ρ m1h) (suc (i .σ .dr + i .σ .dr))
-  m1h-lt = d.lt-eq (ρ .𝓥) (d.lt-up (ρ .𝓥) (suc (i .σ .dr + i .σ .dr)) (lt-mul-sharp (ρ .𝓥) (z .m1) (h-lt i)) (omega (arith, z .two-r))) (sym (h1 .law (i .σ .acc .prime)))
+  m1h-lt : Lt (ρ .𝓥) (row ρ m1h) (suc (setting (i .σ) .dr + setting (i .σ) .dr))
+  m1h-lt = d.lt-eq (ρ .𝓥) (d.lt-up (ρ .𝓥) (suc (setting (i .σ) .dr + setting (i .σ) .dr)) (lt-mul-sharp (ρ .𝓥) (z .m1) (h-lt i)) (omega (arith, z .two-r))) (sym (h1 .law (i .σ .prime)))
 
-  m2g-lt : Lt (ρ .𝓥) (row ρ m2g) (suc (i .σ .dw + i .σ .dw))
-  m2g-lt = d.lt-eq (ρ .𝓥) (d.lt-up (ρ .𝓥) (suc (i .σ .dw + i .σ .dw)) (lt-mul-sharp (ρ .𝓥) (z .m2) (g-lt i)) (omega (arith, z .two-r, z .both))) (sym (g2 .law (i .σ .acc .prime)))
+  m2g-lt : Lt (ρ .𝓥) (row ρ m2g) (suc (setting (i .σ) .dw + setting (i .σ) .dw))
+  m2g-lt = d.lt-eq (ρ .𝓥) (d.lt-up (ρ .𝓥) (suc (setting (i .σ) .dw + setting (i .σ) .dw)) (lt-mul-sharp (ρ .𝓥) (z .m2) (g-lt i)) (omega (arith, z .two-r, z .both))) (sym (g2 .law (i .σ .prime)))
 
-  r-near : Narrow (setting (i .σ)) (rowsOf (i .σ) b) (small (setting (i .σ)) (rowsOf (i .σ) b) (i .good)) (i .σ .dr) (k .of-r .α) (k .of-r .β) (k .of-r .γ)
+  r-near : Narrow (setting (i .σ)) (rowsOf (i .σ) b) (small (setting (i .σ)) (rowsOf (i .σ) b) (i .good)) (setting (i .σ) .dr) (k .of-r .α) (k .of-r .β) (k .of-r .γ)
   r-near = r-narrow (setting (i .σ)) (rowsOf (i .σ) b) (small (setting (i .σ)) (rowsOf (i .σ) b) (i .good)) (i .good) (k .of-r)
 
-  w-near : Narrow (setting (i .σ)) (rowsOf (i .σ) b) (small (setting (i .σ)) (rowsOf (i .σ) b) (i .good)) (i .σ .dw) (k .of-w .α) (k .of-w .β) (k .of-w .γ)
+  w-near : Narrow (setting (i .σ)) (rowsOf (i .σ) b) (small (setting (i .σ)) (rowsOf (i .σ) b) (i .good)) (setting (i .σ) .dw) (k .of-w .α) (k .of-w .β) (k .of-w .γ)
   w-near = w-narrow (setting (i .σ)) (rowsOf (i .σ) b) (small (setting (i .σ)) (rowsOf (i .σ) b) (i .good)) (i .good) (k .of-w)
 
   pub x-in : CoordsIn p m2gh (b .m0) m1h b e ie
@@ -70,17 +70,17 @@ module _ {p : ℕ} {g h gh : List ℕ} {ie : ℕ} {b : Seven} (i : GeneratorsIn 
     he = de .is-row;
     by-e = by-e i de;
     by-u = by-u i;
-    b-n2 = fits-of ρ (suc n) (i .σ .dr) (i .rows .m0) (i .rows .n2) (z .m0) (z .n2) (omega (arith, z .both, z .w-pos, z .all));
-    c-n1 = fits-of ρ (suc (i .σ .dr + i .σ .dr)) (i .σ .dw) (h1 .is-row) (i .rows .n1) m1h-lt (z .n1) (omega (arith, z .both, z .w-pos, z .all));
-    c-m1 = fits-of ρ (suc (i .σ .dr + i .σ .dr)) (suc (i .σ .dw)) (h1 .is-row) (i .rows .m1) m1h-lt (z .m1) (omega (arith, z .both, z .w-pos, z .all));
-    b-m2 = fits-of ρ (suc n) (suc (i .σ .dr)) (i .rows .m0) (i .rows .m2) (z .m0) (z .m2) (omega (arith, z .both, z .w-pos, z .all));
-    prime = i .σ .acc .prime;
+    b-n2 = fits-of ρ (suc n) (setting (i .σ) .dr) (i .rows .m0) (i .rows .n2) (z .m0) (z .n2) (omega (arith, z .both, z .w-pos, z .all));
+    c-n1 = fits-of ρ (suc (setting (i .σ) .dr + setting (i .σ) .dr)) (setting (i .σ) .dw) (h1 .is-row) (i .rows .n1) m1h-lt (z .n1) (omega (arith, z .both, z .w-pos, z .all));
+    c-m1 = fits-of ρ (suc (setting (i .σ) .dr + setting (i .σ) .dr)) (suc (setting (i .σ) .dw)) (h1 .is-row) (i .rows .m1) m1h-lt (z .m1) (omega (arith, z .both, z .w-pos, z .all));
+    b-m2 = fits-of ρ (suc n) (suc (setting (i .σ) .dr)) (i .rows .m0) (i .rows .m2) (z .m0) (z .m2) (omega (arith, z .both, z .w-pos, z .all));
+    prime = i .σ .prime;
     α = k .of-r .α .0;
     β = k .of-r .β .0;
     γ = k .of-r .γ .0;
     some = quot-r (i .σ) (i .holds) b de g2h h1 (k .of-r);
-    kβ = suc (i .σ .dr);
-    kγ = i .σ .dr;
+    kβ = suc (setting (i .σ) .dr);
+    kγ = setting (i .σ) .dr;
     β-lt = r-near .β-lt;
     γ-lt = r-near .γ-lt;
     room-m0 = λ m s. let q : m ≤ suc n = size-le ρ (suc n) (i .rows .m0) s (z .m0) in omega (arith, z .both, z .w-pos, z .all);
@@ -97,17 +97,17 @@ module _ {p : ℕ} {g h gh : List ℕ} {ie : ℕ} {b : Seven} (i : GeneratorsIn 
     he = de .is-row;
     by-e = by-e i de;
     by-u = by-u i;
-    b-n2 = fits-of ρ (suc (i .σ .dw + i .σ .dw)) (i .σ .dr) (g2 .is-row) (i .rows .n2) m2g-lt (z .n2) (omega (arith, z .both, z .r-pos, z .all));
-    c-n1 = fits-of ρ (suc n) (i .σ .dw) (i .rows .m0) (i .rows .n1) (z .m0) (z .n1) (omega (arith, z .both, z .r-pos, z .all));
-    c-m1 = fits-of ρ (suc n) (suc (i .σ .dw)) (i .rows .m0) (i .rows .m1) (z .m0) (z .m1) (omega (arith, z .both, z .r-pos, z .all));
-    b-m2 = fits-of ρ (suc (i .σ .dw + i .σ .dw)) (suc (i .σ .dr)) (g2 .is-row) (i .rows .m2) m2g-lt (z .m2) (omega (arith, z .both, z .r-pos, z .all));
-    prime = i .σ .acc .prime;
+    b-n2 = fits-of ρ (suc (setting (i .σ) .dw + setting (i .σ) .dw)) (setting (i .σ) .dr) (g2 .is-row) (i .rows .n2) m2g-lt (z .n2) (omega (arith, z .both, z .r-pos, z .all));
+    c-n1 = fits-of ρ (suc n) (setting (i .σ) .dw) (i .rows .m0) (i .rows .n1) (z .m0) (z .n1) (omega (arith, z .both, z .r-pos, z .all));
+    c-m1 = fits-of ρ (suc n) (suc (setting (i .σ) .dw)) (i .rows .m0) (i .rows .m1) (z .m0) (z .m1) (omega (arith, z .both, z .r-pos, z .all));
+    b-m2 = fits-of ρ (suc (setting (i .σ) .dw + setting (i .σ) .dw)) (suc (setting (i .σ) .dr)) (g2 .is-row) (i .rows .m2) m2g-lt (z .m2) (omega (arith, z .both, z .r-pos, z .all));
+    prime = i .σ .prime;
     α = k .of-w .α .0;
     β = k .of-w .β .0;
     γ = k .of-w .γ .0;
     some = quot-w (i .σ) (i .holds) b de h1g g2 (k .of-w);
-    kβ = suc (i .σ .dw);
-    kγ = i .σ .dw;
+    kβ = suc (setting (i .σ) .dw);
+    kγ = setting (i .σ) .dw;
     β-lt = w-near .β-lt;
     γ-lt = w-near .γ-lt;
     room-m0 = λ m s. let q : m ≤ suc n = size-le ρ (suc n) (i .rows .m0) s (z .m0) in omega (arith, z .both, z .r-pos, z .all);
@@ -116,12 +116,12 @@ module _ {p : ℕ} {g h gh : List ℕ} {ie : ℕ} {b : Seven} (i : GeneratorsIn 
 
   module _ {x y : Three} (hx : Coordinates p m2gh (b .m0) m1h b e x) (hy : Coordinates p m1gh m2g (b .m0) b e y) where
     -- the six rows are the six polynomials, for every reading of the field
-    module _ {G H : List ℕ} (σ : Roots p G H) (holds : Holds σ g h gh) (q : Parts (setting σ) (rowsOf σ b)) where
-      xs : (row (reading p (σ .acc .prime)) (x .a) ≡ q .of-r .α .0) × (row (reading p (σ .acc .prime)) (x .b) ≡ q .of-r .β .0) × (row (reading p (σ .acc .prime)) (x .c) ≡ q .of-r .γ .0)
-      xs = hx .law (σ .acc .prime) _ _ _ (quot-r σ holds b de g2h h1 (q .of-r))
+    module _ {G H : List ℕ} (σ : Accepted p G H) (holds : Holds σ g h gh) (q : Parts (setting σ) (rowsOf σ b)) where
+      xs : (row (reading p (σ .prime)) (x .a) ≡ q .of-r .α .0) × (row (reading p (σ .prime)) (x .b) ≡ q .of-r .β .0) × (row (reading p (σ .prime)) (x .c) ≡ q .of-r .γ .0)
+      xs = hx .law (σ .prime) _ _ _ (quot-r σ holds b de g2h h1 (q .of-r))
 
-      ys : (row (reading p (σ .acc .prime)) (y .a) ≡ q .of-w .α .0) × (row (reading p (σ .acc .prime)) (y .b) ≡ q .of-w .β .0) × (row (reading p (σ .acc .prime)) (y .c) ≡ q .of-w .γ .0)
-      ys = hy .law (σ .acc .prime) _ _ _ (quot-w σ holds b de h1g g2 (q .of-w))
+      ys : (row (reading p (σ .prime)) (y .a) ≡ q .of-w .α .0) × (row (reading p (σ .prime)) (y .b) ≡ q .of-w .β .0) × (row (reading p (σ .prime)) (y .c) ≡ q .of-w .γ .0)
+      ys = hy .law (σ .prime) _ _ _ (quot-w σ holds b de h1g g2 (q .of-w))
 
     low : (l : List ℕ) {s : ρ .𝓥 .L .El} (m : ℕ) → row ρ l ≡ s → Lt (ρ .𝓥) s m → Lt (ρ .𝓥) (row ρ l) m
     low l m e h = d.lt-eq (ρ .𝓥) h (sym e)
@@ -132,9 +132,9 @@ module _ {p : ℕ} {g h gh : List ℕ} {ie : ℕ} {b : Seven} (i : GeneratorsIn 
         let (fa, fb, fc) = ys (i .σ) (i .holds) k in
         record {
           cut = record {
-            rows = record { modulus = modulus i; prime = i .σ .acc .prime; h0 = hx .ha; h2 = hx .hc; k0 = hy .ha; k2 = hy .hc };
-            left = fits-of ρ (i .σ .dr) (i .σ .dw) (hx .hc) (hy .ha) (low (x .c) (i .σ .dr) ec (r-near .γ-lt)) (low (y .a) (i .σ .dw) fa (w-near .α-lt)) (omega (arith, z .both, z .all));
-            right = fits-of ρ (i .σ .dr) (i .σ .dw) (hx .ha) (hy .hc) (low (x .a) (i .σ .dr) ea (r-near .α-lt)) (low (y .c) (i .σ .dw) fc (w-near .γ-lt)) (omega (arith, z .both, z .all));
+            rows = record { modulus = modulus i; prime = i .σ .prime; h0 = hx .ha; h2 = hx .hc; k0 = hy .ha; k2 = hy .hc };
+            left = fits-of ρ (setting (i .σ) .dr) (setting (i .σ) .dw) (hx .hc) (hy .ha) (low (x .c) (setting (i .σ) .dr) ec (r-near .γ-lt)) (low (y .a) (setting (i .σ) .dw) fa (w-near .α-lt)) (omega (arith, z .both, z .all));
+            right = fits-of ρ (setting (i .σ) .dr) (setting (i .σ) .dw) (hx .ha) (hy .hc) (low (x .a) (setting (i .σ) .dr) ea (r-near .α-lt)) (low (y .c) (setting (i .σ) .dw) fc (w-near .γ-lt)) (omega (arith, z .both, z .all));
             nz = λ t. d-not-zero (setting (i .σ)) (rowsOf (i .σ) b) (i .good) k
                 (let o = ρ .𝓥 .L .ops in ap₂ (λ s u. o .add s (o .neg u)) (ap₂ (o .mul) (sym ec) (sym fa)) (ap₂ (o .mul) (sym ea) (sym fc)) ∙ t);
           };
@@ -142,13 +142,13 @@ module _ {p : ℕ} {g h gh : List ℕ} {ie : ℕ} {b : Seven} (i : GeneratorsIn 
           k1 = hy .hb;
         }
 
-    module _ (o : Generators) (po : Paired p (x .a) (x .b) (x .c) (y .a) (y .b) (y .c) o) {G H : List ℕ} (σ : Roots p G H) (holds : Holds σ g h gh) (good : Good (setting σ) (rowsOf σ b)) where
-      path : (l : List ℕ) (s : Poly (setting σ .𝓥)) → row (reading p (σ .acc .prime)) l ≡ s .0 → polyOf σ l ≡ s
+    module _ (o : Generators) (po : Paired p (x .a) (x .b) (x .c) (y .a) (y .b) (y .c) o) {G H : List ℕ} (σ : Accepted p G H) (holds : Holds σ g h gh) (good : Good (setting σ) (rowsOf σ b)) where
+      path : (l : List ℕ) (s : Poly (setting σ .𝓥)) → row (reading p (σ .prime)) l ≡ s .0 → polyOf σ l ≡ s
       path l s e = P-path (setting σ .𝓥) {a = polyOf σ l} {b = s} e
 
       cut : Cut (setting σ) (rowsOf σ b) (parts (setting σ) (rowsOf σ b) (good .ideal))
-      cut = let w = po .law (σ .acc .prime) .without in
-          let f = po .law (σ .acc .prime) .f in
+      cut = let w = po .law (σ .prime) .without in
+          let f = po .law (σ .prime) .f in
           let (ea, eb, ec) = xs σ holds (parts (setting σ) (rowsOf σ b) (good .ideal)) in
           let (fa, fb, fc) = ys σ holds (parts (setting σ) (rowsOf σ b) (good .ideal)) in record {
             g = w .g;
@@ -164,10 +164,10 @@ module _ {p : ℕ} {g h gh : List ℕ} {ie : ℕ} {b : Seven} (i : GeneratorsIn 
           }
 
       -- d/g is the denominator of base
-      d-is : polyOf σ (po .law (σ .acc .prime) .f .d) ≡ base (setting σ) (rowsOf σ b) (parts (setting σ) (rowsOf σ b) (good .ideal)) cut .U
+      d-is : polyOf σ (po .law (σ .prime) .f .d) ≡ base (setting σ) (rowsOf σ b) (parts (setting σ) (rowsOf σ b) (good .ideal)) cut .U
       unfolding cut
       d-is =
-          let w = po .law (σ .acc .prime) .without in
+          let w = po .law (σ .prime) .without in
           let R = polys (setting σ .𝓥) in
           let (ea, eb, ec) = xs σ holds (parts (setting σ) (rowsOf σ b) (good .ideal)) in
           let (fa, fb, fc) = ys σ holds (parts (setting σ) (rowsOf σ b) (good .ideal)) in
@@ -178,7 +178,7 @@ module _ {p : ℕ} {g h gh : List ℕ} {ie : ℕ} {b : Seven} (i : GeneratorsIn 
       pub generated : Generated σ b o
       unfolding cut
       generated =
-          let m = po .law (σ .acc .prime) in
+          let m = po .law (σ .prime) in
           let (ea, eb, ec) = xs σ holds (parts (setting σ) (rowsOf σ b) (good .ideal)) in
           let (fa, fb, fc) = ys σ holds (parts (setting σ) (rowsOf σ b) (good .ideal)) in record {
             k = parts (setting σ) (rowsOf σ b) (good .ideal);
@@ -189,10 +189,7 @@ module _ {p : ℕ} {g h gh : List ℕ} {ie : ℕ} {b : Seven} (i : GeneratorsIn 
             mc-is = m .mc-is;
             nb-is = m .nb-is;
             nc-is = m .nc-is;
-            unit = m .unit;
-            is-unit = m .is-unit;
-            u-is = m .u-is ∙ ap (λ s. polys (setting σ .𝓥) .ops .mul (m .unit) s) d-is;
-            monic = m .monic;
+            u-is = m .u-is ∙ d-is;
             g-has = subst (Has (setting σ .𝓥) (m .without .g .0)) (sym (m .cut-is)) (m .without .g-has);
           }
 

@@ -184,8 +184,7 @@ module _ {p : ℕ} {x0 x2 y0 y2 k f : List ℕ} (c : CutIn p x0 x2 y0 y2) (h : C
   divides-f pr =
       let R = polys (reading p pr .𝓥) in
       let ((q0, e0), (q2, e2), b0, b2) = h .divides pr in
-      let P = polynomial p pr in
-      (
+      let P = polynomial p pr in (
         R .ops .add (R .ops .mul q2 (P y0)) (R .ops .neg (R .ops .mul q0 (P y2))),
         f-is pr ∙ solve-by R (var 0 :* var 1 :+ minus (var 2 :* var 3)) (var 4 :* (var 5 :* var 1 :+ minus (var 6 :* var 3)))
             (hyp (var 1) (var 0) (var 4 :* var 5) ∷ hyp (minus (var 3)) (var 2) (var 4 :* var 6) ∷ []) tt

@@ -1,5 +1,5 @@
 -- The generators of the next ideal (MATH.md 4.1): from the seven rows of a good basis, x1, y1, the pairs (−y2, x2)/g, (y0, −x0)/g and
--- U′ = d/g, made monic.
+-- their denominator d/g.
 --   Given σ ..       the rows hold the field and a good basis of it; ie is 1/lead(e) = −lead(GH)
 --   GeneratorsIn     there are G, H and their series for which it is so
 --   Generated σ b o  o holds the parts of r m and w m and the pairs without their common factor (crate chain)
@@ -9,16 +9,14 @@ use Prim.Native.Nat.{ℕ, _-_}
 use lib.ListN.{getD}
 use Rattle.ring.specs.Ring.{Ops, CRing}
 use Rattle.valued.specs.Val.{Valued}
-use Rattle.valued.specs.Degree.{Has, Leads}
-use Rattle.valued.specs.Polynomial.{polys, IsUnit}
+use Rattle.valued.specs.Degree.{Has}
 use Rattle.reading.specs.Reading.{Reading}
 use Rattle.reading.specs.Made.{reading}
 use Rattle.reading.specs.Row.{Row, Size, row}
-use Rattle.ideals.specs.Setting.{P}
 use Rattle.ideals.specs.Basis.{Good}
 use Rattle.chain.proofs.Parts.{Parts, Cut, x1, y1, base}
-use Rattle.record.specs.Roots.{Roots, setting}
-use Rattle.record.specs.Record.{polyOf}
+use Rattle.field.specs.Refusal.{Accepted}
+use Rattle.record.specs.Record.{setting, polyOf}
 use Rattle.generators.specs.Rows.{Seven, AreRows, rowsOf, Holds}
 use Rattle.generators.specs.declared.Generators.{Generators}
 
@@ -30,11 +28,11 @@ pub record GeneratorsIn (p : ℕ) (g h gh : List ℕ) (ie : ℕ) (b : Seven) : T
   pub inverse : (n : ℕ) → Size gh n → ie ≡ p - getD gh (n - 1) 0
   pub G : List ℕ
   pub H : List ℕ
-  pub σ : Roots p G H
+  pub σ : Accepted p G H
   pub holds : Holds σ g h gh
   pub good : Good (setting σ) (rowsOf σ b)
 
-module _ {p : ℕ} {G H : List ℕ} (σ : Roots p G H) where
+module _ {p : ℕ} {G H : List ℕ} (σ : Accepted p G H) where
   pub record Generated (b : Seven) (o : Generators) : Type 0 where
     pub k : Parts (setting σ) (rowsOf σ b)
     pub c : Cut (setting σ) (rowsOf σ b) k
@@ -44,11 +42,7 @@ module _ {p : ℕ} {G H : List ℕ} (σ : Roots p G H) where
     pub mc-is : polyOf σ (o .mc) ≡ base (setting σ) (rowsOf σ b) k c .M .c
     pub nb-is : polyOf σ (o .nb) ≡ base (setting σ) (rowsOf σ b) k c .N .b
     pub nc-is : polyOf σ (o .nc) ≡ base (setting σ) (rowsOf σ b) k c .N .c
-    -- U′ is d/g times a constant that is not 0
-    pub unit : P (setting σ)
-    pub is-unit : IsUnit (setting σ .𝓥) unit
-    pub u-is : polyOf σ (o .u) ≡ polys (setting σ .𝓥) .ops .mul unit (base (setting σ) (rowsOf σ b) k c .U)
-    pub monic : Leads (setting σ .𝓥) (polyOf σ (o .u) .0) (setting σ .𝓥 .K .ops .𝟏)
+    pub u-is : polyOf σ (o .u) ≡ base (setting σ) (rowsOf σ b) k c .U
     pub g-has : Has (setting σ .𝓥) (c .g .0) (o .cut)
 
 pub record AreGenerators (p : ℕ) (g h gh : List ℕ) (b : Seven) (o : Generators) : Type 0 where
@@ -59,4 +53,4 @@ pub record AreGenerators (p : ℕ) (g h gh : List ℕ) (b : Seven) (o : Generato
   pub hnb : Row p (o .nb)
   pub hnc : Row p (o .nc)
   pub hu : Row p (o .u)
-  pub each : {G H : List ℕ} (σ : Roots p G H) → Holds σ g h gh → Good (setting σ) (rowsOf σ b) → Generated σ b o
+  pub each : {G H : List ℕ} (σ : Accepted p G H) → Holds σ g h gh → Good (setting σ) (rowsOf σ b) → Generated σ b o

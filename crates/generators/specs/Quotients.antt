@@ -4,7 +4,7 @@
 --             CoordsIn: there are such, and the products on the way fit; Coordinates: the answer is these
 --   content   Content: a divisor of four, which every common divisor of the four divides
 --   cut       CutIn, Without: four polynomials and their determinant without their common factor
---   pairs     PairsIn, Paired: (−y2, x2)/g, (y0, −x0)/g, and d/g made monic
+--   pairs     PairsIn, Paired: (−y2, x2)/g, (y0, −x0)/g and d/g
 use mathlib.Core.Path.{_≡_}
 use mathlib.Core.Logic.{_≢_}
 use mathlib.Core.List.{List}
@@ -13,7 +13,7 @@ use lib.ListN.{getD}
 use Rattle.ring.specs.Ring.{Ops, CRing}
 use Rattle.fp.specs.Fp.{Prime}
 use Rattle.valued.specs.Val.{Valued}
-use Rattle.valued.specs.Degree.{Has, Lt, Leads}
+use Rattle.valued.specs.Degree.{Has, Lt}
 use Rattle.valued.specs.Polynomial.{polys, Poly, Divides, IsUnit}
 use Rattle.residue.specs.Residue.{Modulus}
 use Rattle.reading.specs.Reading.{Reading}
@@ -157,10 +157,7 @@ pub record Pairing (p : ℕ) (pr : Prime p) (x0 x2 y0 y2 : List ℕ) (o : Genera
   pub mc-is : polynomial p pr (o .mc) ≡ polynomial p pr (f .a2)
   pub nb-is : polynomial p pr (o .nb) ≡ polynomial p pr (f .b0)
   pub nc-is : polynomial p pr (o .nc) ≡ polys (reading p pr .𝓥) .ops .neg (polynomial p pr (f .a0))
-  pub unit : Poly (reading p pr .𝓥)
-  pub is-unit : IsUnit (reading p pr .𝓥) unit
-  pub u-is : polynomial p pr (o .u) ≡ polys (reading p pr .𝓥) .ops .mul unit (polynomial p pr (f .d))
-  pub monic : Leads (reading p pr .𝓥) (row (reading p pr) (o .u)) (reading p pr .𝓥 .K .ops .𝟏)
+  pub u-is : polynomial p pr (o .u) ≡ polynomial p pr (f .d)
   pub cut-is : o .cut ≡ f .cut
 
 pub record Paired (p : ℕ) (x0 x1 x2 y0 y1 y2 : List ℕ) (o : Generators) : Type 0 where

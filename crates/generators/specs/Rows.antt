@@ -12,8 +12,8 @@ use Rattle.reading.specs.Reading.{Reading}
 use Rattle.reading.specs.Made.{reading}
 use Rattle.reading.specs.Row.{Row, row}
 use Rattle.ideals.specs.Ideal.{Basis}
-use Rattle.record.specs.Roots.{Roots, setting}
-use Rattle.record.specs.Record.{polyOf}
+use Rattle.field.specs.Refusal.{Accepted}
+use Rattle.record.specs.Record.{setting, polyOf}
 
 pub record Seven : Type 0 where
   pub m0 : List ℕ
@@ -36,7 +36,7 @@ pub record AreRows (p : ℕ) (b : Seven) : Type 0 where
   pub n2 : Row p (b .n2)
   pub u : Row p (b .u)
 
-module _ {p : ℕ} {G H : List ℕ} (σ : Roots p G H) where
+module _ {p : ℕ} {G H : List ℕ} (σ : Accepted p G H) where
   abbrev pub rowsOf : Seven → Basis (setting σ)
   rowsOf b = record {
     U = polyOf σ (b .u);
@@ -45,6 +45,6 @@ module _ {p : ℕ} {G H : List ℕ} (σ : Roots p G H) where
   }
 
   pub record Holds (g h gh : List ℕ) : Type 0 where
-    pub g-is : row (reading p (σ .acc .prime)) g ≡ row (reading p (σ .acc .prime)) G
-    pub h-is : row (reading p (σ .acc .prime)) h ≡ row (reading p (σ .acc .prime)) H
-    pub gh-is : row (reading p (σ .acc .prime)) gh ≡ reading p (σ .acc .prime) .𝓥 .L .ops .mul (row (reading p (σ .acc .prime)) G) (row (reading p (σ .acc .prime)) H)
+    pub g-is : row (reading p (σ .prime)) g ≡ row (reading p (σ .prime)) G
+    pub h-is : row (reading p (σ .prime)) h ≡ row (reading p (σ .prime)) H
+    pub gh-is : row (reading p (σ .prime)) gh ≡ reading p (σ .prime) .𝓥 .L .ops .mul (row (reading p (σ .prime)) G) (row (reading p (σ .prime)) H)

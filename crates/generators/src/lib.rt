@@ -22,7 +22,21 @@ pub struct Three {
 }
 
 // The coordinates of va + vb r + vc w. ie is the inverse of the leading coefficient of e = M1 N2 - M2 N1.
-pub fn coords(p: u64, va: &[u64; 32], vb: &[u64; 32], vc: &[u64; 32], m0: &[u64; 32], m1: &[u64; 32], m2: &[u64; 32], n0: &[u64; 32], n1: &[u64; 32], n2: &[u64; 32], u: &[u64; 32], e: &[u64; 32], ie: u64) -> Three
+pub fn coords(
+    p: u64,
+    va: &[u64; 32],
+    vb: &[u64; 32],
+    vc: &[u64; 32],
+    m0: &[u64; 32],
+    m1: &[u64; 32],
+    m2: &[u64; 32],
+    n0: &[u64; 32],
+    n1: &[u64; 32],
+    n2: &[u64; 32],
+    u: &[u64; 32],
+    e: &[u64; 32],
+    ie: u64,
+) -> Three
     requires { ⌜ CoordsIn p (now va) (now vb) (now vc) (seven (now m0) (now m1) (now m2) (now n0) (now n1) (now n2) (now u)) (now e) ie ⌝ }
     ensures { λ o. ⌜ Coordinates p (now (va .entry)) (now (vb .entry)) (now (vc .entry)) (seven (now (m0 .entry)) (now (m1 .entry)) (now (m2 .entry)) (now (n0 .entry)) (now (n1 .entry)) (now (n2 .entry)) (now (u .entry))) (now (e .entry)) o ⌝ }
 {
@@ -75,7 +89,14 @@ fn cut(p: u64, x0: &[u64; 32], x2: &[u64; 32], y0: &[u64; 32], y2: &[u64; 32]) -
         let a2 = *x2;
         let b0 = *y0;
         let b2 = *y2;
-        Four { a0, a2, b0, b2, d: f, cut: 0 }
+        Four {
+            a0,
+            a2,
+            b0,
+            b2,
+            d: f,
+            cut: 0,
+        }
     } else {
         let l = k[n - 1];
         let il = residue::inverse(p, l);
@@ -84,11 +105,19 @@ fn cut(p: u64, x0: &[u64; 32], x2: &[u64; 32], y0: &[u64; 32], y2: &[u64; 32]) -
         let b0 = poly::exact(p, y0, &k, il);
         let b2 = poly::exact(p, y2, &k, il);
         let d = poly::exact(p, &f, &k, il);
-        Four { a0, a2, b0, b2, d, cut: n - 1 }
+        Four {
+            a0,
+            a2,
+            b0,
+            b2,
+            d,
+            cut: n - 1,
+        }
     }
 }
 
-// x and y are x1 and y1, the pairs (mb, mc) and (nb, nc) the generators P and Q, u their denominator; cut is the degree of what was taken off.
+// x and y are x1 and y1, the pairs (mb, mc) and (nb, nc) the generators P and Q, u their denominator;
+// cut is the degree of what was taken off.
 pub struct Generators {
     pub x: [u64; 32],
     pub y: [u64; 32],
@@ -101,7 +130,15 @@ pub struct Generators {
 }
 
 // The pairs and their denominator from x0 + x1 m + x2 n and y0 + y1 m + y2 n.
-fn pairs(p: u64, x0: &[u64; 32], x1: &[u64; 32], x2: &[u64; 32], y0: &[u64; 32], y1: &[u64; 32], y2: &[u64; 32]) -> Generators
+fn pairs(
+    p: u64,
+    x0: &[u64; 32],
+    x1: &[u64; 32],
+    x2: &[u64; 32],
+    y0: &[u64; 32],
+    y1: &[u64; 32],
+    y2: &[u64; 32],
+) -> Generators
     requires { ⌜ PairsIn p (now x0) (now x1) (now x2) (now y0) (now y1) (now y2) ⌝ }
     ensures { λ o. ⌜ Paired p (now (x0 .entry)) (now (x1 .entry)) (now (x2 .entry)) (now (y0 .entry)) (now (y1 .entry)) (now (y2 .entry)) o ⌝ }
 {
@@ -114,16 +151,35 @@ fn pairs(p: u64, x0: &[u64; 32], x1: &[u64; 32], x2: &[u64; 32], y0: &[u64; 32],
     let k = f.cut;
     let mb = poly::minus(p, &b2);
     let nc = poly::minus(p, &a0);
-    let l = poly::lead(&d);
-    let il = residue::inverse(p, l);
-    let u = poly::scale(p, il, &d);
     let x = *x1;
     let y = *y1;
-    Generators { x, y, mb, mc, nb, nc, u, cut: k }
+    Generators {
+        x,
+        y,
+        mb,
+        mc,
+        nb,
+        nc,
+        u: d,
+        cut: k,
+    }
 }
 
 // r m = x0 + x1 m + x2 n and w m = y0 + y1 m + y2 n; ie = -lead(G H) is the inverse of the leading coefficient of e.
-pub fn divided(p: u64, g: &[u64; 32], h: &[u64; 32], gh: &[u64; 32], ie: u64, m0: &[u64; 32], m1: &[u64; 32], m2: &[u64; 32], n0: &[u64; 32], n1: &[u64; 32], n2: &[u64; 32], u: &[u64; 32]) -> Generators
+pub fn divided(
+    p: u64,
+    g: &[u64; 32],
+    h: &[u64; 32],
+    gh: &[u64; 32],
+    ie: u64,
+    m0: &[u64; 32],
+    m1: &[u64; 32],
+    m2: &[u64; 32],
+    n0: &[u64; 32],
+    n1: &[u64; 32],
+    n2: &[u64; 32],
+    u: &[u64; 32],
+) -> Generators
     requires { ⌜ GeneratorsIn p (now g) (now h) (now gh) ie (seven (now m0) (now m1) (now m2) (now n0) (now n1) (now n2) (now u)) ⌝ }
     ensures { λ o. ⌜ AreGenerators p (now (g .entry)) (now (h .entry)) (now (gh .entry)) (seven (now (m0 .entry)) (now (m1 .entry)) (now (m2 .entry)) (now (n0 .entry)) (now (n1 .entry)) (now (n2 .entry)) (now (u .entry))) o ⌝ }
 {
