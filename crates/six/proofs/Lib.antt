@@ -1,3 +1,5 @@
 pub mod Parts
 pub mod Rows
 pub mod Multiply
+pub mod InPlace
+pub mod Cofactors

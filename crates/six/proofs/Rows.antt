@@ -21,7 +21,7 @@ use Rattle.six.specs.Six.{cut, ByIn, By, Monic, CoordinateIn, Coordinate
 use Rattle.six.proofs.Parts.{mid, mid-length, mid-cut, Put, put-back, put-cut, row-mid}
 
 -- ---- x y
-none : {p : ℕ} (ρ : Reading p) → row ρ (0 ∷ []) ≡ ρ .𝓥 .L .ops .𝟎
+pub none : {p : ℕ} (ρ : Reading p) → row ρ (0 ∷ []) ≡ ρ .𝓥 .L .ops .𝟎
 unfolding psum
 none ρ = row-upto ρ (0 ∷ []) 0 at
   where

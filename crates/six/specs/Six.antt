@@ -2,8 +2,8 @@
 --   cut at n l     the n numbers of l from place at on
 use mathlib.Core.Path.{_≡_}
 use mathlib.Core.List.{List}
-use Prim.Native.Nat.{ℕ, _+_, _*_, _-_, _<_, _≤_}
-use lib.ListN.{length, getD}
+use Prim.Native.Nat.{ℕ, _+_, _*_, _-_, _%_, _<_, _≤_}
+use lib.ListN.{length, getD, replicate}
 use Rattle.fp.specs.Fp.{Prime}
 use Rattle.valued.specs.Degree.{Lt}
 use Rattle.reading.specs.Made.{reading}
@@ -74,3 +74,41 @@ pub record Times (p c n : ℕ) (g h gh b e s s′ : List ℕ) : Type 0 where
       → o .mul U y ≡ o .add (o .add (o .mul E0 M1) (o .mul E1 M0)) (o .mul (o .mul E2 M2) (row ρ g))
       → o .mul U z ≡ o .add (o .add (o .mul E0 M2) (o .mul E2 M0)) (o .mul (o .mul E1 M1) (row ρ h))
       → (row ρ (cut 0 c s′) ≡ x) × (row ρ (cut c c s′) ≡ y) × (row ρ (cut (c + c) c s′) ≡ z)
+
+-- E m in the place of E
+pub record TurnIn (p c n : ℕ) (g h gh b rows s : List ℕ) : Type 0 where
+  pub times : TimesIn p c n g h gh b rows s
+
+pub record Turn (p c n : ℕ) (g h gh b rows s rows′ s′ : List ℕ) : Type 0 where
+  pub size : length rows′ ≡ length rows
+  pub each : (i : ℕ) → i < c + c + c → getD rows′ i 0 < p
+  pub rest : (i : ℕ) → c + c + c ≤ i → getD rows′ i 0 ≡ getD rows i 0
+  pub law : (pr : Prime p) → let ρ = reading p pr in let o = ρ .𝓥 .L .ops in (x y z : ρ .𝓥 .L .El)
+      → ρ .𝓥 .IsPoly x → ρ .𝓥 .IsPoly y → ρ .𝓥 .IsPoly z → Lt (ρ .𝓥) x n → Lt (ρ .𝓥) y n → Lt (ρ .𝓥) z n
+      → let E0 = row ρ (cut 0 c rows) in let E1 = row ρ (cut c c rows) in let E2 = row ρ (cut (c + c) c rows) in
+        let M0 = row ρ (cut 0 17 b) in let M1 = row ρ (cut 17 17 b) in let M2 = row ρ (cut 34 17 b) in let U = row ρ (cut 102 17 b) in
+        o .mul U x ≡ o .add (o .mul E0 M0) (o .mul (o .add (o .mul E1 M2) (o .mul E2 M1)) (row ρ gh))
+      → o .mul U y ≡ o .add (o .add (o .mul E0 M1) (o .mul E1 M0)) (o .mul (o .mul E2 M2) (row ρ g))
+      → o .mul U z ≡ o .add (o .add (o .mul E0 M2) (o .mul E2 M0)) (o .mul (o .mul E1 M1) (row ρ h))
+      → (row ρ (cut 0 c rows′) ≡ x) × (row ρ (cut c c rows′) ≡ y) × (row ρ (cut (c + c) c rows′) ≡ z)
+  pub blank : s′ ≡ replicate (length s) 0
+
+-- the first three rows, times the inverse of the coefficient n − 1 of the first
+pub record MonicIn (p c n : ℕ) (rows : List ℕ) : Type 0 where
+  pub modulus : Storable p
+  pub prime : Prime p
+  pub some : 0 < n
+  pub upto : n ≤ c
+  pub room : c + c + c ≤ length rows
+  pub most : c ≤ 4096
+  pub top : 0 < getD rows (n - 1) 0
+  pub top-below : getD rows (n - 1) 0 < p
+
+pub record MonicMade (p c n : ℕ) (rows rows′ : List ℕ) : Type 0 where
+  pub size : length rows′ ≡ length rows
+  pub each : (i : ℕ) → i < c + c + c → getD rows′ i 0 < p
+  pub rest : (i : ℕ) → c + c + c ≤ i → getD rows′ i 0 ≡ getD rows i 0
+  pub by : ℕ
+  pub by-below : by < p
+  pub one : (getD rows (n - 1) 0 * by) % p ≡ 1
+  pub at : (i : ℕ) → i < c + c + c → getD rows′ i 0 ≡ (getD rows i 0 * by) % p
