@@ -4,3 +4,4 @@ pub mod Filling
 pub mod Top
 pub mod Leads
 pub mod Growing
+pub mod Answer
