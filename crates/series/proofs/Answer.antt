@@ -12,10 +12,13 @@ use lib.ListN.{length}
 use Rattle.field.specs.Refusal.{Refusal, Accepted}
 use Rattle.field.proofs.Stages.{refusal-one}
 use Rattle.field.proofs.Accept.{accepted}
+use Rattle.field.proofs.Opening.{holds-one}
 use Rattle.cubicfield.specs.SeriesOf.{SeriesOf}
 use Rattle.cubicfield.proofs.Only.{series-of-only}
+use Rattle.series.specs.declared.Cubic.{Cubic}
+use Rattle.series.specs.declared.Expanded.{Expanded}
 use Rattle.series.specs.Fill.{Grown}
-use Rattle.series.specs.Answer.{longest, Fits, Number, Answer}
+use Rattle.series.specs.Answer.{longest, Fits, Number, Answer, Prefix, Expands}
 
 module _ (p : ℕ) (G H r w : List ℕ) where
   number-one : {m n : ℕ} → Number p G H r w m → Number p G H r w n → m ≡ n
@@ -53,3 +56,20 @@ module _ {p : ℕ} {G H r w : List ℕ} where
           let (x, y) = a .kept z in
           let (s, t) = b .kept (λ f. z (e ∙ f)) in
           (x ∙ sym s, y ∙ sym t)
+
+-- one prefix of a field
+prefix-one : {p : ℕ} {G H : List ℕ} (c c′ : Cubic) → Accepted p G H → Prefix p G H c → Prefix p G H c′ → c ≡ c′
+prefix-one {p} {G} {H} c c′ A h h′ =
+    let f : c .field ≡ c′ .field = holds-one (c .field) (c′ .field) (A .prime) (h .field (A .degG) (A .degH) (A .listG) (A .listH)) (h′ .field (A .degG) (A .degH) (A .listG) (A .listH)) in
+    let (r, w) = series-of-only (c .r) (c .w) (c′ .r) (c′ .w) A (h .series) (h′ .series) (h .size ∙ sym (h′ .size)) in
+    (λ i. record { field = f i; r = r i; w = w i })
+
+pub expands-one : {p : ℕ} {G H : List ℕ} (o o′ : Expanded) → Expands p G H o → Expands p G H o′ → o ≡ o′
+expands-one {p} {G} {H} o o′ h h′ =
+    let e : o .refusal ≡ o′ .refusal = refusal-one p G H (o .refusal) (o′ .refusal) (h .number) (h′ .number) in
+    let c : o .cubic ≡ o′ .cubic = cubics e (ℕ-discrete (o .refusal) 0) in
+    (λ i. record { refusal = e i; cubic = c i })
+  where
+    cubics : o .refusal ≡ o′ .refusal → Dec (o .refusal ≡ 0) → o .cubic ≡ o′ .cubic
+    cubics e (yes z) = prefix-one (o .cubic) (o′ .cubic) (accepted p G H (subst (Refusal p G H) z (h .number))) (h .opened z) (h′ .opened (sym e ∙ z))
+    cubics e (no z) = h .zeros z ∙ sym (h′ .zeros (λ f. z (e ∙ f)))

@@ -5,7 +5,8 @@ ghost use Prim.Native.Nat.{_+_, _*_, _-_, _%_};
 ghost use Rattle.reading.specs.Row.{tab};
 ghost use Rattle.cubicfield.specs.SeriesOf.{top, entry, prod};
 ghost use Rattle.series.specs.Fill.{Place, Point, Entry, Rest, Two, Four, Filling, Turned, Filler, Made, Listed, Leads, LeadRoot, ThriceInverse, Room, Grown};
-ghost use Rattle.series.specs.Answer.{Answer, Prefix, Expands, nothing};
+ghost use Rattle.field.specs.Opening as F;
+ghost use Rattle.series.specs.Answer.{Answer, Opening, Prefix, Expands, nothing};
 
 // An opened field with the first 32 coefficients of r and of w, highest power first.
 pub struct Cubic {
@@ -189,4 +190,67 @@ pub fn series(p: u64, g: &[u64], h: &[u64], r: &mut [u16], w: &mut [u16]) -> u32
     }
     grow(p, g, h, r, w);
     0
+}
+
+fn widened(s: [u16; 32]) -> [u64; 32]
+    ensures { λ r. ⌜ r ≡ s ⌝ }
+{
+    let mut r: [u64; 32] = [0; 32];
+    let mut i: usize = 0;
+    while i < 32 {
+        r[i] = wide(s[i]);
+        i += 1;
+    }
+    r
+}
+
+// The opened field f with the first 32 coefficients of r and w.
+fn with_series(p: u64, g: &[u64], h: &[u64], f: field::Field) -> Cubic
+    requires { ⌜ Opening p (now g) (now h) f ⌝ }
+    ensures { λ c. ⌜ Prefix p (now (g .entry)) (now (h .entry)) c ⌝ }
+{
+    let mut r: [u16; 32] = [0; 32];
+    let mut w: [u16; 32] = [0; 32];
+    grow(p, g, h, &mut r, &mut w);
+    let x = widened(r);
+    let y = widened(w);
+    Cubic {
+        field: f,
+        r: x,
+        w: y,
+    }
+}
+
+// The zeros beside a refusal; f is a field of zeros.
+fn no_cubic(f: field::Field) -> Cubic
+    requires { ⌜ f ≡ F.nothing ⌝ }
+    ensures { λ c. ⌜ c ≡ nothing ⌝ }
+{
+    let z: [u64; 32] = [0; 32];
+    Cubic {
+        field: f,
+        r: z,
+        w: z,
+    }
+}
+
+// Opening with the first 32 coefficients of both series.
+pub fn open_with_series(p: u64, g: &[u64], h: &[u64]) -> Expanded
+    ensures { λ o. ⌜ Expands p (now (g .entry)) (now (h .entry)) o ⌝ }
+{
+    let o = field::open(p, g, h);
+    let n = o.refusal;
+    let f = o.field;
+    if n != 0 {
+        let z = no_cubic(f);
+        return Expanded {
+            refusal: n,
+            cubic: z,
+        };
+    }
+    let c = with_series(p, g, h, f);
+    Expanded {
+        refusal: 0,
+        cubic: c,
+    }
 }
