@@ -1,0 +1,56 @@
+-- `book_write::put_head` meets its contract.
+use Rattle.book_write.proofs.Pieces.{head-put, lists-put}
+use Prim.Native.Nat.{ℕ, zero, suc, _≤_, _<_, _-_, _*_, _+_, _%_}
+use mathlib.Core.Path.{_≡_, _∙_, sym, ap, refl, subst}
+use mathlib.Core.List.{List, [], _∷_, _++_}
+use native.Mathlib.Omega.{arith}
+use native.Mathlib.Numerals.{add-one}
+use lib.ListN.{length, length-set, getD, set, replicate, take, drop}
+use borrow.Author.Needs.{needs}
+use Rattle.book_write.proofs.put_head.Statement.{statement}
+use Rattle.book_write.proofs.put_head.Tie as tie
+use Rattle.book_write.proofs.put_head.Reads as reads
+use Rattle.book_write.proofs.put_head.Lts as lts
+use Rattle.book_bytes.proofs.put_four.Reads as put-four-reads
+use Rattle.book_bytes.proofs.put_two.Reads as put-two-reads
+
+put-two-requires : tie.Need-put-two-requires
+put-two-requires c κs = search needs
+
+put-two-requires-2 : tie.Need-put-two-requires-2
+put-two-requires-2 c κs = search needs
+
+put-two-requires-3 : tie.Need-put-two-requires-3
+put-two-requires-3 c κs = search needs
+
+put-two-requires-4 : tie.Need-put-two-requires-4
+put-two-requires-4 c κs = search needs
+
+put-two-requires-5 : tie.Need-put-two-requires-5
+put-two-requires-5 c κs = search needs
+
+put-two-requires-6 : tie.Need-put-two-requires-6
+put-two-requires-6 c κs = search needs
+
+put-four-requires : tie.Need-put-four-requires
+put-four-requires c κs = search needs
+
+same-length : tie.Need-same-length
+same-length c = search needs
+
+returns : tie.Need-returns
+returns c = head-put _ _ _ _ _ _ _ _ _ _ _ _ _ _ _ _ _ _ _ _ _ _ (c .before .before .before .before .before .before .before .before .before .before .before .before .before .before .before .before .before .before .before .before .before .before .before .before .before .before .put-two .ensures) (c .before .before .before .before .before .before .before .before .before .before .before .before .before .before .before .before .before .before .before .before .before .before .put-two2 .ensures) (c .before .before .before .before .before .before .before .before .before .before .before .before .before .before .before .before .before .before .put-two3 .ensures) (c .before .before .before .before .before .before .before .before .before .before .before .before .before .before .put-two4 .ensures) (c .before .before .before .before .before .before .before .before .before .before .put-two5 .ensures) (c .before .before .before .before .before .before .put-two6 .ensures) (c .before .before .put-four .ensures)
+
+pub put-head-spec : {M : Type 1} → statement M
+put-head-spec =
+    tie.close
+    (tie.spec
+    put-two-requires
+    put-two-requires-2
+    put-two-requires-3
+    put-two-requires-4
+    put-two-requires-5
+    put-two-requires-6
+    put-four-requires
+    same-length
+    returns)
