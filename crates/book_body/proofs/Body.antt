@@ -1,14 +1,14 @@
 -- A body: its bytes say the value that was written, and the writing of what bytes say is those bytes.
 use mathlib.Core.Path.{_≡_, refl, sym, ap, _∙_}
-use mathlib.Core.List.{List, [], _∷_, _++_, append-nil}
-use Prim.Native.Nat.{ℕ, _+_, _*_, _<_, _≤_}
+use mathlib.Core.List.{List, [], _++_}
+use Prim.Native.Nat.{ℕ, _+_, _*_}
 use native.Mathlib.Omega.{arith}
 use lib.ListN.{length, drop, length-append, drop-of-length-le}
 use Rattle.book_bytes.specs.Bytes as bytes
 use Rattle.book_bytes.specs.Bytes.{le, words, u2, u4, Bytes}
 use Rattle.book_bytes.proofs.Lists.{length-list}
 use Rattle.book_bytes.proofs.Read.{peel, peel-list, val-le2, val-le4, next-list, read-list, length-words}
-use Rattle.book_body.specs.Body.{Body, listStart, listAt, bodyOf, joined, bodyBytes}
+use Rattle.book_body.specs.Body.{Body, listStart, listAt, bodyOf, bodyBytes}
 use Rattle.book_body.proofs.Field.{Fits}
 
 -- the lists' starts are in order

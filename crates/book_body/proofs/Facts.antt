@@ -1,15 +1,15 @@
 -- The code's tests against the definitions: the rule of an E list, the body rule, of one field.
 use mathlib.Core.Path.{_≡_, refl, sym, ap, _∙_}
 use mathlib.Core.Logic.{_≢_}
-use mathlib.Core.List.{List, [], _∷_, _++_}
+use mathlib.Core.List.{List, _++_}
 use Prim.Native.Nat.{ℕ, _+_, _-_, _*_, _%_, _<_, _≤_}
 use native.Mathlib.Omega.{arith}
 use lib.ListN.{length, getD, drop}
 use lib.Seq.{sets-eq}
 use Rattle.book_bytes.specs.Bytes.{u2, u4, Put}
 use Rattle.book_bytes.proofs.Lists.{length-list, list-read, list-last}
-use Rattle.book_body.specs.Body.{UnitList, FirstList, Rule, OneField, listStart, listAt, bodyOf, Formed}
-use Rattle.book_body.specs.Said.{Said, passed}
+use Rattle.book_body.specs.Body.{UnitList, FirstList, OneField, listStart, listAt, bodyOf, Formed}
+use Rattle.book_body.specs.Said.{passed}
 use Rattle.book_body.specs.Code.{ListTells, read}
 
 module _ (s : List ℕ) (k n : ℕ) (m : n ≡ u2 s (2 + 2 * k)) (p : ℕ) where

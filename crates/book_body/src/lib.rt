@@ -1,11 +1,11 @@
 // A body of the book: its rule, its field, and its parts for callers who read.
 ghost use mathlib.Core.Path.{_≡_};
-ghost use Prim.Native.Nat.{_+_, _*_, _≤_, _<_};
-ghost use lib.ListN.{length, getD};
+ghost use Prim.Native.Nat.{_+_, _*_, _<_};
+ghost use lib.ListN.{getD};
 ghost use Rattle.reading.specs.Row.{tab};
-ghost use Rattle.book_bytes.specs.Bytes.{u2, u4};
+ghost use Rattle.book_bytes.specs.Bytes.{u2};
 ghost use Rattle.book_bytes.specs.Decides.{Decides};
-ghost use Rattle.book_body.specs.Body.{UnitList, FirstList, Rule, FieldSays, OneField, listStart, listAt, bodyOf, Formed};
+ghost use Rattle.book_body.specs.Body.{UnitList, FirstList, FieldSays, OneField, listAt, bodyOf, Formed};
 ghost use Rattle.book_body.specs.Code.{Clipped, gotSays, ListTells};
 
 // The bytes before the lists, and where among them the lists' lengths stand.

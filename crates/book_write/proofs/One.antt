@@ -1,15 +1,12 @@
 -- The outcome of writing a body is settled by the body and the slice.
-use mathlib.Core.Path.{_≡_, refl, sym, ap, _∙_}
+use mathlib.Core.Path.{_≡_, sym, ap, _∙_}
 use mathlib.Core.List.{List}
-use Prim.Native.Nat.{ℕ, zero, suc, _<_, _≤_}
+use Prim.Native.Nat.{ℕ}
 use native.Mathlib.Omega.{arith}
-use lib.ListN.{length}
 use Rattle.field.specs.Table.{refusal-one}
 use Rattle.book_body.specs.Said.{Said, refused}
 use Rattle.book_body.specs.Body.{Body, FieldSays}
-use Rattle.book_write.specs.Write.{WriteTells, field, rule, short, done, wroteSays}
-use Rattle.book_write.specs.declared.Wrote.{Wrote}
-use Rattle.book_write.specs.declared.Wrote.the-variants.{Length, FieldRefused, RuleBroken, Short}
+use Rattle.book_write.specs.Write.{WriteTells, field, rule, short, done}
 
 module _ (b : Body) (d : List ℕ) where
   one-field : (n m : ℕ) → FieldSays b n → FieldSays b m → n ≡ m

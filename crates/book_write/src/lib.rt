@@ -1,8 +1,6 @@
 // Writing a body of the book into a lent slice.
-ghost use mathlib.Core.Path.{_≡_};
 ghost use mathlib.Core.List.{[]};
-ghost use Prim.Native.Nat.{_+_, _*_, _≤_, _<_};
-ghost use lib.ListN.{length, getD};
+ghost use Prim.Native.Nat.{_+_, _*_, _<_};
 ghost use Rattle.book_bytes.specs.Bytes.{Put};
 ghost use Rattle.book_bytes.specs.Decides.{Decides};
 ghost use Rattle.book_body.specs.Body.{UnitList, FirstList, Rule};

@@ -1,23 +1,12 @@
 -- `book_body::body_rule` meets its contract.
-use mathlib.Core.Logic.{_≢_}
 use borrow.Author.Tests.{not-true, not-false}
 use Rattle.book_bytes.proofs.Tests.{answer-yes, answer-no}
 use Rattle.book_body.proofs.Facts.{body-from, body-to, body-row0, body-row1, body-row2, body-first, body-yes}
-use Prim.Native.Nat.{ℕ, zero, suc, _≤_, _<_, _-_, _*_, _+_, _%_}
-use mathlib.Core.Path.{_≡_, _∙_, sym, ap, refl, subst}
-use mathlib.Core.List.{List, [], _∷_, _++_}
+use mathlib.Core.Path.{_∙_, sym}
 use native.Mathlib.Omega.{arith}
-use native.Mathlib.Numerals.{add-one}
-use lib.ListN.{length, length-set, getD, set, replicate, take, drop}
 use borrow.Author.Needs.{needs}
 use Rattle.book_body.proofs.body_rule.Statement.{statement}
 use Rattle.book_body.proofs.body_rule.Tie as tie
-use Rattle.book_body.proofs.body_rule.Reads as reads
-use Rattle.book_body.proofs.body_rule.Lts as lts
-use Rattle.book_body.proofs.first_list.Reads as first-list-reads
-use Rattle.book_body.proofs.unit_list.Reads as unit-list-reads
-use Rattle.book_bytes.proofs.four.Reads as four-reads
-use Rattle.book_bytes.proofs.start.Reads as start-reads
 
 start-requires : tie.Need-start-requires
 start-requires c κs = search needs

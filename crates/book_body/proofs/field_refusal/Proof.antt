@@ -3,21 +3,13 @@ use Rattle.book_body.specs.Code.{Clipped}
 use lib.Seq.{length-take-le}
 use Rattle.reading.proofs.Tab.{length-tab}
 use Rattle.book_body.proofs.Field.{field-says}
-use Prim.Native.Nat.{ℕ, zero, suc, _≤_, _<_, _-_, _*_, _+_, _%_}
-use mathlib.Core.Path.{_≡_, _∙_, sym, ap, refl, subst}
-use mathlib.Core.List.{List, [], _∷_, _++_}
+use Prim.Native.Nat.{ℕ}
+use mathlib.Core.Path.{_≡_, _∙_, sym, ap, subst}
 use native.Mathlib.Omega.{arith}
-use native.Mathlib.Numerals.{add-one}
-use lib.ListN.{length, length-set, getD, set, replicate, take, drop}
+use lib.ListN.{length}
 use borrow.Author.Needs.{needs}
 use Rattle.book_body.proofs.field_refusal.Statement.{statement}
 use Rattle.book_body.proofs.field_refusal.Tie as tie
-use Rattle.book_body.proofs.field_refusal.Reads as reads
-use Rattle.book_body.proofs.field_refusal.Lts as lts
-use Rattle.book_body.proofs.clip.Reads as clip-reads
-use Rattle.book_body.proofs.first_14.Reads as first-14-reads
-use Rattle.book_bytes.proofs.two.Reads as two-reads
-use Rattle.field.proofs.refusal.Reads as refusal-reads
 
 two-requires : tie.Need-two-requires
 two-requires c κs = search needs

@@ -1,18 +1,13 @@
 -- `book_body::first_14` meets its contract.
 use Rattle.reading.proofs.Tab.{Filled, filled-start, filled-more, filled-end}
 use Rattle.book_body.specs.Body.{listAt}
-use Prim.Native.Nat.{ℕ, zero, suc, _≤_, _<_, _-_, _*_, _+_, _%_}
-use mathlib.Core.Path.{_≡_, _∙_, sym, ap, refl, subst}
-use mathlib.Core.List.{List, [], _∷_, _++_}
+use Prim.Native.Nat.{ℕ, _-_}
+use mathlib.Core.Path.{refl}
 use native.Mathlib.Omega.{arith}
-use native.Mathlib.Numerals.{add-one}
-use lib.ListN.{length, length-set, getD, set, replicate, take, drop}
+use lib.ListN.{getD}
 use borrow.Author.Needs.{needs}
 use Rattle.book_body.proofs.first_14.Statement.{statement}
 use Rattle.book_body.proofs.first_14.Tie as tie
-use Rattle.book_body.proofs.first_14.Reads as reads
-use Rattle.book_body.proofs.first_14.Lts as lts
-use Rattle.book_bytes.proofs.item.Reads as item-reads
 
 abbrev Inv-loop : tie.InvT-loop
 Inv-loop s k r₀ i₀ r i = Filled 14 (λ (x : ℕ). getD (listAt s k) x 0) r i

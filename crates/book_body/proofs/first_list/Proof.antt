@@ -1,19 +1,10 @@
 -- `book_body::first_list` meets its contract.
 use Rattle.book_bytes.proofs.Tests.{answer-yes, answer-no}
 use Rattle.book_body.proofs.Facts.{first-three, first-odd, first-monic, first-yes}
-use Prim.Native.Nat.{ℕ, zero, suc, _≤_, _<_, _-_, _*_, _+_, _%_}
-use mathlib.Core.Path.{_≡_, _∙_, sym, ap, refl, subst}
-use mathlib.Core.List.{List, [], _∷_, _++_}
 use native.Mathlib.Omega.{arith}
-use native.Mathlib.Numerals.{add-one}
-use lib.ListN.{length, length-set, getD, set, replicate, take, drop}
 use borrow.Author.Needs.{needs}
 use Rattle.book_body.proofs.first_list.Statement.{statement}
 use Rattle.book_body.proofs.first_list.Tie as tie
-use Rattle.book_body.proofs.first_list.Reads as reads
-use Rattle.book_body.proofs.first_list.Lts as lts
-use Rattle.book_bytes.proofs.start.Reads as start-reads
-use Rattle.book_bytes.proofs.two.Reads as two-reads
 
 two-requires : tie.Need-two-requires
 two-requires c κs = search needs

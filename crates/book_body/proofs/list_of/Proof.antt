@@ -1,20 +1,12 @@
 -- `book_body::list_of` meets its contract.
-use Rattle.book_body.specs.Code.{read, none, short}
+use Rattle.book_body.specs.Code.{none, short}
 use Rattle.book_bytes.proofs.Lists.{length-list}
 use Rattle.book_body.proofs.Facts.{list-got}
-use Prim.Native.Nat.{ℕ, zero, suc, _≤_, _<_, _-_, _*_, _+_, _%_}
-use mathlib.Core.Path.{_≡_, _∙_, sym, ap, refl, subst}
-use mathlib.Core.List.{List, [], _∷_, _++_}
+use mathlib.Core.Path.{refl}
 use native.Mathlib.Omega.{arith}
-use native.Mathlib.Numerals.{add-one}
-use lib.ListN.{length, length-set, getD, set, replicate, take, drop}
 use borrow.Author.Needs.{needs}
 use Rattle.book_body.proofs.list_of.Statement.{statement}
 use Rattle.book_body.proofs.list_of.Tie as tie
-use Rattle.book_body.proofs.list_of.Reads as reads
-use Rattle.book_body.proofs.list_of.Lts as lts
-use Rattle.book_bytes.proofs.read_list.Reads as read-list-reads
-use Rattle.book_bytes.proofs.two.Reads as two-reads
 
 returns : tie.Need-returns
 returns c = none (omega arith) refl refl

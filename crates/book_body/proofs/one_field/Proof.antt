@@ -2,19 +2,9 @@
 use borrow.Author.Tests.{not-true, not-false}
 use Rattle.book_bytes.proofs.Tests.{answer-yes, answer-no}
 use Rattle.book_body.proofs.Facts.{one-p-no, one-g-no, one-h-no, one-yes}
-use Prim.Native.Nat.{ℕ, zero, suc, _≤_, _<_, _-_, _*_, _+_, _%_}
-use mathlib.Core.Path.{_≡_, _∙_, sym, ap, refl, subst}
-use mathlib.Core.List.{List, [], _∷_, _++_}
-use native.Mathlib.Omega.{arith}
-use native.Mathlib.Numerals.{add-one}
-use lib.ListN.{length, length-set, getD, set, replicate, take, drop}
 use borrow.Author.Needs.{needs}
 use Rattle.book_body.proofs.one_field.Statement.{statement}
 use Rattle.book_body.proofs.one_field.Tie as tie
-use Rattle.book_body.proofs.one_field.Reads as reads
-use Rattle.book_body.proofs.one_field.Lts as lts
-use Rattle.book_bytes.proofs.same_list.Reads as same-list-reads
-use Rattle.book_bytes.proofs.two.Reads as two-reads
 
 two-requires : tie.Need-two-requires
 two-requires c κs = search needs

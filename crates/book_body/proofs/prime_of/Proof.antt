@@ -1,17 +1,8 @@
 -- `book_body::prime_of` meets its contract.
 use Rattle.book_body.specs.Body.{bodyOf}
-use Prim.Native.Nat.{ℕ, zero, suc, _≤_, _<_, _-_, _*_, _+_, _%_}
-use mathlib.Core.Path.{_≡_, _∙_, sym, ap, refl, subst}
-use mathlib.Core.List.{List, [], _∷_, _++_}
-use native.Mathlib.Omega.{arith}
-use native.Mathlib.Numerals.{add-one}
-use lib.ListN.{length, length-set, getD, set, replicate, take, drop}
 use borrow.Author.Needs.{needs}
 use Rattle.book_body.proofs.prime_of.Statement.{statement}
 use Rattle.book_body.proofs.prime_of.Tie as tie
-use Rattle.book_body.proofs.prime_of.Reads as reads
-use Rattle.book_body.proofs.prime_of.Lts as lts
-use Rattle.book_bytes.proofs.two.Reads as two-reads
 
 two-requires : tie.Need-two-requires
 two-requires c κs = search needs

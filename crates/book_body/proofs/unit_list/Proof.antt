@@ -3,19 +3,11 @@ use borrow.Author.Count.{below-more}
 use Rattle.book_bytes.specs.Bytes.{u2}
 use Rattle.book_bytes.proofs.Tests.{answer-yes, answer-no}
 use Rattle.book_body.proofs.Facts.{RowKnown, row-some, row-short, row-last-no, row-each-no, row-yes}
-use Prim.Native.Nat.{ℕ, zero, suc, _≤_, _<_, _-_, _*_, _+_, _%_}
-use mathlib.Core.Path.{_≡_, _∙_, sym, ap, refl, subst}
-use mathlib.Core.List.{List, [], _∷_, _++_}
+use Prim.Native.Nat.{ℕ, _≤_, _<_, _-_, _*_, _+_}
 use native.Mathlib.Omega.{arith}
-use native.Mathlib.Numerals.{add-one}
-use lib.ListN.{length, length-set, getD, set, replicate, take, drop}
 use borrow.Author.Needs.{needs}
 use Rattle.book_body.proofs.unit_list.Statement.{statement}
 use Rattle.book_body.proofs.unit_list.Tie as tie
-use Rattle.book_body.proofs.unit_list.Reads as reads
-use Rattle.book_body.proofs.unit_list.Lts as lts
-use Rattle.book_bytes.proofs.start.Reads as start-reads
-use Rattle.book_bytes.proofs.two.Reads as two-reads
 
 abbrev Inv-loop : tie.InvT-loop
 Inv-loop s k p n at top i₀ i = RowKnown s k p n at top × (i ≤ n) × ((j : ℕ) → j < i → u2 s (at + 2 * j) < p)

@@ -1,16 +1,9 @@
 -- `book_write::first_list` meets its contract.
 use Rattle.book_bytes.proofs.Tests.{answer-yes, answer-no}
-use Prim.Native.Nat.{ℕ, zero, suc, _≤_, _<_, _-_, _*_, _+_, _%_}
-use mathlib.Core.Path.{_≡_, _∙_, sym, ap, refl, subst}
-use mathlib.Core.List.{List, [], _∷_, _++_}
 use native.Mathlib.Omega.{arith}
-use native.Mathlib.Numerals.{add-one}
-use lib.ListN.{length, length-set, getD, set, replicate, take, drop}
 use borrow.Author.Needs.{needs}
 use Rattle.book_write.proofs.first_list.Statement.{statement}
 use Rattle.book_write.proofs.first_list.Tie as tie
-use Rattle.book_write.proofs.first_list.Reads as reads
-use Rattle.book_write.proofs.first_list.Lts as lts
 
 returns : tie.Need-returns
 returns c = answer-no (λ b. let z = b .three in omega arith)

@@ -1,18 +1,8 @@
 -- `book_write::put_head` meets its contract.
-use Rattle.book_write.proofs.Pieces.{head-put, lists-put}
-use Prim.Native.Nat.{ℕ, zero, suc, _≤_, _<_, _-_, _*_, _+_, _%_}
-use mathlib.Core.Path.{_≡_, _∙_, sym, ap, refl, subst}
-use mathlib.Core.List.{List, [], _∷_, _++_}
-use native.Mathlib.Omega.{arith}
-use native.Mathlib.Numerals.{add-one}
-use lib.ListN.{length, length-set, getD, set, replicate, take, drop}
+use Rattle.book_write.proofs.Pieces.{head-put}
 use borrow.Author.Needs.{needs}
 use Rattle.book_write.proofs.put_head.Statement.{statement}
 use Rattle.book_write.proofs.put_head.Tie as tie
-use Rattle.book_write.proofs.put_head.Reads as reads
-use Rattle.book_write.proofs.put_head.Lts as lts
-use Rattle.book_bytes.proofs.put_four.Reads as put-four-reads
-use Rattle.book_bytes.proofs.put_two.Reads as put-two-reads
 
 put-two-requires : tie.Need-put-two-requires
 put-two-requires c κs = search needs

@@ -1,17 +1,8 @@
 -- `book_write::put_lists` meets its contract.
-use Rattle.book_write.proofs.Pieces.{head-put, lists-put}
-use Prim.Native.Nat.{ℕ, zero, suc, _≤_, _<_, _-_, _*_, _+_, _%_}
-use mathlib.Core.Path.{_≡_, _∙_, sym, ap, refl, subst}
-use mathlib.Core.List.{List, [], _∷_, _++_}
-use native.Mathlib.Omega.{arith}
-use native.Mathlib.Numerals.{add-one}
-use lib.ListN.{length, length-set, getD, set, replicate, take, drop}
+use Rattle.book_write.proofs.Pieces.{lists-put}
 use borrow.Author.Needs.{needs}
 use Rattle.book_write.proofs.put_lists.Statement.{statement}
 use Rattle.book_write.proofs.put_lists.Tie as tie
-use Rattle.book_write.proofs.put_lists.Reads as reads
-use Rattle.book_write.proofs.put_lists.Lts as lts
-use Rattle.book_bytes.proofs.put_list.Reads as put-list-reads
 
 put-list-requires : tie.Need-put-list-requires
 put-list-requires c κs = search needs

@@ -1,19 +1,10 @@
 -- `book_write::rule_of` meets its contract.
 use borrow.Author.Tests.{not-true, not-false}
 use Rattle.book_bytes.proofs.Tests.{answer-yes, answer-no}
-use Prim.Native.Nat.{ℕ, zero, suc, _≤_, _<_, _-_, _*_, _+_, _%_}
-use mathlib.Core.Path.{_≡_, _∙_, sym, ap, refl, subst}
-use mathlib.Core.List.{List, [], _∷_, _++_}
 use native.Mathlib.Omega.{arith}
-use native.Mathlib.Numerals.{add-one}
-use lib.ListN.{length, length-set, getD, set, replicate, take, drop}
 use borrow.Author.Needs.{needs}
 use Rattle.book_write.proofs.rule_of.Statement.{statement}
 use Rattle.book_write.proofs.rule_of.Tie as tie
-use Rattle.book_write.proofs.rule_of.Reads as reads
-use Rattle.book_write.proofs.rule_of.Lts as lts
-use Rattle.book_write.proofs.first_list.Reads as first-list-reads
-use Rattle.book_write.proofs.unit_list.Reads as unit-list-reads
 
 returns : tie.Need-returns
 returns c = answer-no (λ b. let z = b .from in omega arith)

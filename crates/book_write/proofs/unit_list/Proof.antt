@@ -1,18 +1,12 @@
 -- `book_write::unit_list` meets its contract.
 use borrow.Author.Count.{below-more}
 use Rattle.book_bytes.proofs.Tests.{answer-yes, answer-no}
-use Rattle.book_body.specs.Body.{UnitList}
-use Prim.Native.Nat.{ℕ, zero, suc, _≤_, _<_, _-_, _*_, _+_, _%_}
-use mathlib.Core.Path.{_≡_, _∙_, sym, ap, refl, subst}
-use mathlib.Core.List.{List, [], _∷_, _++_}
+use Prim.Native.Nat.{ℕ, _≤_, _<_, _-_}
 use native.Mathlib.Omega.{arith}
-use native.Mathlib.Numerals.{add-one}
-use lib.ListN.{length, length-set, getD, set, replicate, take, drop}
+use lib.ListN.{length, getD}
 use borrow.Author.Needs.{needs}
 use Rattle.book_write.proofs.unit_list.Statement.{statement}
 use Rattle.book_write.proofs.unit_list.Tie as tie
-use Rattle.book_write.proofs.unit_list.Reads as reads
-use Rattle.book_write.proofs.unit_list.Lts as lts
 
 abbrev Inv-loop : tie.InvT-loop
 Inv-loop p l n top i₀ i = (i ≤ length l) × ((k : ℕ) → k < i → getD l k 0 < p)

@@ -1,22 +1,13 @@
 -- `book_write::write_body` meets its contract.
 use borrow.Author.Tests.{not-true, not-false}
 use Rattle.book_write.specs.Write.{bodyFrom, field, rule, short}
-use Rattle.book_write.proofs.Pieces.{Known, known, says-none, head-of, lists-of, long-body, rule-any, done-of}
-use Prim.Native.Nat.{ℕ, zero, suc, _≤_, _<_, _-_, _*_, _+_, _%_}
-use mathlib.Core.Path.{_≡_, _∙_, sym, ap, refl, subst}
-use mathlib.Core.List.{List, [], _∷_, _++_}
+use Rattle.book_write.proofs.Pieces.{known, says-none, head-of, lists-of, long-body, rule-any, done-of}
+use mathlib.Core.Path.{refl}
+use mathlib.Core.List.{[]}
 use native.Mathlib.Omega.{arith}
-use native.Mathlib.Numerals.{add-one}
-use lib.ListN.{length, length-set, getD, set, replicate, take, drop}
 use borrow.Author.Needs.{needs}
 use Rattle.book_write.proofs.write_body.Statement.{statement}
 use Rattle.book_write.proofs.write_body.Tie as tie
-use Rattle.book_write.proofs.write_body.Reads as reads
-use Rattle.book_write.proofs.write_body.Lts as lts
-use Rattle.book_write.proofs.put_head.Reads as put-head-reads
-use Rattle.book_write.proofs.put_lists.Reads as put-lists-reads
-use Rattle.book_write.proofs.rule_of.Reads as rule-of-reads
-use Rattle.field.proofs.refusal.Reads as refusal-reads
 
 refusal-requires : tie.Need-refusal-requires
 refusal-requires c κs = search needs
