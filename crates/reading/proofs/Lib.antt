@@ -2,3 +2,8 @@ pub mod Tab
 pub mod Rows
 pub mod Turn
 pub mod Floors
+pub mod Product
+pub mod Unique
+pub mod Quotient
+pub mod Derivative
+pub mod Square
