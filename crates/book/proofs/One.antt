@@ -8,7 +8,7 @@ use mathlib.Core.List.{List}
 use Prim.Native.Nat.{ℕ, zero, suc, _<_}
 use native.Mathlib.Omega.{arith}
 use native.Mathlib.Decide.{decLt}
-use Rattle.field.specs.Table.{refusal-one}
+use Rattle.field.proofs.Stages.{refusal-one}
 use Rattle.book_body.specs.Said.{Said, malformed}
 use Rattle.book_body.specs.Body.{Body, FieldSays, bodyOf}
 use Rattle.book.specs.Book.{Sound, Accepted, entry}

@@ -11,11 +11,11 @@ use Rattle.book_bytes.proofs.Read.{bytes-drop, peel}
 use Rattle.book_body.specs.Body.{Body, Rule, FieldSays, OneField, bodyBytes}
 use Rattle.book_body.proofs.Body.{body-back}
 use Rattle.book.specs.Book.{mark, count, startAt, lengthAt, ends, part, entry, Accepted}
-use Rattle.book.specs.Value.{table, bodies, bookBytes, at, Obeys}
+use Rattle.book.specs.Value.{rows, valueOf, table, bodies, bookBytes, at, Obeys}
 use Rattle.book.proofs.Facts.{ends-zero, inside}
 
 -- ---- accepted bytes are the writing of what they say
-bytes-part : (s : List ℕ) (i : ℕ) → Bytes s → Bytes (part s i)
+pub bytes-part : (s : List ℕ) (i : ℕ) → Bytes s → Bytes (part s i)
 bytes-part s i b = take-bytes (lengthAt s i) (drop (startAt s i) s) (bytes-drop s (startAt s i) b)
   where
     take-bytes : (n : ℕ) (l : List ℕ) → Bytes l → Bytes (take n l)
@@ -23,11 +23,6 @@ bytes-part s i b = take-bytes (lengthAt s i) (drop (startAt s i) s) (bytes-drop 
     take-bytes (suc n) [] h j = h j
     take-bytes (suc n) (x ∷ l) h zero = h 0
     take-bytes (suc n) (x ∷ l) h (suc j) = take-bytes n l (λ k. h (suc k)) j
-
--- the entries from i on, k of them
-abbrev pub rows : List ℕ → ℕ → ℕ → List Body
-rows s i zero = []
-rows s i (suc k) = entry s i ∷ rows s (suc i) k
 
 pub length-rows : (s : List ℕ) (i k : ℕ) → length (rows s i k) ≡ k
 length-rows s i zero = refl
@@ -42,10 +37,10 @@ module _ (s : List ℕ) (b : Bytes s) (a : Accepted s) where
   n : ℕ
   n = count s
 
-  part-back : (i : ℕ) → i < count s → bodyBytes (entry s i) ≡ part s i
+  pub part-back : (i : ℕ) → i < count s → bodyBytes (entry s i) ≡ part s i
   part-back i h = body-back (part s i) (bytes-part s i b) (a .good i h .body .size)
 
-  part-long : (i : ℕ) → i < count s → length (bodyBytes (entry s i)) ≡ lengthAt s i
+  pub part-long : (i : ℕ) → i < count s → length (bodyBytes (entry s i)) ≡ lengthAt s i
   part-long i h =
       let z : startAt s i + lengthAt s i ≤ length s = inside s i (a .listed) h in
       let d : length (drop (startAt s i) s) ≡ length s - startAt s i = length-drop (startAt s i) s in
@@ -90,7 +85,7 @@ module _ (s : List ℕ) (b : Bytes s) (a : Accepted s) where
       ∙ ap (λ (y : ℕ). le 4 (startAt s i) ++ drop y s) (sym q1)
       ∙ sym p1
 
-  bodies-back : (k i : ℕ) → i + k ≡ count s → bodies (rows s i k) ≡ drop (ends s i) s
+  pub bodies-back : (k i : ℕ) → i + k ≡ count s → bodies (rows s i k) ≡ drop (ends s i) s
   unfolding bodies
   bodies-back zero i e =
       let f : i ≡ count s = omega arith in
@@ -104,12 +99,8 @@ module _ (s : List ℕ) (b : Bytes s) (a : Accepted s) where
       ∙ ap (λ (y : ℕ). take (lengthAt s i) (drop y s) ++ drop (lengthAt s i) (drop (ends s i) s)) st
       ∙ take-append-drop (lengthAt s i) (drop (ends s i) s)
 
-  -- the value that the bytes say
-  pub valueOf : List Body
-  valueOf = rows s 0 (count s)
-
-  pub book-back : bookBytes valueOf ≡ s
-  unfolding bookBytes valueOf
+  pub book-back : bookBytes (valueOf s) ≡ s
+  unfolding bookBytes
   book-back =
       let l : length (rows s 0 (count s)) ≡ count s = length-rows s 0 (count s) in
       let z : ends s 0 ≡ 6 + 8 * count s = ends-zero s in
@@ -124,25 +115,23 @@ module _ (s : List ℕ) (b : Bytes s) (a : Accepted s) where
       ∙ ap (λ (y : List ℕ). y ++ drop 4 s) (sym (a .marked .mark))
       ∙ take-append-drop 4 s
 
-  at-value : (i : ℕ) → i < count s → at valueOf i ≡ entry s i
-  unfolding valueOf
+  at-value : (i : ℕ) → i < count s → at (valueOf s) i ≡ entry s i
   at-value i h = at-rows s 0 (count s) i h ∙ ap (entry s) (let e : 0 + i ≡ i = omega arith in e)
 
-  length-value : length valueOf ≡ count s
-  unfolding valueOf
+  length-value : length (valueOf s) ≡ count s
   length-value = length-rows s 0 (count s)
 
-  pub book-obeys : Obeys valueOf
+  pub book-obeys : Obeys (valueOf s)
   book-obeys =
-      let l : length valueOf ≡ count s = length-value in
+      let l : length (valueOf s) ≡ count s = length-value in
       record {
-        size = (let e : length (bookBytes valueOf) ≡ length s = ap length book-back in let h : length s ≤ 65536 = a .marked .high in omega arith);
+        size = (let e : length (bookBytes (valueOf s)) ≡ length s = ap length book-back in let h : length s ≤ 65536 = a .marked .high in omega arith);
         rule = λ i h. (let u : i < count s = omega arith in subst Rule (sym (at-value i u)) (a .good i u .body .rule));
         field = λ i h. (let u : i < count s = omega arith in subst (λ (r : Body). FieldSays r 0) (sym (at-value i u)) (a .good i u .field));
         once = λ i j h v o.
             (let u : i < count s = omega arith in
             let x : j < count s = omega arith in
             a .good i u .once j v
-            (subst (λ (r : Body). OneField r (entry s j)) (at-value i u) (subst (λ (r : Body). OneField (at valueOf i) r) (at-value j x) o)));
+            (subst (λ (r : Body). OneField r (entry s j)) (at-value i u) (subst (λ (r : Body). OneField (at (valueOf s) i) r) (at-value j x) o)));
       }
 

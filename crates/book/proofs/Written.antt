@@ -12,9 +12,9 @@ use Rattle.book_body.specs.Body.{Body, Rule, FieldSays, OneField, bodyBytes, bo
 use Rattle.book_body.proofs.Body.{body-reads, body-size}
 use Rattle.book_body.proofs.Field.{fits}
 use Rattle.book.specs.Book.{mark, Marked, Listed, count, startAt, lengthAt, ends, part, entry, Accepted}
-use Rattle.book.specs.Value.{table, bodies, bookBytes, none, at, Obeys, Written}
+use Rattle.book.specs.Value.{valueOf, table, bodies, bookBytes, none, at, Obeys, Written}
 use Rattle.book.proofs.Facts.{ends-zero}
-use Rattle.book.proofs.Value.{valueOf, book-obeys, book-back}
+use Rattle.book.proofs.Value.{book-obeys, book-back}
 
 -- ---- the writing of a value that obeys the rules is accepted, and reads back
 -- where the body i starts in the writing
@@ -213,7 +213,7 @@ module _ (bs : List Body) (o : Obeys bs) where
 -- ---- the theorem
 -- bytes are accepted exactly when they are the writing of a value that obeys the rules
 pub accepted-written : (s : List ℕ) → Bytes s → Accepted s → Written s
-accepted-written s b a = (valueOf s b a, book-obeys s b a, book-back s b a)
+accepted-written s b a = (valueOf s, book-obeys s b a, book-back s b a)
 
 pub written-accepted : (s : List ℕ) → Written s → Accepted s
 written-accepted s (bs, o, e) = subst Accepted e (writing-accepted bs o)

@@ -10,9 +10,9 @@ use lib.ListN.{length, getD, take}
 use lib.Seq.{ext-getD, getD-take, length-take-le, take-all}
 use Rattle.reading.specs.Row.{tab}
 use Rattle.reading.proofs.Tab.{at-tab, length-tab}
-use Rattle.field.specs.Table.{Shape, Bad1, Bad2, Bad3, Bad4, Bad5, Bad6, Stage, Refusal, stage-past, later, ofShape, ofFactors}
-use Rattle.field.specs.Post.{Shaped}
-use Rattle.field.specs.Facts.{shaped}
+use Rattle.field.specs.Refusal.{Degree, Fault3, Refusal, Accepted}
+use Rattle.field.proofs.Stages.{later}
+use Rattle.field.proofs.Accept.{accepted}
 use Rattle.book_bytes.specs.Bytes.{u2, Small}
 use Rattle.book_bytes.proofs.Lists.{length-list}
 use Rattle.book_body.specs.Body.{Body, Rule, FieldSays, listAt, bodyOf}
@@ -22,36 +22,32 @@ use Rattle.book_body.specs.Code.{Clipped}
 abbrev pub cut : List ℕ → List ℕ
 cut = take 14
 
-long-shape : (p : ℕ) (l : List ℕ) → 13 < length l → Shape p l → ⊥
-long-shape p l h s = let a : length l ≤ 13 = s .short in omega arith
+long-fault : (p : ℕ) (l : List ℕ) → 13 < length l → Fault3 p l
+long-fault p l h d s = let a : length l ≤ 13 = s .short in omega arith
 
-long-cut : (l : List ℕ) → 14 < length l → 13 < length (cut l)
-long-cut l h = let e : length (take 14 l) ≡ 14 = length-take-le 14 l (omega arith) in omega arith
-
-long3 : (p : ℕ) (G H : List ℕ) → (14 < length G) ⊎ (14 < length H) → Bad3 p G H
-long3 p G H (inl h) = inl (long-shape p G (omega arith))
-long3 p G H (inr h) = inr (long-shape p H (omega arith))
-
-long3-cut : (p : ℕ) (G H : List ℕ) → (14 < length G) ⊎ (14 < length H) → Bad3 p (cut G) (cut H)
-long3-cut p G H (inl h) = inl (long-shape p (cut G) (long-cut G h))
-long3-cut p G H (inr h) = inr (long-shape p (cut H) (long-cut H h))
+cut-fault : (p : ℕ) (l : List ℕ) → 14 < length l → Fault3 p (cut l)
+cut-fault p l h = let e : length (take 14 l) ≡ 14 = length-take-le 14 l (omega arith) in long-fault p (cut l) (omega arith)
 
 third : {A B E : Type 0} {N M : Type 0} → A → B → (A × E) ⊎ ((A → ⊥) × N) → (B × E) ⊎ ((B → ⊥) × M)
 third a b (inl x) = inl (b, x .1)
 third a b (inr x) = absurd (x .0 a)
 
-cut-long : (p : ℕ) (G H : List ℕ) (r : ℕ) → (14 < length G) ⊎ (14 < length H) → Refusal p (cut G) (cut H) r → Refusal p G H r
+cut-left : (p : ℕ) (G H K : List ℕ) (n : ℕ) → 14 < length G → Refusal p (cut G) K n → Refusal p G H n
 unfolding Refusal
-cut-long p G H r w = later (later (third (long3-cut p G H w) (long3 p G H w)))
+cut-left p G H K n h = later (later (third (cut-fault p G h) (long-fault p G (omega arith))))
 
-pub cut-refusal : (p : ℕ) (G H : List ℕ) (r : ℕ) → Refusal p (cut G) (cut H) r → Refusal p G H r
-cut-refusal p G H r o = go (decLe (length G) 14) (decLe (length H) 14)
+cut-right : (p : ℕ) (G H : List ℕ) (n : ℕ) → 14 < length H → Refusal p G (cut H) n → Refusal p G H n
+unfolding Refusal
+cut-right p G H n h = later (later (later (third (cut-fault p H h) (long-fault p H (omega arith)))))
+
+pub cut-refusal : (p : ℕ) (G H : List ℕ) (n : ℕ) → Refusal p (cut G) (cut H) n → Refusal p G H n
+cut-refusal p G H n o = go (decLe (length G) 14) (decLe (length H) 14)
   where
-    go : Dec (length G ≤ 14) → Dec (length H ≤ 14) → Refusal p G H r
-    go (no a) b = cut-long p G H r (inl (omega arith)) o
-    go (yes a) (no b) = cut-long p G H r (inr (omega arith)) o
+    go : Dec (length G ≤ 14) → Dec (length H ≤ 14) → Refusal p G H n
+    go (no a) b = cut-left p G H (cut H) n (omega arith) o
+    go (yes a) (no b) = cut-right p G H n (omega arith) (subst (λ (x : List ℕ). Refusal p x (cut H) n) (take-all 14 G a) o)
     go (yes a) (yes b) =
-        subst (λ (x : List ℕ). Refusal p x H r) (take-all 14 G a) (subst (λ (x : List ℕ). Refusal p (cut G) x r) (take-all 14 H b) o)
+        subst (λ (x : List ℕ). Refusal p x H n) (take-all 14 G a) (subst (λ (x : List ℕ). Refusal p (cut G) x n) (take-all 14 H b) o)
 
 -- the code's row, cut at the code's length
 pub cut-row : (l : List ℕ) (n : ℕ) → Clipped (length l) n → take n (tab 14 (λ i. getD l i 0)) ≡ cut l
@@ -95,21 +91,13 @@ pub record Fits (b : Body) : Type 0 where
   pub E1 : Small (b .E1)
   pub E2 : Small (b .E2)
 
-pub accepted-shaped : (p : ℕ) (G H : List ℕ) → Refusal p G H 0 → Shaped p G H
-unfolding Refusal
-accepted-shaped p G H o =
-    let (a, t) = stage-past 1 (Bad1 p) (Stage 2 (Bad2 p) (ofShape p G H (ofFactors p G H))) 0 (λ e. omega arith) o in
-    let (b, u) = stage-past 2 (Bad2 p) (ofShape p G H (ofFactors p G H)) 0 (λ e. omega arith) t in
-    let (c, v) = stage-past 3 (Bad3 p G H) (Stage 4 (Bad4 p G H) (Stage 5 (Bad5 p G H) (Stage 6 (Bad6 p G H) (ofFactors p G H)))) 0 (λ e. omega arith) u in
-    shaped p G H a c
-
 pub fits : (b : Body) → Rule b → FieldSays b 0 → Fits b
 fits b r o =
-    let s : Shaped (b .p) (b .G) (b .H) = accepted-shaped (b .p) (b .G) (b .H) o in
-    let hp : b .p ≤ 65535 = s .good .high in
+    let s : Accepted (b .p) (b .G) (b .H) = accepted (b .p) (b .G) (b .H) o in
+    let hp : b .p ≤ 65535 = s .high in
     let t : b .period ≤ 1000000 = r .to in
-    let g : length (b .G) ≤ 13 = s .left .short in
-    let h : length (b .H) ≤ 13 = s .right .short in
+    let g : length (b .G) ≤ 13 = s .listG .short in
+    let h : length (b .H) ≤ 13 = s .listH .short in
     let a0 : length (b .E0) ≤ 4096 = r .row0 .short in
     let a1 : length (b .E1) ≤ 4096 = r .row1 .short in
     let a2 : length (b .E2) ≤ 4096 = r .row2 .short in
@@ -121,8 +109,8 @@ fits b r o =
       n0 = omega arith;
       n1 = omega arith;
       n2 = omega arith;
-      G = λ i u. omega (arith, s .left .each i u);
-      H = λ i u. omega (arith, s .right .each i u);
+      G = λ i u. omega (arith, s .listG .each i u);
+      H = λ i u. omega (arith, s .listH .each i u);
       E0 = λ i u. omega (arith, r .row0 .each i u);
       E1 = λ i u. omega (arith, r .row1 .each i u);
       E2 = λ i u. omega (arith, r .row2 .each i u);

@@ -3,7 +3,7 @@ use mathlib.Core.Path.{_≡_, sym, ap, _∙_}
 use mathlib.Core.List.{List}
 use Prim.Native.Nat.{ℕ}
 use native.Mathlib.Omega.{arith}
-use Rattle.field.specs.Table.{refusal-one}
+use Rattle.field.proofs.Stages.{refusal-one}
 use Rattle.book_body.specs.Said.{Said, refused}
 use Rattle.book_body.specs.Body.{Body, FieldSays}
 use Rattle.book_write.specs.Write.{WriteTells, field, rule, short, done}

@@ -5,7 +5,7 @@ use Prim.Native.Nat.{ℕ, _+_, _*_, _≤_}
 use native.Mathlib.Omega.{arith}
 use lib.ListN.{length, drop, length-append}
 use lib.Seq.{sets-eq}
-use Rattle.field.specs.Table.{Refusal}
+use Rattle.field.specs.Refusal.{Refusal}
 use Rattle.book_bytes.specs.Bytes.{le, words, Put}
 use Rattle.book_bytes.proofs.Read.{length-words}
 use Rattle.book_bytes.proofs.Write.{andThen}
