@@ -134,4 +134,3 @@ module _ (s : List ℕ) (b : Bytes s) (a : Accepted s) where
             a .good i u .once j v
             (subst (λ (r : Body). OneField r (entry s j)) (at-value i u) (subst (λ (r : Body). OneField (at (valueOf s) i) r) (at-value j x) o)));
       }
-

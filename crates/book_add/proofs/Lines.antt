@@ -1,12 +1,11 @@
 -- The contents, line by line.
 use mathlib.Core.Path.{_≡_, refl, sym, ap, ap₂, _∙_, subst}
-use mathlib.Core.List.{List, [], _∷_, _++_}
+use mathlib.Core.List.{List, _++_}
 use Prim.Native.Nat.{ℕ, zero, suc, _+_, _*_, _<_, _≤_}
 use native.Mathlib.Numerals.{add-one}
 use native.Mathlib.Omega.{arith}
-use lib.ListN.{length, length-append, drop}
+use lib.ListN.{length}
 use Rattle.book_bytes.specs.Bytes.{le, val, u4, Put}
-use Rattle.book_bytes.proofs.Read.{length-le4}
 use Rattle.book_bytes.proofs.Write.{andThen}
 use Rattle.book.specs.Book.{lengthAt}
 use Rattle.book_add.specs.Code.{lineEnd, lines}

@@ -1,20 +1,20 @@
 -- From the answers of the book's functions to whether a body may be added.
-use mathlib.Core.Path.{_≡_, refl, ap, sym, _∙_, subst}
-use mathlib.Core.Logic.{_⊎_, inl, inr}
+use mathlib.Core.Path.{_≡_, subst}
+use mathlib.Core.Logic.{inl, inr}
 use mathlib.Core.List.{List}
 use Prim.Native.Nat.{ℕ, _<_, _≤_}
 use native.Mathlib.Omega.{arith}
-use Rattle.book_body.specs.Body.{FieldSays, OneField, bodyOf, Formed}
-use Rattle.book.specs.Book.{count, entry, Accepted}
+use Rattle.book_body.specs.Body.{FieldSays, bodyOf, Formed}
+use Rattle.book.specs.Book.{count, Accepted}
 use Rattle.book.specs.Answer.{reasonSays, answerSays, BodyFault, Tells}
 use Rattle.book.specs.Code.{Earliest, JudgeTells}
-use Rattle.book.proofs.Facts.{judge-good, judge-bad}
-use Rattle.book.proofs.Asking.{yes-of, refused-of, refused-no}
+use Rattle.book.proofs.Facts.{judge-bad}
+use Rattle.book.proofs.Asking.{refused-of, refused-no}
 use Rattle.book.specs.declared.Reason.{Reason}
 use Rattle.book.specs.declared.Answer.{Answer}
-use Rattle.book.specs.declared.Answer.the-variants.{Yes, Refused}
+use Rattle.book.specs.declared.Answer.the-variants.{Refused}
 use Rattle.book.specs.declared.Seen.{Seen}
-use Rattle.book.specs.declared.Seen.the-variants.{Good, Bad}
+use Rattle.book.specs.declared.Seen.the-variants.{Bad}
 use Rattle.book_add.specs.Add.{Finished}
 use Rattle.book_add.specs.Code.{VerdictTells}
 use Rattle.book_add.specs.declared.Verdict.the-variants.{May, No, Has}

@@ -1,24 +1,21 @@
 -- The new book: its bytes are the writing of the old value with the body last, and it is accepted.
-use mathlib.Core.Path.{_≡_, refl, sym, ap, ap₂, _∙_, subst}
+use mathlib.Core.Path.{_≡_, refl, sym, ap, ap₂, _∙_}
 use mathlib.Core.List.{List, [], _∷_, _++_, append-assoc, append-nil}
 use Prim.Native.Nat.{ℕ, zero, suc, _+_, _-_, _*_, _<_, _≤_}
 use native.Mathlib.Numerals.{add-one}
 use native.Mathlib.Nat.{add-zero}
 use native.Mathlib.Omega.{arith}
 use native.Mathlib.Decide.{decLt}
-use lib.ListN.{length, getD, take, drop, length-append, length-drop}
-use lib.Seq.{take-take, getD-take, length-take-le}
-use Rattle.book_bytes.specs.Bytes.{le, u2, u4, Bytes}
-use Rattle.book_bytes.proofs.Read.{val2, val4}
+use lib.ListN.{length, drop, length-append, length-drop}
+use Rattle.book_bytes.specs.Bytes.{le, Bytes}
 use Rattle.book_body.specs.Body.{Body, bodyBytes, bodyOf, Formed}
 use Rattle.book_body.proofs.Body.{body-back}
-use Rattle.book.specs.Book.{mark, width, Listed, count, startAt, lengthAt, ends, entry, Accepted}
+use Rattle.book.specs.Book.{mark, width, count, startAt, lengthAt, ends, entry, Accepted}
 use Rattle.book.specs.Value.{table, bodies, bookBytes, rows, valueOf}
 use Rattle.book.proofs.Facts.{ends-zero, ends-more, inside}
 use Rattle.book.proofs.Value.{length-rows, part-long, bodies-back}
-use Rattle.book_add.specs.Add.{newBook, newLength}
-use Rattle.book_add.specs.Code.{lineEnd, lines, newBytes, Place}
-use Rattle.book_add.proofs.Lines.{lineEnd-same, lines-same}
+use Rattle.book_add.specs.Add.{newBook}
+use Rattle.book_add.specs.Code.{lineEnd, lines}
 
 -- ---- one more body
 rows-snoc : (s : List ℕ) (i k : ℕ) → rows s i (suc k) ≡ rows s i k ++ (entry s (i + k) ∷ [])

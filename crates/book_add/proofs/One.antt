@@ -1,13 +1,12 @@
 -- The outcome of adding is settled by the slice, the book's length and the body.
-use mathlib.Core.Path.{_≡_, refl, sym, ap, _∙_}
+use mathlib.Core.Path.{_≡_, sym, _∙_}
 use mathlib.Core.Logic.{_⊎_, inl, inr}
 use mathlib.Core.List.{List}
-use Prim.Native.Nat.{ℕ, zero, suc, _<_, _≤_}
+use Prim.Native.Nat.{ℕ, _<_, _≤_}
 use native.Mathlib.Omega.{arith}
 use lib.ListN.{length, take}
 use Rattle.book_body.specs.Said.{Said}
 use Rattle.book_body.specs.Body.{bodyOf}
-use Rattle.book.specs.Book.{count, Accepted}
 use Rattle.book.specs.Answer.{BodyFault, rule, field}
 use Rattle.book.proofs.One.{tells-one, body-one, field-one}
 use Rattle.book_add.specs.Add.{Finished, AddTells, newLength, length-out, book, body, known, short, added}

@@ -3,7 +3,7 @@ use mathlib.Core.Path.{_≡_, refl, sym, ap, ap₂, _∙_, subst}
 use mathlib.Core.List.{List, [], _∷_, _++_}
 use Prim.Native.Nat.{ℕ, zero, suc, _+_, _-_, _*_, _<_, _≤_}
 use native.Mathlib.Omega.{arith}
-use lib.ListN.{length, getD, take, drop, length-append}
+use lib.ListN.{length, getD, take, drop}
 use lib.Seq.{sets, take-take, getD-take, length-take-le}
 use Rattle.book_bytes.specs.Bytes.{le, val, u2, u4, Bytes, Put}
 use Rattle.book_bytes.proofs.Read.{val2, val4}
@@ -62,11 +62,13 @@ assemble d n c b e d1 x d2 y d3 z d4 r d5 w q1 q2 q3 q4 q5 =
     let lo : from ≤ n = w .low in
     let room : n + width + length b ≤ length d = w .room in
     let er : r ≡ newLength n b = omega arith in
-    let ee : e + length b ≡ newLength n b = omega arith in
-    (er, q5 .done
-    ∙ ap (λ (u : List ℕ). sets u e b) (s2 .done ∙ ap (λ (u : List ℕ). sets u 4 X) (q1 .done))
-    ∙ three-pieces d X B b (from + width) e (omega arith) (omega arith) (omega arith)
-    ∙ ap (λ (k : ℕ). (take 4 d ++ ((X ++ B) ++ b)) ++ drop k d) ee)
+    let ee : e + length b ≡ newLength n b = omega arith in (
+      er,
+      q5 .done
+          ∙ ap (λ (u : List ℕ). sets u e b) (s2 .done ∙ ap (λ (u : List ℕ). sets u 4 X) (q1 .done))
+          ∙ three-pieces d X B b (from + width) e (omega arith) (omega arith) (omega arith)
+          ∙ ap (λ (k : ℕ). (take 4 d ++ ((X ++ B) ++ b)) ++ drop k d) ee,
+    )
 
 -- ---- the book at the front of the slice
 u4-take : (n k : ℕ) (d : List ℕ) → k + 4 ≤ n → u4 (take n d) k ≡ u4 d k

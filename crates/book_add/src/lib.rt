@@ -82,7 +82,7 @@ fn put_body(out: &mut [u8], n: usize, c: usize, b: &[u8]) -> usize
     requires { ⌜ Place (now out) n c (now b) ⌝ }
     ensures { λ r.
         ⌜ (r ≡ newLength n (now (b .entry)))
-            × (now (out .exit) ≡ newBytes (now (out .entry)) n c (now (b .entry)) ++ drop (newLength n (now (b .entry))) (now (out .entry))) ⌝ }
+        × (now (out .exit) ≡ newBytes (now (out .entry)) n c (now (b .entry)) ++ drop (newLength n (now (b .entry))) (now (out .entry))) ⌝ }
 {
     let end = book_bytes::lift(out, 6 + WIDTH * c, n, WIDTH);
     let x = book_bytes::put_two(out, 4, (c + 1) as u64);

@@ -147,4 +147,3 @@ module _ (b : Body) (f : Fits b) where
       let y : u2 w 8 ≡ length (b .E1) = size-1 in
       let z : u2 w 10 ≡ length (b .E2) = size-2 in
       omega arith
-

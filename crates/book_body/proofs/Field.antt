@@ -10,7 +10,7 @@ use lib.ListN.{length, getD, take}
 use lib.Seq.{ext-getD, getD-take, length-take-le, take-all}
 use Rattle.reading.specs.Row.{tab}
 use Rattle.reading.proofs.Tab.{at-tab, length-tab}
-use Rattle.field.specs.Refusal.{Degree, Fault3, Refusal, Accepted}
+use Rattle.field.specs.Refusal.{Fault3, Refusal, Accepted}
 use Rattle.field.proofs.Stages.{later}
 use Rattle.field.proofs.Accept.{accepted}
 use Rattle.book_bytes.specs.Bytes.{u2, Small}

@@ -141,4 +141,3 @@ next-list w i n l r e f =
 
 pub read-list : (w : List ℕ) (i n : ℕ) (l r : List ℕ) → drop i w ≡ words l ++ r → n ≡ length l → Small l → vals n (drop i w) ≡ l
 read-list w i n l r e f h = ap (λ (k : ℕ). vals k (drop i w)) f ∙ ap (vals (length l)) e ∙ vals-words l r h
-

@@ -42,7 +42,7 @@ fn put_lists(
     requires { ⌜ Lists (now out) at (now g) (now h) (now a) (now b) (now c) ⌝ }
     ensures { λ r.
         ⌜ Put (now (out .entry)) at (listBytes (now (g .entry)) (now (h .entry)) (now (a .entry)) (now (b .entry)) (now (c .entry)))
-            (listLong (now (g .entry)) (now (h .entry)) (now (a .entry)) (now (b .entry)) (now (c .entry))) r (now (out .exit)) ⌝ }
+        (listLong (now (g .entry)) (now (h .entry)) (now (a .entry)) (now (b .entry)) (now (c .entry))) r (now (out .exit)) ⌝ }
 {
     let x0 = book_bytes::put_list(out, at, g);
     let x1 = book_bytes::put_list(out, x0, h);
@@ -137,7 +137,7 @@ pub fn write_body(
 ) -> Wrote
     ensures { λ r.
         ⌜ WriteTells (bodyFrom p (now (g .entry)) (now (h .entry)) (period .0) (now (a .entry)) (now (b .entry)) (now (c .entry)))
-            (now (out .entry)) (wroteSays r) (now (out .exit)) ⌝ }
+        (now (out .entry)) (wroteSays r) (now (out .exit)) ⌝ }
 {
     let x = field::refusal(p, g, h);
     if x != 0 {

@@ -3,19 +3,11 @@ use mathlib.Core.Logic.{inl, inr}
 use lib.Seq.{length-take-le}
 use Rattle.book_add.specs.Add.{length-out}
 use Rattle.book_add.proofs.Adding.{no-of, known-of, short-of, room-of, added-of}
-use Prim.Native.Nat.{ℕ, zero, suc, _≤_, _<_, _-_, _*_, _+_, _%_}
-use mathlib.Core.Path.{_≡_, _∙_, sym, ap, refl, subst}
-use mathlib.Core.List.{List, [], _∷_, _++_}
+use mathlib.Core.Path.{sym, refl}
 use native.Mathlib.Omega.{arith}
-use native.Mathlib.Numerals.{add-one}
-use lib.ListN.{length, length-set, getD, set, replicate, take, drop}
 use borrow.Author.Needs.{needs}
 use Rattle.book_add.proofs.add.Statement.{statement}
 use Rattle.book_add.proofs.add.Tie as tie
-use Rattle.book_add.proofs.add.Reads as reads
-use Rattle.book_add.proofs.add.Lts as lts
-use Rattle.book_add.proofs.may_add.Reads as may-add-reads
-use Rattle.book_add.proofs.put_body.Reads as put-body-reads
 
 returns : tie.Need-returns
 returns c = length-out (omega arith) refl refl

@@ -2,21 +2,10 @@
 use Rattle.book.proofs.Facts.{judge-good}
 use Rattle.book.proofs.Asking.{yes-of}
 use Rattle.book_add.proofs.May.{finished, has-of, may-of, book-no, body-no}
-use Prim.Native.Nat.{ℕ, zero, suc, _≤_, _<_, _-_, _*_, _+_, _%_}
-use mathlib.Core.Path.{_≡_, _∙_, sym, ap, refl, subst}
-use mathlib.Core.List.{List, [], _∷_, _++_}
 use native.Mathlib.Omega.{arith}
-use native.Mathlib.Numerals.{add-one}
-use lib.ListN.{length, length-set, getD, set, replicate, take, drop}
 use borrow.Author.Needs.{needs}
 use Rattle.book_add.proofs.may_add.Statement.{statement}
 use Rattle.book_add.proofs.may_add.Tie as tie
-use Rattle.book_add.proofs.may_add.Reads as reads
-use Rattle.book_add.proofs.may_add.Lts as lts
-use Rattle.book.proofs.bodies.Reads as bodies-reads
-use Rattle.book.proofs.check.Reads as check-reads
-use Rattle.book.proofs.earlier.Reads as earlier-reads
-use Rattle.book.proofs.judge.Reads as judge-reads
 
 check-requires : tie.Need-check-requires
 check-requires c κs = search needs

@@ -1,21 +1,10 @@
 -- `book_add::put_body` meets its contract.
 use Rattle.book_add.proofs.Put.{assemble, ends-kept, long-kept}
-use Prim.Native.Nat.{ℕ, zero, suc, _≤_, _<_, _-_, _*_, _+_, _%_}
-use mathlib.Core.Path.{_≡_, _∙_, sym, ap, refl, subst}
-use mathlib.Core.List.{List, [], _∷_, _++_}
+use Prim.Native.Nat.{suc, _*_, _+_}
 use native.Mathlib.Omega.{arith}
-use native.Mathlib.Numerals.{add-one}
-use lib.ListN.{length, length-set, getD, set, replicate, take, drop}
 use borrow.Author.Needs.{needs}
 use Rattle.book_add.proofs.put_body.Statement.{statement}
 use Rattle.book_add.proofs.put_body.Tie as tie
-use Rattle.book_add.proofs.put_body.Reads as reads
-use Rattle.book_add.proofs.put_body.Lts as lts
-use Rattle.book_add.proofs.put_line.Reads as put-line-reads
-use Rattle.book_add.proofs.put_lines.Reads as put-lines-reads
-use Rattle.book_bytes.proofs.copy_in.Reads as copy-in-reads
-use Rattle.book_bytes.proofs.lift.Reads as lift-reads
-use Rattle.book_bytes.proofs.put_two.Reads as put-two-reads
 
 mul-lift : tie.Need-mul-lift
 mul-lift c = search needs

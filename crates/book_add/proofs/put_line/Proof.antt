@@ -1,17 +1,8 @@
 -- `book_add::put_line` meets its contract.
 use Rattle.book_add.proofs.Lines.{line-put}
-use Prim.Native.Nat.{ℕ, zero, suc, _≤_, _<_, _-_, _*_, _+_, _%_}
-use mathlib.Core.Path.{_≡_, _∙_, sym, ap, refl, subst}
-use mathlib.Core.List.{List, [], _∷_, _++_}
-use native.Mathlib.Omega.{arith}
-use native.Mathlib.Numerals.{add-one}
-use lib.ListN.{length, length-set, getD, set, replicate, take, drop}
 use borrow.Author.Needs.{needs}
 use Rattle.book_add.proofs.put_line.Statement.{statement}
 use Rattle.book_add.proofs.put_line.Tie as tie
-use Rattle.book_add.proofs.put_line.Reads as reads
-use Rattle.book_add.proofs.put_line.Lts as lts
-use Rattle.book_bytes.proofs.put_four.Reads as put-four-reads
 
 put-four-requires : tie.Need-put-four-requires
 put-four-requires c κs = search needs

@@ -2,19 +2,12 @@
 use Rattle.book_bytes.specs.Bytes.{Put}
 use Rattle.book_add.specs.Code.{lineEnd, lines}
 use Rattle.book_add.proofs.Lines.{lineEnd-more, lineEnd-first, lines-none, line-read, lines-more, lines-all}
-use Prim.Native.Nat.{ℕ, zero, suc, _≤_, _<_, _-_, _*_, _+_, _%_}
-use mathlib.Core.Path.{_≡_, _∙_, sym, ap, refl, subst}
-use mathlib.Core.List.{List, [], _∷_, _++_}
+use Prim.Native.Nat.{suc, _≤_, _-_, _*_, _+_}
+use mathlib.Core.Path.{_≡_}
 use native.Mathlib.Omega.{arith}
-use native.Mathlib.Numerals.{add-one}
-use lib.ListN.{length, length-set, getD, set, replicate, take, drop}
 use borrow.Author.Needs.{needs}
 use Rattle.book_add.proofs.put_lines.Statement.{statement}
 use Rattle.book_add.proofs.put_lines.Tie as tie
-use Rattle.book_add.proofs.put_lines.Reads as reads
-use Rattle.book_add.proofs.put_lines.Lts as lts
-use Rattle.book_add.proofs.put_line.Reads as put-line-reads
-use Rattle.book_bytes.proofs.four.Reads as four-reads
 
 abbrev Inv-loop : tie.InvT-loop
 Inv-loop out₀ c at₀ o₀ i₀ out at o i = (i ≤ c) × (at ≡ lineEnd out₀ (6 + 8 * suc c) i) × Put out₀ 6 (lines out₀ (6 + 8 * suc c) i) (8 * i) o out

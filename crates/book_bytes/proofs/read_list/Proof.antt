@@ -2,8 +2,8 @@
 use Rattle.book_bytes.specs.Bytes.{u2, listStart, listAt, Put}
 use Rattle.book_bytes.proofs.Lists.{length-list, list-read}
 use Rattle.book_bytes.proofs.Write.{copy-none, copy-more, copy-all}
-use Prim.Native.Nat.{ℕ, _≤_, _<_, _-_, _*_, _+_}
-use mathlib.Core.Path.{_≡_, subst}
+use Prim.Native.Nat.{_≤_, _<_, _-_, _*_, _+_}
+use mathlib.Core.Path.{_≡_}
 use native.Mathlib.Omega.{arith}
 use lib.ListN.{length, take}
 use borrow.Author.Needs.{needs}
