@@ -1,11 +1,10 @@
 -- `parse` has one outcome for each line (parse-unique), and slices of 126 entries are long enough for every line (never-short).
-use mathlib.Core.Path.{_≡_, refl, sym, ap, _∙_, subst}
-use mathlib.Core.Logic.{_⊎_, inl, inr, ⊎-elim}
-use mathlib.Core.List.{List, [], _∷_, _++_}
-use Prim.Native.Nat.{ℕ, _+_, _≤_, _<_}
+use mathlib.Core.Path.{_≡_, refl, sym, ap, _∙_}
+use mathlib.Core.Logic.{⊎-elim}
+use mathlib.Core.List.{List, _++_}
+use Prim.Native.Nat.{ℕ, _≤_, _<_}
 use native.Mathlib.Omega.{arith}
 use lib.ListN.{length, drop}
-use Rattle.text.specs.Grammar.{Reads}
 use Rattle.text.specs.Tells.{ReadAs, TooShort, ParseTells}
 use Rattle.text.specs.declared.read.Line.{Line}
 use Rattle.text.specs.declared.read.Parsed.{Parsed}
