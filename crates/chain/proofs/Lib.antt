@@ -11,3 +11,5 @@ pub mod Closing
 pub mod Unit
 pub mod Rows
 pub mod Bounds
+pub mod Reduce
+pub mod Exists

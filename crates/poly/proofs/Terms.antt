@@ -1,18 +1,17 @@
 -- The sums behind one coefficient of a product, and the product.
-use mathlib.Core.Path.{_≡_, refl, sym, ap, _∙_, subst}
+use mathlib.Core.Path.{_≡_, sym, ap, _∙_, subst}
 use mathlib.Core.List.{List}
-use Prim.Native.Nat.{ℕ, zero, suc, _+_, _*_, _-_, _%_, _<_, _≤_, min}
+use Prim.Native.Nat.{ℕ, suc, _+_, _*_, _-_, _%_, _<_, _≤_, min}
 use native.Mathlib.Nat.{mod-lt, mod-add-mod, add-mod-mod, add-assoc, mul-zero, zero-mod}
 use native.Mathlib.Numerals.{add-one}
 use native.Mathlib.Omega.{arith}
 use lib.ListN.{getD}
 use Rattle.reading.specs.Made.{reading}
-use Rattle.reading.specs.Row.{tab, Row, Size, row, shiftAt}
+use Rattle.reading.specs.Row.{tab, Row, Size, row}
 use Rattle.reading.specs.Sum.{sumTo, termAt}
 use Rattle.reading.proofs.Tab.{tab-row, shift-low, shift-high, Begun, begun-end}
 use Rattle.reading.proofs.Product.{mul-law, sum-more, sum-skip, sum-none}
 use Rattle.poly.specs.Leaf.{MulIn, Product}
-use Rattle.poly.specs.Terms.{PlaceIn}
 
 -- one more term, where s and r are sums up to a multiple of p
 pub part-more : (p : ℕ) (f : ℕ → ℕ) (from i s t r : ℕ) → (sumTo f from + s) % p ≡ sumTo f i % p → r % p ≡ (s + t) % p → t ≡ f i → (sumTo f from + r) % p ≡ sumTo f (i + 1) % p
@@ -56,3 +55,7 @@ product p x y n m k r h sx sy l b =
       is-row = subst (λ u. Row p u) (sym e) (tab-row p _ (omega arith) (λ i. mod-lt (sumTo (termAt x y i) n) (omega arith)));
       law = λ pr. ap (row (reading p pr)) e ∙ mul-law (reading p pr) n m x y sx sy (h .room n m sx sy);
     }
+
+-- one more term of a sum that is kept as it is
+pub plain-more : (f : ℕ → ℕ) (from i s t : ℕ) → sumTo f from + s ≡ sumTo f i → t ≡ f i → sumTo f from + (s + t) ≡ sumTo f (i + 1)
+plain-more f from i s t h e = let m : sumTo f (suc i) ≡ sumTo f i + f i = sum-more f i in let q : sumTo f from + (s + t) ≡ sumTo f (suc i) = omega arith in q ∙ ap (sumTo f) (sym (add-one i))

@@ -1,11 +1,10 @@
 -- `parse` has one outcome for each line (parse-unique), and slices of 126 entries are long enough for every line (never-short).
-use mathlib.Core.Path.{_≡_, refl, sym, ap, _∙_, subst}
-use mathlib.Core.Logic.{_⊎_, inl, inr, ⊎-elim}
-use mathlib.Core.List.{List, [], _∷_, _++_}
-use Prim.Native.Nat.{ℕ, _+_, _≤_, _<_}
+use mathlib.Core.Path.{_≡_, refl, sym, ap, _∙_}
+use mathlib.Core.Logic.{⊎-elim}
+use mathlib.Core.List.{List, _++_}
+use Prim.Native.Nat.{ℕ, _≤_, _<_}
 use native.Mathlib.Omega.{arith}
 use lib.ListN.{length, drop}
-use Rattle.text.specs.Grammar.{Reads}
 use Rattle.text.specs.Tells.{ReadAs, TooShort, ParseTells}
 use Rattle.text.specs.declared.read.Line.{Line}
 use Rattle.text.specs.declared.read.Parsed.{Parsed}
@@ -34,10 +33,11 @@ read-read : (line g h : List ℕ) (l m : Line) (g' h' g₂ h₂ : List ℕ) → 
 read-read line g h l m g' h' g₂ h₂ a b =
     let u = reads-unique (a .reads) (b .reads) in
     let n : l .ng ≡ m .ng = sym (a .count-G) ∙ ap length (u .1) ∙ b .count-G in
-    let k : l .nh ≡ m .nh = sym (a .count-H) ∙ ap length (u .2) ∙ b .count-H in
-    (ap Read (line-same l m (u .0) n k),
-    front-same (a .G) (b .G) g g' g₂ (l .ng) (m .ng) (u .1) n (a .front-G) (b .front-G),
-    front-same (a .H) (b .H) h h' h₂ (l .nh) (m .nh) (u .2) k (a .front-H) (b .front-H))
+    let k : l .nh ≡ m .nh = sym (a .count-H) ∙ ap length (u .2) ∙ b .count-H in (
+      ap Read (line-same l m (u .0) n k),
+      front-same (a .G) (b .G) g g' g₂ (l .ng) (m .ng) (u .1) n (a .front-G) (b .front-G),
+      front-same (a .H) (b .H) h h' h₂ (l .nh) (m .nh) (u .2) k (a .front-H) (b .front-H),
+    )
 
 pub parse-unique : (line g h : List ℕ) (r r₂ : Parsed) (g' h' g₂ h₂ : List ℕ) → ParseTells line g h r g' h' → ParseTells line g h r₂ g₂ h₂
     → (r ≡ r₂) × (g' ≡ g₂) × (h' ≡ h₂)

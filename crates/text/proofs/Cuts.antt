@@ -2,18 +2,20 @@
 --   until-here, until-skip, until-past   `until` from a place on, byte by byte
 --   search-here, search-on               a search from place to place
 --   until-take, until-le                 it is the front of the text
+--   pieces-none, pieces-hit, pieces-miss   `pieces` byte by byte
 --   piece-at     the pieces from a place on: the one that ends at the next c, then those behind it
 --   rest-start, rest-none                from the start on, and past the end
 --   Passed c s n at   n pieces of s are passed, and the next begins at `at`; passed-none, passed-more, passed-end
-use mathlib.Core.Path.{_≡_, refl, sym, ap, _∙_, subst}
+use mathlib.Core.Path.{_≡_, refl, sym, ap, _∙_}
+use mathlib.Core.Logic.{_≢_}
 use mathlib.Core.Bool.{Bool, true, false}
-use mathlib.Core.List.{List, [], _∷_, _++_}
+use mathlib.Core.List.{List, [], _∷_}
 use Prim.Native.Nat.{ℕ, zero, suc, _+_, _-_, _≤_, _<_}
 use native.Mathlib.Nat.{add-zero}
 use native.Mathlib.Numerals.{add-one}
 use native.Mathlib.Decide.{decLe}
 use native.Mathlib.Omega.{arith}
-use lib.Dec.{eqb, leb, leb·suc-suc}
+use lib.Dec.{eqb, leb·suc-suc}
 use lib.ListN.{length, getD, take, drop, length-drop, drop-of-length-le}
 use lib.Seq.{drop-cons, drop-drop, getD-drop}
 use borrow.Author.Tests.{eq-eqb, ne-eqb, eqb-true, eqb-false, le-leb, lt-leb}
@@ -122,10 +124,12 @@ rest-drop c s at j h = elim (decLe (at + j) (length s)) [ yes p ↦ inside p | n
   where
     long : length (drop at s) ≡ length s - at
     long = length-drop at s
+
     inside : at + j ≤ length s → restAt c (drop at s) j ≡ restAt c s (at + j)
     inside p =
         let l : length (drop at s) ≡ length s - at = long in
         rest-in c (drop at s) j (omega arith) ∙ ap (pieces c) (drop-drop j at s) ∙ sym (rest-in c s (at + j) p)
+
     beyond : ¬ (at + j ≤ length s) → restAt c (drop at s) j ≡ restAt c s (at + j)
     beyond p =
         let l : length (drop at s) ≡ length s - at = long in
@@ -133,6 +137,18 @@ rest-drop c s at j h = elim (decLe (at + j) (length s)) [ yes p ↦ inside p | n
 
 piecesIf : ℕ → ℕ → List ℕ → Bool → List (List ℕ)
 piecesIf c x s b = elim b [ true ↦ [] ∷ pieces c s | false ↦ ahead x (pieces c s) ]
+
+pub pieces-hit : (c x : ℕ) (s : List ℕ) → x ≡ c → pieces c (x ∷ s) ≡ [] ∷ pieces c s
+unfolding pieces piecesIf
+pieces-hit c x s h = ap (piecesIf c x s) (eq-eqb x c h)
+
+pub pieces-miss : (c x : ℕ) (s : List ℕ) → x ≢ c → pieces c (x ∷ s) ≡ ahead x (pieces c s)
+unfolding pieces piecesIf
+pieces-miss c x s h = ap (piecesIf c x s) (ne-eqb x c h)
+
+pub pieces-none : (c : ℕ) → pieces c [] ≡ [] ∷ []
+unfolding pieces
+pieces-none c = refl
 
 pub pieces-until : (c : ℕ) (s : List ℕ) → pieces c s ≡ until c s ∷ restAt c s (length (until c s) + 1)
 unfolding pieces until piecesIf untilIf ahead
@@ -175,11 +191,12 @@ piece-at c s at e h q =
 
 -- ---- passing the pieces one after the other
 head-of : (n : ℕ) (ps : List (List ℕ)) {p : List ℕ} {qs : List (List ℕ)} → drop n ps ≡ p ∷ qs → (n < length ps) × (getD ps n [] ≡ p) × (drop (n + 1) ps ≡ qs)
-head-of n ps {p} {qs} e =
-    (let l : length (drop n ps) ≡ length ps - n = length-drop n ps in
-    let k : length (drop n ps) ≡ suc (length qs) = ap length e in omega arith,
-    ap (λ (j : ℕ). getD ps j []) (sym (add-zero n)) ∙ sym (getD-drop n ps 0 []) ∙ ap (λ (z : List (List ℕ)). getD z 0 []) e,
-    sym (drop-drop 1 n ps) ∙ ap (drop 1) e)
+head-of n ps {p} {qs} e = (
+  let l : length (drop n ps) ≡ length ps - n = length-drop n ps in
+      let k : length (drop n ps) ≡ suc (length qs) = ap length e in omega arith,
+  ap (λ (j : ℕ). getD ps j []) (sym (add-zero n)) ∙ sym (getD-drop n ps 0 []) ∙ ap (λ (z : List (List ℕ)). getD z 0 []) e,
+  sym (drop-drop 1 n ps) ∙ ap (drop 1) e,
+)
 
 pub record Passed (c : ℕ) (s : List ℕ) (n at : ℕ) : Type 0 where
   pub few : n ≤ at

@@ -1,8 +1,8 @@
 -- Whatever the pieces in which the input arrives, the lines met are those of the input.
 --   fed-lines   of a program that goes through its input by `cut`: the lines met, and what is pending, are lines-of the input so far
+--   fed-output  the same for what is written, with a slice of 255 bytes
 --   fed-same    two such programs with slices of one length meet the same lines in the same input, whatever the pieces
 use mathlib.Core.Path.{_≡_, refl, sym, ap, _∙_, subst}
-use mathlib.Core.Logic.{_≢_}
 use mathlib.Core.Bool.{Bool, true, false}
 use mathlib.Core.List.{List, [], _∷_, _++_, append-assoc, append-nil}
 use Prim.Native.Nat.{ℕ, zero, suc, _+_, _-_, _≤_, _<_, min, max}
@@ -11,11 +11,11 @@ use lib.ListN.{length, take, drop, length-append, length-drop, take-append-drop}
 use lib.Seq.{sets-eq, take-all, take-at, take-add}
 use borrow.Author.Tests.{le-leb, lt-leb}
 use Rattle.text.specs.Grammar.{newline}
-use Rattle.text.specs.Pieces.{until, pieces}
 use Rattle.text.specs.Lines.{Line, whole, broken, ended, left, linesIn, lines-of, Kept}
-use Rattle.text.specs.Tells.{Carried, CutAt, CutTells, upTo, part}
-use Rattle.text.specs.Feed.{Fed, start, line-ends, long-line-ends, piece-ends, at-end}
-use Rattle.text.proofs.Cuts.{until-le, until-take, until-stop, until-free}
+use Rattle.text.specs.Tells.{Carried, CutAt, upTo, part}
+use Rattle.text.specs.Feed.{Fed, start, line-ends, long-line-ends, piece-ends, at-end, answers, output}
+use Rattle.text.specs.Print.{refused-text}
+use Rattle.text.proofs.Cuts.{until-take, until-stop, until-free}
 use Rattle.text.proofs.Joins.{Free, free-append, pieces-free, pieces-next, pieces-some}
 use Rattle.text.proofs.Puts.{placed-same}
 
@@ -113,6 +113,7 @@ module _ {input : List ℕ} {lines : List Line} {k : List ℕ} {m : ℕ} (a : Ha
     where
       long : length k ≡ length k'
       long = sym (placed-same c)
+
       then : (J : List ℕ) → lines-of (length k') ((input ++ drop at s) ++ J) ≡ lines ++ lines-of (length k') ((a .x ++ upTo s at) ++ J)
       then J =
           subst (λ (n : ℕ). lines-of n ((input ++ drop at s) ++ J) ≡ lines ++ lines-of n ((a .x ++ upTo s at) ++ J)) long
@@ -128,6 +129,7 @@ module _ {input : List ℕ} {lines : List Line} {k : List ℕ} {m : ℕ} (a : Ha
     where
       long : length k ≡ length k'
       long = sym (placed-same (c .carried))
+
       step : (J : List ℕ) → lines-of (length k) ((input ++ part s at next) ++ J) ≡ (lines ++ l ∷ []) ++ lines-of (length k) J
       step J =
           ap (lines-of (length k)) (append-assoc input (part s at next) J)
@@ -137,6 +139,7 @@ module _ {input : List ℕ} {lines : List Line} {k : List ℕ} {m : ℕ} (a : Ha
           ∙ ap (λ (z : List ℕ). lines ++ lines-of (length k) z) (sym (append-assoc (a .x) (upTo s at) (newline ∷ J)))
           ∙ ap (λ (z : List Line). lines ++ z) (lines-next (length k) (a .x ++ upTo s at) J longer ∙ ap (λ (y : Line). y ∷ lines-of (length k) J) e)
           ∙ sym (append-assoc lines (l ∷ []) (lines-of (length k) J))
+
       then : (J : List ℕ) → lines-of (length k') ((input ++ part s at next) ++ J) ≡ (lines ++ l ∷ []) ++ lines-of (length k') ([] ++ J)
       then J = subst (λ (n : ℕ). lines-of n ((input ++ part s at next) ++ J) ≡ (lines ++ l ∷ []) ++ lines-of n J) long (step J)
 
@@ -184,3 +187,17 @@ pub fed-same : {earlier s : List ℕ} {at : ℕ} {lines : List Line} {k : List �
     → lines ++ at-end m ≡ lines₂ ++ at-end m₂
 fed-same {k = k} {earlier₂ = earlier₂} {s₂} {at₂} f g e l =
     sym (fed-lines f) ∙ ap (lines-of (length k)) e ∙ ap (λ (n : ℕ). lines-of n (earlier₂ ++ take at₂ s₂)) l ∙ fed-lines g
+
+-- ---- what is written
+pub answers-append : (f : List ℕ → List ℕ) (a b : List Line) → answers f (a ++ b) ≡ answers f a ++ answers f b
+unfolding answers
+answers-append f [] b = refl
+answers-append f (whole s ∷ a) b = ap (λ (z : List ℕ). f s ++ z) (answers-append f a b) ∙ sym (append-assoc (f s) (answers f a) (answers f b))
+answers-append f (broken ∷ a) b =
+    ap (λ (z : List ℕ). refused-text 12 ++ z) (answers-append f a b) ∙ sym (append-assoc (refused-text 12) (answers f a) (answers f b))
+
+pub fed-output : (f : List ℕ → List ℕ) {earlier s : List ℕ} {at : ℕ} {lines : List Line} {k : List ℕ} {m : ℕ} → Fed earlier s at lines k m → length k ≡ 255
+    → output f (earlier ++ take at s) ≡ answers f lines ++ answers f (at-end m)
+unfolding output
+fed-output f {earlier} {s} {at} {lines} {m = m} a e =
+    ap (λ (n : ℕ). answers f (lines-of n (earlier ++ take at s))) (sym e) ∙ ap (answers f) (fed-lines a) ∙ answers-append f lines (at-end m)

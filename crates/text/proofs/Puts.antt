@@ -8,7 +8,7 @@
 --   put-unique    two outcomes are equal
 use mathlib.Core.Path.{_≡_, refl, sym, ap, _∙_, subst}
 use mathlib.Core.List.{List, [], _∷_, _++_}
-use Prim.Native.Nat.{ℕ, zero, suc, _+_, _≤_, _<_, min, max}
+use Prim.Native.Nat.{ℕ, suc, _+_, _≤_, _<_, min, max}
 use native.Mathlib.Nat.{add-zero}
 use native.Mathlib.Decide.{decLe}
 use native.Mathlib.Omega.{arith}
@@ -57,6 +57,7 @@ module _ (n : ℕ) (d : List ℕ) (at : ℕ) (x : List ℕ) (r : ℕ) (d' : List
           let u : r ≡ max at (min (at + length x) n) = a .next in
           let s : length (sets d at x) ≡ length d = length-sets d at x in
           sets-out (sets d at x) r y (omega arith) ∙ sym (sets-out (sets d at x) (at + length x) y (omega arith))
+
       inside : at + length x ≤ n → sets (sets d at x) r y ≡ sets (sets d at x) (at + length x) y
       inside l =
           let u : r ≡ max at (min (at + length x) n) = a .next in

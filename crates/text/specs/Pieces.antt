@@ -3,7 +3,7 @@
 --   pieces c s      the pieces of s between the bytes c, in order: one more than there are bytes c
 --   restAt c s at   the pieces of s from the place `at` on; none past the end of s
 -- Laws: proofs/Cuts.
-use mathlib.Core.Bool.{Bool, true, false}
+use mathlib.Core.Bool.{true, false}
 use mathlib.Core.List.{List, [], _∷_}
 use Prim.Native.Nat.{ℕ}
 use lib.Dec.{eqb, leb}

@@ -23,7 +23,6 @@ use Rattle.text.specs.declared.read.Split.the-variants as split
 use Rattle.text.specs.declared.read.Marks.{Marks}
 use Rattle.text.specs.declared.read.Shape.{Shape}
 use Rattle.text.specs.declared.read.Shape.the-variants as shape
-use Rattle.text.specs.declared.read.Line.{Line}
 use Rattle.text.specs.declared.read.Parsed.{Parsed}
 use Rattle.text.specs.declared.read.Parsed.the-variants as parsed
 use Rattle.text.specs.declared.cut.Step.{Step}

@@ -1,5 +1,5 @@
 -- `text::read::parse` meets its contract.
-use mathlib.Core.Path.{_≡_, refl, subst}
+use mathlib.Core.Path.{refl, subst}
 use mathlib.Core.Logic.{inl, inr}
 use native.Mathlib.Omega.{arith}
 use Rattle.text.specs.Tells.{Sound, ShapeTells}
