@@ -1,6 +1,9 @@
 // The basis record: seven rows of 17 coefficients, M0, M1, M2, N0, N1, N2, U. It starts as zeros and is filled row by row.
+use poly::{add, cross, divide, mul, scale, sub};
 ghost use mathlib.Core.Path.{_≡_};
 ghost use Prim.Native.Nat.{_+_, _*_, _-_, _%_, _<_, _≤_};
+ghost use Rattle.basis.specs.Levels.{LevelIn, Leveled};
+ghost use Rattle.basis.specs.Place.{PlaceIn, Placed};
 ghost use Rattle.basis.specs.Store.{StoreIn, Stored, LoadIn, Loaded};
 
 fn wide(x: u16) -> u64
@@ -38,4 +41,44 @@ pub fn load(rows: &[u16; 119], i: usize) -> [u64; 32]
         j += 1;
     }
     r
+}
+
+// Row 0 of an element over the denominator u, which leads with 1: half of t - ((t + 2 e) mod u)
+pub fn level(p: u64, t: &[u64; 32], e: &[u64; 32], u: &[u64; 32]) -> [u64; 32]
+    requires { ⌜ LevelIn p (now t) (now e) (now u) ⌝ }
+    ensures { λ a. ⌜ Leveled p (now (t .entry)) (now (e .entry)) (now (u .entry)) a ⌝ }
+{
+    let k = cross(p, 1, t, p - 2, 0, e);
+    let d = divide(p, &k, u, 1);
+    let r = d.r;
+    let h = sub(p, t, &r);
+    scale(p, (p + 1) / 2, &h)
+}
+
+// Rows i, i + 1, i + 2 of the record: the element s (b r + c w) over u, x the polynomial part of b r + c w
+fn placed(
+    rows: [u16; 119],
+    i: usize,
+    p: u64,
+    s: u64,
+    b: &[u64; 32],
+    c: &[u64; 32],
+    x: &[u64; 32],
+    x1: &[u64; 32],
+    y1: &[u64; 32],
+    u: &[u64; 32],
+) -> [u16; 119]
+    requires { ⌜ PlaceIn p i s (now b) (now c) (now x) (now x1) (now y1) (now u) ⌝ }
+    ensures { λ o. ⌜ Placed p i s (now (b .entry)) (now (c .entry)) (now (x .entry)) (now (x1 .entry)) (now (y1 .entry)) (now (u .entry)) rows o ⌝ }
+{
+    let mb = scale(p, s, b);
+    let mc = scale(p, s, c);
+    let t = scale(p, s, x);
+    let v = mul(p, &mb, x1);
+    let z = mul(p, &mc, y1);
+    let e = add(p, &v, &z);
+    let a = level(p, &t, &e, u);
+    let r0 = stored(rows, i, &a);
+    let r1 = stored(r0, i + 1, &mb);
+    stored(r1, i + 2, &mc)
 }
