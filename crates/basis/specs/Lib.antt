@@ -1,3 +1,4 @@
 pub mod Store
 pub mod Levels
 pub mod Place
+pub mod Scales

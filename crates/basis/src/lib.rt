@@ -1,9 +1,11 @@
 // The basis record: seven rows of 17 coefficients, M0, M1, M2, N0, N1, N2, U. It starts as zeros and is filled row by row.
 use poly::{add, cross, divide, mul, scale, sub};
+use residue::inverse;
 ghost use mathlib.Core.Path.{_≡_};
 ghost use Prim.Native.Nat.{_+_, _*_, _-_, _%_, _<_, _≤_};
 ghost use Rattle.basis.specs.Levels.{LevelIn, Leveled};
 ghost use Rattle.basis.specs.Place.{PlaceIn, Placed};
+ghost use Rattle.basis.specs.Scales.{ScalesIn, Scaling};
 ghost use Rattle.basis.specs.Store.{StoreIn, Stored, LoadIn, Loaded};
 
 fn wide(x: u16) -> u64
@@ -53,6 +55,28 @@ pub fn level(p: u64, t: &[u64; 32], e: &[u64; 32], u: &[u64; 32]) -> [u64; 32]
     let r = d.r;
     let h = sub(p, t, &r);
     scale(p, (p + 1) / 2, &h)
+}
+
+// The factors by which U, m and n are scaled
+struct Factors {
+    u: u64,
+    m: u64,
+    n: u64,
+}
+
+// 1 / a, 2 / b and 1 / c, by one inversion
+fn factors_of(p: u64, a: u64, b: u64, c: u64) -> Factors
+    requires { ⌜ ScalesIn p a b c ⌝ }
+    ensures { λ k. ⌜ Scaling p a b c k ⌝ }
+{
+    let ab = a * b % p;
+    let i = inverse(p, ab * c % p);
+    let j = i * c % p;
+    Factors {
+        u: j * b % p,
+        m: 2 * (j * a % p) % p,
+        n: i * ab % p,
+    }
 }
 
 // Rows i, i + 1, i + 2 of the record: the element s (b r + c w) over u, x the polynomial part of b r + c w
