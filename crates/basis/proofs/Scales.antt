@@ -13,6 +13,7 @@ use Rattle.valued.proofs.Degree.{k-domain}
 use Rattle.residue.specs.Residue.{Modulus, Nonzero, Inverse}
 use Rattle.reading.specs.Reading.{Reading}
 use Rattle.reading.specs.Made.{reading}
+use Rattle.reduce.proofs.Leaves.{less-square}
 use Rattle.basis.specs.Scales.{ScalesIn, Scaling}
 use Rattle.basis.proofs.Levels.{cast-two}
 use Rattle.basis.specs.declared.Factors.{Factors}
@@ -80,3 +81,7 @@ module _ {p a b c : ℕ} (g : ScalesIn p a b c) where
           ap (λ z. k .mul z (ρ .cast c)) (cast-product ρ i (N._*_ a b % p) ∙ ap (λ z. k .mul (ρ .cast i) z) (cast-product ρ a b))
           ∙ solve (ρ .𝓥 .K) (var 3 :* (var 0 :* var 1) :* var 2) (var 0 :* var 1 :* var 2 :* var 3) tt (ρ .cast a ∷ ρ .cast b ∷ ρ .cast c ∷ ρ .cast i ∷ []) ∙ all pr;
     }
+
+-- a product of two numbers below p fits 64 bits
+pub product-fits : {p : ℕ} (x y : ℕ) → Modulus p → x < p → y < p → N._*_ x y < 4611686018427387904
+product-fits {p} x y h hx hy = let a : p < 2147483648 = h .small in omega (arith, less-square 2147483648 x y (omega arith) (omega arith))

@@ -2,3 +2,4 @@ pub mod Store
 pub mod Levels
 pub mod Place
 pub mod Scales
+pub mod Based

@@ -1,7 +1,7 @@
 -- An element s (b r + c w) over u, put into three rows of the record from row i on.
 --   PlaceIn       rows b, c, x for the element and the polynomial part of its X; the denominator u; polynomials x1, y1 that settle row 0
---   PlacedAt      rows i + 1 and i + 2 are s b and s c; row i is −(s b x1 + s c y1) modulo u, and twice row i less s x lies below u
---   Placed        the same for a prime p; the other rows are as before
+--   PlacedAt      b₀ and c₀ are s b and s c; a₀ is −(s b x1 + s c y1) modulo u, and 2 a₀ less s x lies below u
+--   Placed        the three rows of B′ are such, for a prime p; the other rows are those of B
 use mathlib.Core.Path.{_≡_}
 use mathlib.Core.Logic.{_⊎_}
 use mathlib.Core.List.{List}
@@ -49,17 +49,17 @@ pub record PlaceIn (p i s : ℕ) (b c x x1 y1 u : List ℕ) : Type 0 where
   pub n : ℕ
   pub u-size : Size u (suc n)
 
-pub record PlacedAt {p : ℕ} (ρ : Reading p) (i s : ℕ) (b c x x1 y1 u B : List ℕ) : Type 0 where
-  pub is-b : row ρ (part (i + 1) B) ≡ ρ .𝓥 .L .ops .mul (ρ .𝓥 .const (ρ .cast s)) (row ρ b)
-  pub is-c : row ρ (part (i + 2) B) ≡ ρ .𝓥 .L .ops .mul (ρ .𝓥 .const (ρ .cast s)) (row ρ c)
+pub record PlacedAt {p : ℕ} (ρ : Reading p) (s : ℕ) (b c x x1 y1 u a₀ b₀ c₀ : List ℕ) : Type 0 where
+  pub is-b : row ρ b₀ ≡ ρ .𝓥 .L .ops .mul (ρ .𝓥 .const (ρ .cast s)) (row ρ b)
+  pub is-c : row ρ c₀ ≡ ρ .𝓥 .L .ops .mul (ρ .𝓥 .const (ρ .cast s)) (row ρ c)
   pub k : ρ .𝓥 .L .El
   pub k-poly : ρ .𝓥 .IsPoly k
-  pub framed : off (ρ .𝓥 .L .ops) (row ρ x1) (row ρ y1) (row ρ (part i B)) (row ρ (part (i + 1) B)) (row ρ (part (i + 2) B)) ≡ ρ .𝓥 .L .ops .mul (row ρ u) k
+  pub framed : off (ρ .𝓥 .L .ops) (row ρ x1) (row ρ y1) (row ρ a₀) (row ρ b₀) (row ρ c₀) ≡ ρ .𝓥 .L .ops .mul (row ρ u) k
   pub low : (n : ℕ) → let o = ρ .𝓥 .L .ops in
-      Has (ρ .𝓥) (row ρ u) n → Lt (ρ .𝓥) (o .add (o .mul (o .add (o .𝟏) (o .𝟏)) (row ρ (part i B))) (o .neg (o .mul (ρ .𝓥 .const (ρ .cast s)) (row ρ x)))) n
+      Has (ρ .𝓥) (row ρ u) n → Lt (ρ .𝓥) (o .add (o .mul (o .add (o .𝟏) (o .𝟏)) (row ρ a₀)) (o .neg (o .mul (ρ .𝓥 .const (ρ .cast s)) (row ρ x)))) n
 
 pub record Placed (p i s : ℕ) (b c x x1 y1 u B B′ : List ℕ) : Type 0 where
   pub size : length B′ ≡ 119
   pub each : ((k : ℕ) → getD B k 0 < p) → (k : ℕ) → getD B′ k 0 < p
   pub other : (k : ℕ) → (k < i) ⊎ (i + 2 < k) → part k B′ ≡ part k B
-  pub at : (pr : Prime p) → PlacedAt (reading p pr) i s b c x x1 y1 u B′
+  pub at : (pr : Prime p) → PlacedAt (reading p pr) s b c x x1 y1 u (part i B′) (part (i + 1) B′) (part (i + 2) B′)

@@ -1,8 +1,20 @@
 // The basis record: seven rows of 17 coefficients, M0, M1, M2, N0, N1, N2, U. It starts as zeros and is filled row by row.
-use poly::{add, cross, divide, mul, scale, sub};
+use poly::add;
+use poly::cross;
+use poly::divide;
+use poly::mul;
+use poly::scale;
+use poly::size;
+use poly::sub;
+use reduce::Bounds;
+use reduce::Pair;
+use reduce::lead_of;
+use reduce::reduced;
 use residue::inverse;
 ghost use mathlib.Core.Path.{_≡_};
 ghost use Prim.Native.Nat.{_+_, _*_, _-_, _%_, _<_, _≤_};
+ghost use Rattle.reduce.specs.Given.{given};
+ghost use Rattle.basis.specs.Based.{BasisIn, Based};
 ghost use Rattle.basis.specs.Levels.{LevelIn, Leveled};
 ghost use Rattle.basis.specs.Place.{PlaceIn, Placed};
 ghost use Rattle.basis.specs.Scales.{ScalesIn, Scaling};
@@ -105,4 +117,36 @@ fn placed(
     let r0 = stored(rows, i, &a);
     let r1 = stored(r0, i + 1, &mb);
     stored(r1, i + 2, &mc)
+}
+
+// The scaled basis of the lattice of 1 and of the elements over q by the denominator d
+pub fn reduced_basis(
+    f: Bounds,
+    r: &[u64; 32],
+    w: &[u64; 32],
+    q: Pair,
+    d: &[u64; 32],
+    x1: &[u64; 32],
+    y1: &[u64; 32],
+) -> [u16; 119]
+    requires { ⌜ BasisIn (given f (now r) (now w)) q (f .top) (now d) (now x1) (now y1) ⌝ }
+    ensures { λ o. ⌜ Based (given f (now (r .entry)) (now (w .entry))) q (now (d .entry)) (now (x1 .entry)) (now (y1 .entry)) o ⌝ }
+{
+    let p = f.p;
+    let lu = size(d);
+    let o = reduced(f, r, w, q, lu);
+    let mb = o.mb;
+    let mc = o.mc;
+    let mx = o.mx;
+    let nb = o.nb;
+    let nc = o.nc;
+    let nx = o.nx;
+    let lx = o.lx;
+    let y = lead_of(f, true, &nb, &nc, r, w);
+    let k = factors_of(p, d[lu - 1], mx[lx - 1], y);
+    let u = scale(p, k.u, d);
+    let b0: [u16; 119] = [0; 119];
+    let b1 = placed(b0, 0, p, k.m, &mb, &mc, &mx, x1, y1, &u);
+    let b2 = placed(b1, 3, p, k.n, &nb, &nc, &nx, x1, y1, &u);
+    stored(b2, 6, &u)
 }

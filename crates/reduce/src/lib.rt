@@ -102,7 +102,14 @@ fn part(
 }
 
 // The leading coefficient of b r + c w, or of b r - c w, where its degree is not below 0
-pub fn lead_of(f: Bounds, minus: bool, b: &[u64; 32], c: &[u64; 32], r: &[u64; 32], w: &[u64; 32]) -> u64
+pub fn lead_of(
+    f: Bounds,
+    minus: bool,
+    b: &[u64; 32],
+    c: &[u64; 32],
+    r: &[u64; 32],
+    w: &[u64; 32],
+) -> u64
     requires { ⌜ PartIn (given f (now r) (now w)) (now b) (now c) (f .top) ⌝ }
     ensures { λ v. ⌜ Led (given f (now (r .entry)) (now (w .entry))) minus (now (b .entry)) (now (c .entry)) v ⌝ }
 {
