@@ -1,0 +1,15 @@
+pub mod Parts
+pub mod Room
+pub mod Changed
+pub mod Moved
+pub mod Frame
+pub mod Level
+pub mod Correct
+pub mod Walk
+pub mod Passed
+pub mod Closing
+pub mod Unit
+pub mod Rows
+pub mod Bounds
+pub mod Reduce
+pub mod Exists
