@@ -16,9 +16,8 @@ use Rattle.valued.proofs.Degree.{lt-eq, lt-add, lt-neg, lt-up}
 use Rattle.reading.specs.Reading.{Reading}
 use Rattle.reading.specs.Made.{reading}
 use Rattle.reading.specs.Row.{Row, Size, row, tpow}
-use Rattle.reading.proofs.Rows.{row-poly}
-use Rattle.reading.proofs.Floors.{plus-of}
-use Rattle.reading.proofs.Turn.{lt-scale}
+use Rattle.reading.proofs.Rows.{row-poly, cast-sub, const-neg}
+use Rattle.reading.proofs.Turn.{comb, lt-scale}
 use Rattle.poly.specs.Leaf.{Crossed, CrossIn, Difference, Scaled}
 use Rattle.poly.specs.Division.{DivIn, Divided}
 use Rattle.basis.specs.Levels.{LevelIn, Leveled, Monic}
@@ -37,6 +36,13 @@ module _ {p : ℕ} (ρ : Reading p) where
 
   pub const-two : const (cast 2) ≡ 𝟏 + 𝟏
   const-two = ap const cast-two ∙ ρ .const-add 1ᵏ 1ᵏ ∙ ap₂ _+_ (ρ .const-one) (ρ .const-one)
+
+  -- x − (p − 2) y is x + 2 y
+  pub plus-two : 2 ≤ p → (x y : L .El) → comb ρ (cast 1) (cast (N._-_ p 2)) 0 x y ≡ x + (𝟏 + 𝟏) * y
+  unfolding tpow
+  plus-two l x y =
+      ap₂ (λ a b. a * x + - (b * (𝟏 * y))) (ap const (ρ .cast-one) ∙ ρ .const-one) (ap const (cast-sub ρ 2 l) ∙ const-neg ρ (cast 2) ∙ ap (λ a. - a) const-two)
+      ∙ solve L (one :* var 0 :+ minus (minus (one :+ one) :* (one :* var 1))) (var 0 :+ (one :+ one) :* var 1) tt (x ∷ y ∷ [])
 
   -- (p + 1)/2 is a half
   pub half : p % 2 ≡ 1 → const (cast (N._+_ p 1 / 2)) + const (cast (N._+_ p 1 / 2)) ≡ 𝟏
@@ -69,14 +75,7 @@ module _ {p : ℕ} {t e u : List ℕ} (i : LevelIn p t e u) where
   module _ {k q r d a : List ℕ} (c : Crossed p 1 t (N._-_ p 2) 0 e k) (v : Divided p k u q r) (w : Difference p t r d) (s : Scaled p (N._+_ p 1 / 2) d a) where
     -- t + 2e = q u + r
     sum : (pr : Prime p) → let ρ = reading p pr in let o = ρ .𝓥 .L .ops in o .add (row ρ t) (o .mul (o .add (o .𝟏) (o .𝟏)) (row ρ e)) ≡ o .add (o .mul (row ρ q) (row ρ u)) (row ρ r)
-    unfolding tpow
-    sum pr =
-        let ρ = reading p pr in
-        let o = ρ .𝓥 .L .ops in
-        let b : 1 < p = i .modulus .big in
-        sym (plus-of ρ 2 0 (omega arith) (row ρ t) (row ρ e) ∙ ap (λ z. o .add (row ρ t) (o .mul z (o .mul (o .𝟏) (row ρ e)))) (const-two ρ)
-        ∙ solve (ρ .𝓥 .L) (var 0 :+ (one :+ one) :* (one :* var 1)) (var 0 :+ (one :+ one) :* var 1) tt (row ρ t ∷ row ρ e ∷ []))
-        ∙ sym (c .law pr) ∙ v .law pr
+    sum pr = let b : 1 < p = i .modulus .big in sym (plus-two (reading p pr) (omega arith) (row (reading p pr) t) (row (reading p pr) e)) ∙ sym (c .law pr) ∙ v .law pr
 
     -- a = (t − r)/2
     is-half : (pr : Prime p) → let ρ = reading p pr in let o = ρ .𝓥 .L .ops in row ρ a ≡ o .mul (ρ .𝓥 .const (ρ .cast (N._+_ p 1 / 2))) (o .add (row ρ t) (o .neg (row ρ r)))
