@@ -1,11 +1,20 @@
--- `parse` has one outcome for each line (parse-unique), and slices of 126 entries are long enough for every line (never-short).
+-- One outcome for each input.
+--   number-unique, size-unique, parse-unique   of `number`, `list_size` and `parse` (of what writes: placed-unique of Puts; of `cut`:
+--                                              cut-unique of Steps)
+--   never-short     slices of 126 entries are long enough for every line
 use mathlib.Core.Path.{_≡_, refl, sym, ap, _∙_}
 use mathlib.Core.Logic.{⊎-elim}
 use mathlib.Core.List.{List, _++_}
 use Prim.Native.Nat.{ℕ, _≤_, _<_}
 use native.Mathlib.Omega.{arith}
 use lib.ListN.{length, drop}
-use Rattle.text.specs.Tells.{ReadAs, TooShort, ParseTells}
+use Rattle.text.specs.Tells.{NumberTells, SizeTells, ReadAs, TooShort, ParseTells}
+use Rattle.text.specs.declared.read.Numeral.{Numeral}
+use Rattle.text.specs.declared.read.Numeral.the-variants.{Value}
+use Rattle.text.specs.declared.read.Numeral.the-variants as numeral
+use Rattle.text.specs.declared.read.Entries.{Entries}
+use Rattle.text.specs.declared.read.Entries.the-variants.{Count}
+use Rattle.text.specs.declared.read.Entries.the-variants as entries
 use Rattle.text.specs.declared.read.Line.{Line}
 use Rattle.text.specs.declared.read.Parsed.{Parsed}
 use Rattle.text.specs.declared.read.Parsed.the-variants.{Read, Short, Malformed}
@@ -57,3 +66,15 @@ never-short line g h a b t =
     let u : length (t .G) ≤ 126 = r .0 in
     let v : length (t .H) ≤ 126 = r .1 in
     ⊎-elim (λ (x : length g < length (t .G)). omega arith) (λ (x : length h < length (t .H)). omega arith) (t .room)
+
+pub number-unique : (s : List ℕ) (r r₂ : Numeral) → NumberTells s r → NumberTells s r₂ → r ≡ r₂
+number-unique s (Value v) (Value w) a b = ap Value (a .means ∙ sym (b .means))
+number-unique s (Value v) numeral.Bad a b = absurd (b v a)
+number-unique s numeral.Bad (Value w) a b = absurd (a w b)
+number-unique s numeral.Bad numeral.Bad a b = refl
+
+pub size-unique : (s : List ℕ) (r r₂ : Entries) → SizeTells s r → SizeTells s r₂ → r ≡ r₂
+size-unique s (Count n) (Count m) a b = ap Count (sym (a .2) ∙ ap length (a .1 .means ∙ sym (b .1 .means)) ∙ b .2)
+size-unique s (Count n) entries.Bad a b = absurd (b (a .0) (a .1))
+size-unique s entries.Bad (Count m) a b = absurd (a (b .0) (b .1))
+size-unique s entries.Bad entries.Bad a b = refl
