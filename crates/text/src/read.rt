@@ -20,13 +20,13 @@ pub enum Entries {
 }
 
 // Where a line's two semicolons stand.
-pub enum Split {
+enum Split {
     Three(usize, usize),
     Other,
 }
 
 // A line that reads: G stands from a to j and H from b on; p, and how many numbers G and H have.
-pub struct Marks {
+struct Marks {
     pub a: usize,
     pub j: usize,
     pub b: usize,
@@ -35,7 +35,7 @@ pub struct Marks {
     pub nh: usize,
 }
 
-pub enum Shape {
+enum Shape {
     Sound(Marks),
     Bad,
 }
