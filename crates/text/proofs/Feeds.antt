@@ -11,8 +11,9 @@ use lib.ListN.{length, take, drop, length-append, length-drop, take-append-drop}
 use lib.Seq.{sets-eq, take-all, take-at, take-add}
 use borrow.Author.Tests.{le-leb, lt-leb}
 use Rattle.text.specs.Grammar.{newline}
+use Rattle.text.specs.Pieces.{part}
 use Rattle.text.specs.Lines.{Line, whole, broken, ended, left, linesIn, lines-of, Kept}
-use Rattle.text.specs.Tells.{Carried, CutAt, upTo, part}
+use Rattle.text.specs.Tells.{Carried, CutAt, upTo}
 use Rattle.text.specs.Feed.{Fed, start, line-ends, long-line-ends, piece-ends, at-end, answers, output}
 use Rattle.text.specs.Print.{refused-text}
 use Rattle.text.proofs.Cuts.{until-take, until-stop, until-free}

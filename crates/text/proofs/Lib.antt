@@ -11,3 +11,4 @@ pub mod Joins
 pub mod Writings
 pub mod Answers
 pub mod Feeds
+pub mod Samples
