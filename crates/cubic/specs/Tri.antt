@@ -94,3 +94,6 @@ module _ (R : CRing) (g h : R .El) where
 
   pub cofactor : (x : Tri (R .El)) → mulT o g h x (cofT o g h x) ≡ record { a = normT o g h x; b = o .𝟎; c = o .𝟎 }
   cofactor x = solve₃ R (M X (cofT exprs G H X)) (triE (Nm X) (exprs .𝟎) (exprs .𝟎)) (tt, tt, tt) (env x x x)
+
+  pub cofactor-mul : (x y : Tri (R .El)) → cofT o g h (mulT o g h x y) ≡ mulT o g h (cofT o g h x) (cofT o g h y)
+  cofactor-mul x y = solve₃ R (cofT exprs G H (M X Y)) (M (cofT exprs G H X) (cofT exprs G H Y)) (tt, tt, tt) (env x y x)

@@ -102,7 +102,7 @@ module _ {p : ℕ} (ρ : Reading p) where
   tpow-lead zero = 𝓥 .lead-one
   tpow-lead (suc k) = lead-eq 𝓥 (𝓥 .lead-move (suc k) 0 (𝓥 .lead-mul (𝓥 .t-lead) (tpow-lead k)) (omega arith)) refl (r.one-mul K 1ᵏ)
 
-  term-lead : (a : K .El) (n : ℕ) → Lead (const a * tpow ρ n) n 0 a
+  pub term-lead : (a : K .El) (n : ℕ) → Lead (const a * tpow ρ n) n 0 a
   term-lead a n = lead-eq 𝓥 (𝓥 .lead-move n 0 (𝓥 .lead-mul (𝓥 .const-lead a) (tpow-lead n)) (omega arith)) refl (K .laws .mul-one a)
 
   pub psum-lt : (n : ℕ) (f : ℕ → K .El) → Lt 𝓥 (psum ρ n f) n
@@ -162,27 +162,69 @@ module _ {p : ℕ} (ρ : Reading p) where
       go (suc d) z = above 𝓥 (size-has h z) g
 
   -- ---- the leaves
-  -- s x − c t^k y, where nothing of t^k y is past the row ρ
-  pub cross-law : (s : ℕ) (x : List ℕ) (c k : ℕ) (y : List ℕ) (m : ℕ) → length x ≡ 32 → Size y m → N._+_ m k ≤ 32
+  -- t^k y, by any number of terms that reaches past it
+  pub shift-law : (n k m : ℕ) (y : List ℕ) → ((i : ℕ) → m ≤ i → getD y i 0 ≡ 0) → N._+_ m k ≤ n → psum ρ n (λ i. cast (shiftAt y k i)) ≡ tpow ρ k * row ρ y
+  shift-law n k m y h l =
+      let e : n ≡ N._+_ (N._-_ n k) k = omega arith in
+      ap (λ j. psum ρ j (λ i. cast (shiftAt y k i))) e
+      ∙ psum-shift k (N._-_ n k) (coefs ρ y) (λ i. cast (shiftAt y k i)) (λ i h. ap cast (shift-low y k i h) ∙ ρ .cast-zero)
+      (λ i. ap cast (shift-high y k (N._+_ i k) (omega arith) ∙ ap (λ j. getD y j 0) (let w : N._-_ (N._+_ i k) k ≡ i = omega arith in w)))
+      ∙ ap (λ z. tpow ρ k * z) (sym (row-upto y (N._-_ n k) (λ i u. h i (omega arith))))
+
+  -- s x − c t^k y, where nothing of t^k y is past the row
+  pub cross-law : (s : ℕ) (x : List ℕ) (c k : ℕ) (y : List ℕ) (m : ℕ) → c ≤ p → length x ≡ 32 → Size y m → N._+_ m k ≤ 32
       → row ρ (tab 32 (crossAt p s x c k y)) ≡ const (cast s) * row ρ x + - (const (cast c) * (tpow ρ k * row ρ y))
-  cross-law s x c k y m sx sy l =
+  cross-law s x c k y m small sx sy l =
       row-tab 32 (crossAt p s x c k y)
       ∙ psum-ext 32 (λ i. cast (crossAt p s x c k y i)) (λ i. cast s *ᵏ coefs ρ x i +ᵏ -ᵏ (cast c *ᵏ cast (shiftAt y k i))) (λ i h. at i)
       ∙ psum-cross 32 (cast s) (cast c) (coefs ρ x) (λ i. cast (shiftAt y k i))
-      ∙ ap₂ (λ w z. const (cast s) * w + - (const (cast c) * z)) (sym (row-32 x sx)) moved
+      ∙ ap₂ (λ w z. const (cast s) * w + - (const (cast c) * z)) (sym (row-32 x sx)) (shift-law 32 k m y (sy .above) l)
     where
       at : (i : ℕ) → cast (crossAt p s x c k y i) ≡ cast s *ᵏ coefs ρ x i +ᵏ -ᵏ (cast c *ᵏ cast (shiftAt y k i))
       at i =
-          let cy = N._*_ c (shiftAt y k i) in
-          let b : cy % p < p = mod-lt cy (ρ .pos) in
-          ρ .cast-mod (N._+_ (N._*_ s (getD x i 0)) (N._-_ p (cy % p)))
-          ∙ ρ .cast-add (N._*_ s (getD x i 0)) (N._-_ p (cy % p))
-          ∙ ap₂ _+ᵏ_ (ρ .cast-mul s (getD x i 0)) (cast-sub (cy % p) (omega arith) ∙ ap (λ z. -ᵏ z) (ρ .cast-mod cy ∙ ρ .cast-mul c (shiftAt y k i)))
+          ρ .cast-mod (N._+_ (N._*_ s (getD x i 0)) (N._*_ (N._-_ p c) (shiftAt y k i)))
+          ∙ ρ .cast-add (N._*_ s (getD x i 0)) (N._*_ (N._-_ p c) (shiftAt y k i))
+          ∙ ap₂ _+ᵏ_ (ρ .cast-mul s (getD x i 0)) (ρ .cast-mul (N._-_ p c) (shiftAt y k i) ∙ ap (λ z. z *ᵏ cast (shiftAt y k i)) (cast-sub c small) ∙ r.neg-mul K (cast c) (cast (shiftAt y k i)))
 
-      moved : psum ρ 32 (λ i. cast (shiftAt y k i)) ≡ tpow ρ k * row ρ y
-      moved =
-          let e : 32 ≡ N._+_ (N._-_ 32 k) k = omega arith in
-          ap (λ n. psum ρ n (λ i. cast (shiftAt y k i))) e
-          ∙ psum-shift k (N._-_ 32 k) (coefs ρ y) (λ i. cast (shiftAt y k i)) (λ i h. ap cast (shift-low y k i h) ∙ ρ .cast-zero)
-          (λ i. ap cast (shift-high y k (N._+_ i k) (omega arith) ∙ ap (λ n. getD y n 0) (let w : N._-_ (N._+_ i k) k ≡ i = omega arith in w)))
-          ∙ ap (λ n. tpow ρ k * n) (sym (row-upto y (N._-_ 32 k) (λ i h. sy .above i (omega arith))))
+  -- a row whose coefficients are a x + b y, place by place
+  pub place-law : (f : ℕ → ℕ) (a b : K .El) (x y : List ℕ) → length x ≡ 32 → length y ≡ 32 → ((i : ℕ) → cast (f i) ≡ a *ᵏ coefs ρ x i +ᵏ b *ᵏ coefs ρ y i)
+      → row ρ (tab 32 f) ≡ const a * row ρ x + const b * row ρ y
+  place-law f a b x y sx sy h =
+      row-tab 32 f
+      ∙ psum-ext 32 (λ i. cast (f i)) (λ i. a *ᵏ coefs ρ x i +ᵏ -ᵏ (-ᵏ b *ᵏ coefs ρ y i)) (λ i l. h i ∙ solve K (var 0 :+ var 1 :* var 2) (var 0 :+ minus (minus (var 1) :* var 2)) tt (a *ᵏ coefs ρ x i ∷ b ∷ coefs ρ y i ∷ []))
+      ∙ psum-cross 32 a (-ᵏ b) (coefs ρ x) (coefs ρ y)
+      ∙ ap (λ z. const a * psum ρ 32 (coefs ρ x) + - (z * psum ρ 32 (coefs ρ y))) (const-neg b)
+      ∙ ap₂ (λ u v. const a * u + - (- const b * v)) (sym (row-32 x sx)) (sym (row-32 y sy))
+      ∙ solve L (var 0 :+ minus (minus (var 1) :* var 2)) (var 0 :+ var 1 :* var 2) tt (const a * row ρ x ∷ const b ∷ row ρ y ∷ [])
+
+  pub add-law : (x y : List ℕ) → length x ≡ 32 → length y ≡ 32 → row ρ (tab 32 (λ i. N._+_ (getD x i 0) (getD y i 0) % p)) ≡ row ρ x + row ρ y
+  add-law x y sx sy =
+      place-law (λ i. N._+_ (getD x i 0) (getD y i 0) % p) 1ᵏ 1ᵏ x y sx sy
+      (λ i. ρ .cast-mod (N._+_ (getD x i 0) (getD y i 0)) ∙ ρ .cast-add (getD x i 0) (getD y i 0) ∙ solve K (var 0 :+ var 1) (one :* var 0 :+ one :* var 1) tt (coefs ρ x i ∷ coefs ρ y i ∷ []))
+      ∙ ap (λ a. a * row ρ x + a * row ρ y) (ρ .const-one)
+      ∙ solve L (one :* var 0 :+ one :* var 1) (var 0 :+ var 1) tt (row ρ x ∷ row ρ y ∷ [])
+
+  pub sub-law : (x y : List ℕ) → length x ≡ 32 → Row p y → row ρ (tab 32 (λ i. N._+_ (getD x i 0) (N._-_ p (getD y i 0)) % p)) ≡ row ρ x + - row ρ y
+  sub-law x y sx hy =
+      place-law (λ i. N._+_ (getD x i 0) (N._-_ p (getD y i 0)) % p) 1ᵏ (-ᵏ 1ᵏ) x y sx (hy .size)
+      (λ i. let l : getD y i 0 < p = hy .each i in
+      ρ .cast-mod (N._+_ (getD x i 0) (N._-_ p (getD y i 0))) ∙ ρ .cast-add (getD x i 0) (N._-_ p (getD y i 0)) ∙ ap (λ z. coefs ρ x i +ᵏ z) (cast-sub (getD y i 0) (omega arith))
+      ∙ solve K (var 0 :+ minus (var 1)) (one :* var 0 :+ minus one :* var 1) tt (coefs ρ x i ∷ coefs ρ y i ∷ []))
+      ∙ ap₂ (λ a b. a * row ρ x + b * row ρ y) (ρ .const-one) (const-neg 1ᵏ ∙ ap (λ a. - a) (ρ .const-one))
+      ∙ solve L (one :* var 0 :+ minus one :* var 1) (var 0 :+ minus (var 1)) tt (row ρ x ∷ row ρ y ∷ [])
+
+  pub scale-law : (c : ℕ) (x : List ℕ) → length x ≡ 32 → row ρ (tab 32 (λ i. N._*_ c (getD x i 0) % p)) ≡ const (cast c) * row ρ x
+  scale-law c x sx =
+      place-law (λ i. N._*_ c (getD x i 0) % p) (cast c) 0ᵏ x x sx sx
+      (λ i. ρ .cast-mod (N._*_ c (getD x i 0)) ∙ ρ .cast-mul c (getD x i 0) ∙ solve K (var 0) (var 0 :+ zer :* var 1) tt (cast c *ᵏ coefs ρ x i ∷ coefs ρ x i ∷ []))
+      ∙ ap (λ a. const (cast c) * row ρ x + a * row ρ x) const-zero
+      ∙ solve L (var 0 :+ zer :* var 1) (var 0) tt (const (cast c) * row ρ x ∷ row ρ x ∷ [])
+
+  -- f + c g
+  pub psum-plus : (n : ℕ) (c : K .El) (f g : ℕ → K .El) → psum ρ n (λ i. f i +ᵏ c *ᵏ g i) ≡ psum ρ n f + const c * psum ρ n g
+  unfolding psum
+  psum-plus zero c f g = solve L zer (zer :+ var 0 :* zer) tt (const c ∷ [])
+  psum-plus (suc n) c f g =
+      ap₂ (λ x y. x + y * tpow ρ n) (psum-plus n c f g) (ρ .const-add (f n) (c *ᵏ g n) ∙ ap (λ x. const (f n) + x) (ρ .const-mul c (g n)))
+      ∙ solve L (var 1 :+ var 0 :* var 2 :+ (var 3 :+ var 0 :* var 4) :* var 5) (var 1 :+ var 3 :* var 5 :+ var 0 :* (var 2 :+ var 4 :* var 5)) tt
+      (const c ∷ psum ρ n f ∷ psum ρ n g ∷ const (f n) ∷ const (g n) ∷ tpow ρ n ∷ [])

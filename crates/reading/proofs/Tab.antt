@@ -8,7 +8,7 @@ use Prim.Native.Nat.{ℕ, zero, suc, _+_, _*_, _-_, _%_, _<_, _≤_}
 use native.Mathlib.Nat.{mod-lt, mod-eq-of-lt, one-mul, zero-add, add-zero, add-suc, suc-add}
 use native.Mathlib.Omega.{arith}
 use native.Mathlib.Decide.{decLt, ℕ-discrete}
-use lib.ListN.{length, getD, set, length-set, List·getD-eq-default}
+use lib.ListN.{length, getD, set, replicate, length-set, length-replicate, List·getD-eq-default}
 use Rattle.reading.specs.Row.{tabFrom, tab, Row, Size, shiftAt}
 use lib.Seq.{ext-getD, getD-set-same, getD-set-other}
 
@@ -56,6 +56,38 @@ pub filled-end : (n : ℕ) (f : ℕ → ℕ) (r : List ℕ) (i : ℕ) → Filled
 filled-end n f r i h l =
     ext-getD 0 r (tab n f) (h .size ∙ sym (length-tab n f)) (λ k u. let s : length r ≡ n = h .size in let w : k < n = omega arith in h .done k (omega arith) ∙ sym (at-tab n f k w))
 
+-- ---- the same for a loop that starts from zeros and stops where the formula is 0
+pub zeros-at : (n i : ℕ) → _≡_ {A = ℕ} (getD (replicate n 0) i 0) 0
+zeros-at zero i = refl
+zeros-at (suc n) zero = refl
+zeros-at (suc n) (suc i) = zeros-at n i
+
+pub record Begun (n : ℕ) (f : ℕ → ℕ) (r : List ℕ) (i : ℕ) : Type 0 where
+  pub size : length r ≡ n
+  pub done : (k : ℕ) → k < i → getD r k 0 ≡ f k
+  pub rest : (k : ℕ) → i ≤ k → getD r k 0 ≡ 0
+
+pub begun-start : (n : ℕ) (f : ℕ → ℕ) → Begun n f (replicate n 0) 0
+begun-start n f = record { size = length-replicate n 0; done = λ k l. absurd (omega arith); rest = λ k l. zeros-at n k }
+
+pub begun-more : (n : ℕ) (f : ℕ → ℕ) (r : List ℕ) (i v : ℕ) → Begun n f r i → i < n → v ≡ f i → Begun n f (set r i v) (i + 1)
+begun-more n f r i v h l e = record {
+  size = length-set r i v ∙ h .size;
+  done = λ k u. at k u (ℕ-discrete k i);
+  rest = λ k u. getD-set-other r i k v 0 (omega arith) ∙ h .rest k (omega arith);
+}
+  where
+    at : (k : ℕ) → k < i + 1 → Dec (k ≡ i) → getD (set r i v) k 0 ≡ f k
+    at k u (yes z) = ap (λ m. getD (set r i v) m 0) z ∙ getD-set-same r i v 0 (let s : length r ≡ n = h .size in omega arith) ∙ e ∙ ap f (sym z)
+    at k u (no z) = getD-set-other r i k v 0 z ∙ h .done k (omega arith)
+
+pub begun-end : (n : ℕ) (f : ℕ → ℕ) (r : List ℕ) (i : ℕ) → Begun n f r i → ((k : ℕ) → i ≤ k → k < n → f k ≡ 0) → r ≡ tab n f
+begun-end n f r i h z = ext-getD 0 r (tab n f) (h .size ∙ sym (length-tab n f)) (λ k u. let s : length r ≡ n = h .size in let w : k < n = omega arith in at k w (decLt k i) ∙ sym (at-tab n f k w))
+  where
+    at : (k : ℕ) → k < n → Dec (k < i) → getD r k 0 ≡ f k
+    at k w (yes l) = h .done k l
+    at k w (no l) = h .rest k (omega arith) ∙ sym (z k (omega arith) w)
+
 -- ---- rows
 pub tab-row : (p : ℕ) (f : ℕ → ℕ) → 0 < p → ((i : ℕ) → f i < p) → Row p (tab 32 f)
 tab-row p f pos h = record { size = length-tab 32 f; each = λ i. at i (decLt i 32) }
@@ -85,7 +117,7 @@ shift-small p y (suc k) (suc i) pos r = shift-small p y k i pos r
 
 -- s x − c t^k y
 abbrev pub crossAt : ℕ → ℕ → List ℕ → ℕ → ℕ → List ℕ → ℕ → ℕ
-crossAt p s x c k y i = (s * getD x i 0 + (p - (c * shiftAt y k i) % p)) % p
+crossAt p s x c k y i = (s * getD x i 0 + (p - c) * shiftAt y k i) % p
 
 pub cross-row : (p s : ℕ) (x : List ℕ) (c k : ℕ) (y : List ℕ) → 0 < p → Row p (tab 32 (crossAt p s x c k y))
-cross-row p s x c k y pos = tab-row p (crossAt p s x c k y) pos (λ i. mod-lt (s * getD x i 0 + (p - (c * shiftAt y k i) % p)) pos)
+cross-row p s x c k y pos = tab-row p (crossAt p s x c k y) pos (λ i. mod-lt (s * getD x i 0 + (p - c) * shiftAt y k i) pos)

@@ -5,9 +5,7 @@
 -- The instance at a prime is `derivation` in specs/Made.antt.
 use mathlib.Core.Path.{_≡_}
 use Prim.Native.Nat.{ℕ}
-use Rattle.ring.specs.Ring.{CRing}
 use Rattle.ring.specs.Power.{pow}
-use Rattle.valued.specs.Val.{Valued}
 use Rattle.reading.specs.Reading.{Reading}
 
 pub record Derivation {p : ℕ} (ρ : Reading p) : Type 0 where

@@ -2,7 +2,6 @@
 -- all that the code's proofs know of the field and of the series: none of them opens F_p or the Laurent series.
 use mathlib.Core.Path.{_≡_}
 use Prim.Native.Nat.{ℕ, _+_, _*_, _%_, _<_}
-use Rattle.ring.specs.Ring.{CRing}
 use Rattle.valued.specs.Val.{Valued}
 
 pub record Reading (p : ℕ) : Type 1 where

@@ -1,3 +1,4 @@
 pub mod Val
 pub mod Degree
 pub mod Polynomial
+pub mod Factor

@@ -1,0 +1,5 @@
+pub mod Stages
+pub mod Accept
+pub mod Parts
+pub mod Rows
+pub mod Opening

@@ -1,0 +1,15 @@
+pub mod Sizes
+pub mod Values
+pub mod Form
+pub mod Roots
+pub mod Lattice
+pub mod Minimum
+pub mod Unique
+pub mod Bound
+pub mod Determinant
+pub mod Check
+pub mod Norm
+pub mod Degrees
+pub mod Reduced
+pub mod Divided
+pub mod Tests

@@ -1,0 +1,5 @@
+pub mod Setting
+pub mod Element
+pub mod Ideal
+pub mod Basis
+pub mod Next

@@ -1,0 +1,13 @@
+pub mod Series
+pub mod Laurent
+pub mod Coef
+pub mod Degree
+pub mod Polynomial
+pub mod Lists
+pub mod Course
+pub mod Inverse
+pub mod Division
+pub mod Gcd
+pub mod Derivative
+pub mod Instance
+pub mod CubeRoot

@@ -1,0 +1,19 @@
+-- `poly::minus` meets its contract: 0 - x.
+use mathlib.Core.Path.{_≡_, refl, sym, ap, _∙_}
+use mathlib.Core.List.{List}
+use Prim.Native.Nat.{ℕ, zero, suc, _≤_, _<_, _-_, _*_, _+_, _%_}
+use native.Mathlib.Omega.{arith}
+use lib.ListN.{length, getD}
+use Rattle.poly.proofs.Leaf.{zeros-row, opposite}
+use borrow.Author.Needs.{needs}
+use Rattle.poly.proofs.minus.Statement.{statement}
+use Rattle.poly.proofs.minus.Tie as tie
+
+sub-requires : tie.Need-sub-requires
+sub-requires c κs = let s = c .before in record { modulus = s .pre .modulus; hx = zeros-row (s .args .p) (s .pre .modulus .big); hy = s .pre .hx }
+
+returns : tie.Need-returns
+returns c = opposite _ _ _ (c .sub .ensures)
+
+pub minus-spec : {M : Type 1} → statement M
+minus-spec = tie.close (tie.spec sub-requires returns)

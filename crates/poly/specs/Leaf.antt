@@ -1,0 +1,102 @@
+-- What the functions on rows ask and hand out. A row of 32 numbers below p stands for the polynomial `row` (crate reading); the laws
+-- hold for every prime p, the rows are rows for every modulus.
+--   size, size_from   the trimmed length: `Size` of crate reading
+--   lead              Leading: the leading coefficient, 0 of the zero row
+--   add, sub, minus   Summed, Difference, Opposite: x + y, x − y, − x
+--   scale             Scaled: c x
+--   cross             Crossed: s x − c t^k y
+--   mul               Product: x y
+--   from_list         Listed: the polynomial of a list
+use mathlib.Core.Path.{_≡_}
+use mathlib.Core.List.{List}
+use Prim.Native.Nat.{ℕ, suc, _+_, _-_, _*_, _%_, _<_, _≤_}
+use lib.ListN.{length, getD}
+use Rattle.ring.specs.Ring.{CRing}
+use Rattle.fp.specs.Fp.{Prime}
+use Rattle.valued.specs.Val.{Valued}
+use Rattle.residue.specs.Residue.{Modulus}
+use Rattle.reading.specs.Reading.{Reading}
+use Rattle.reading.specs.Made.{reading}
+use Rattle.reading.specs.Row.{Row, Size, row}
+use Rattle.reading.proofs.Turn.{comb}
+
+-- ---- lengths
+pub record Cut (x : List ℕ) (n : ℕ) : Type 0 where
+  pub size : length x ≡ 32
+  pub fits : n ≤ 32
+  pub above : (i : ℕ) → n ≤ i → getD x i 0 ≡ 0
+
+abbrev pub Leading : List ℕ → ℕ → Type 0
+Leading x r = (n : ℕ) → Size x n → r ≡ getD x (n - 1) 0
+
+-- ---- sums
+pub record Once (p v : ℕ) : Type 0 where
+  pub modulus : Modulus p
+  pub low : v < p + p
+
+pub record Given (p : ℕ) (x : List ℕ) : Type 0 where
+  pub modulus : Modulus p
+  pub hx : Row p x
+
+pub record Both (p : ℕ) (x y : List ℕ) : Type 0 where
+  pub modulus : Modulus p
+  pub hx : Row p x
+  pub hy : Row p y
+
+pub record Summed (p : ℕ) (x y r : List ℕ) : Type 0 where
+  pub is-row : Row p r
+  pub law : (pr : Prime p) → let ρ = reading p pr in row ρ r ≡ ρ .𝓥 .L .ops .add (row ρ x) (row ρ y)
+
+pub record Difference (p : ℕ) (x y r : List ℕ) : Type 0 where
+  pub is-row : Row p r
+  pub law : (pr : Prime p) → let ρ = reading p pr in row ρ r ≡ ρ .𝓥 .L .ops .add (row ρ x) (ρ .𝓥 .L .ops .neg (row ρ y))
+
+pub record Opposite (p : ℕ) (x r : List ℕ) : Type 0 where
+  pub is-row : Row p r
+  pub law : (pr : Prime p) → let ρ = reading p pr in row ρ r ≡ ρ .𝓥 .L .ops .neg (row ρ x)
+
+pub record ScaleIn (p c : ℕ) (x : List ℕ) : Type 0 where
+  pub modulus : Modulus p
+  pub hc : c < p
+  pub hx : Row p x
+
+pub record Scaled (p c : ℕ) (x r : List ℕ) : Type 0 where
+  pub is-row : Row p r
+  pub law : (pr : Prime p) → let ρ = reading p pr in row ρ r ≡ ρ .𝓥 .L .ops .mul (ρ .𝓥 .const (ρ .cast c)) (row ρ x)
+
+-- ---- s x − c t^k y
+pub record CrossAt (p s x d y : ℕ) : Type 0 where
+  pub modulus : Modulus p
+  pub hs : s < p
+  pub hx : x < p
+  pub hd : d ≤ p
+  pub hy : y < p
+
+pub record CrossIn (p s : ℕ) (x : List ℕ) (c k : ℕ) (y : List ℕ) : Type 0 where
+  pub modulus : Modulus p
+  pub hs : s < p
+  pub hx : Row p x
+  pub hc : c ≤ p
+  pub hy : Row p y
+  pub room : (m : ℕ) → Size y m → m + k ≤ 32
+
+pub record Crossed (p s : ℕ) (x : List ℕ) (c k : ℕ) (y r : List ℕ) : Type 0 where
+  pub is-row : Row p r
+  pub law : (pr : Prime p) → let ρ = reading p pr in row ρ r ≡ comb ρ (ρ .cast s) (ρ .cast c) k (row ρ x) (row ρ y)
+
+-- ---- products
+pub record MulIn (p : ℕ) (x y : List ℕ) : Type 0 where
+  pub modulus : Modulus p
+  pub hx : Row p x
+  pub hy : Row p y
+  pub room : (n m : ℕ) → Size x n → Size y m → n + m ≤ 33
+
+pub record Product (p : ℕ) (x y r : List ℕ) : Type 0 where
+  pub is-row : Row p r
+  pub law : (pr : Prime p) → let ρ = reading p pr in row ρ r ≡ ρ .𝓥 .L .ops .mul (row ρ x) (row ρ y)
+
+-- ---- lists
+pub record Listed (s r : List ℕ) : Type 0 where
+  pub size : length r ≡ 32
+  pub each : (i : ℕ) → getD r i 0 ≡ getD s i 0
+  pub law : (p : ℕ) (pr : Prime p) → row (reading p pr) r ≡ row (reading p pr) s

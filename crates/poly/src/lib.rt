@@ -1,0 +1,199 @@
+// Polynomials mod p as rows of 32 coefficients, lowest first, each below p, zeros above the degree. Rows are lent and handed out by value.
+// Every contract speaks of the polynomial that a row stands for (`row` of crate reading). Loops stop at the rows' true lengths. Sums are
+// taken in 64 bits with one remainder for each coefficient handed out, for every p below 2^31: a sum of products that comes near the end
+// of the 64 bits, which no p below 2^29 reaches, is reduced on the way.
+ghost use mathlib.Core.Path.{_≡_};
+ghost use Prim.Native.Nat.{_+_, _*_, _-_, _%_, _<_, _≤_};
+ghost use lib.ListN.{length, getD};
+ghost use Rattle.reading.specs.Row.{Row, Size};
+ghost use Rattle.poly.specs.Leaf.{Cut, Leading, Once, Given, Both, Summed, Difference, Opposite, ScaleIn, Scaled};
+ghost use Rattle.poly.specs.Leaf.{CrossIn, Crossed, CrossAt, MulIn, Product, Listed};
+ghost use Rattle.poly.specs.Terms.{MoreIn, More, PartIn, Part, PlaceIn};
+ghost use Rattle.reading.specs.Row.{shiftAt};
+ghost use Rattle.reading.specs.Sum.{sumTo, termAt};
+
+// The trimmed length of x, whose coefficients from n on are 0.
+pub fn size_from(x: &[u64; 32], n: usize) -> usize
+    requires { ⌜ Cut (now x) n ⌝ }
+    ensures { λ r. ⌜ Size (now (x .entry)) r ⌝ }
+{
+    let mut m = n;
+    while m > 0 {
+        if x[m - 1] != 0 {
+            return m;
+        }
+        m -= 1;
+    }
+    m
+}
+
+// One more than the degree; 0 for the zero polynomial.
+pub fn size(x: &[u64; 32]) -> usize
+    requires { ⌜ length (now x) ≡ 32 ⌝ }
+    ensures { λ r. ⌜ Size (now (x .entry)) r ⌝ }
+{
+    size_from(x, 32)
+}
+
+// The leading coefficient; 0 for the zero polynomial.
+pub fn lead(x: &[u64; 32]) -> u64
+    requires { ⌜ length (now x) ≡ 32 ⌝ }
+    ensures { λ r. ⌜ Leading (now (x .entry)) r ⌝ }
+{
+    let n = size(x);
+    if n == 0 { 0 } else { x[n - 1] }
+}
+
+// v mod p, for v below 2 p
+fn once(p: u64, v: u64) -> u64
+    requires { ⌜ Once p v ⌝ }
+    ensures { λ r. ⌜ r ≡ v % p ⌝ }
+{
+    if v < p { v } else { v - p }
+}
+
+pub fn add(p: u64, x: &[u64; 32], y: &[u64; 32]) -> [u64; 32]
+    requires { ⌜ Both p (now x) (now y) ⌝ }
+    ensures { λ r. ⌜ Summed p (now (x .entry)) (now (y .entry)) r ⌝ }
+{
+    let mut r: [u64; 32] = [0; 32];
+    let mut i: usize = 0;
+    while i < 32 {
+        r[i] = once(p, x[i] + y[i]);
+        i += 1;
+    }
+    r
+}
+
+pub fn sub(p: u64, x: &[u64; 32], y: &[u64; 32]) -> [u64; 32]
+    requires { ⌜ Both p (now x) (now y) ⌝ }
+    ensures { λ r. ⌜ Difference p (now (x .entry)) (now (y .entry)) r ⌝ }
+{
+    let mut r: [u64; 32] = [0; 32];
+    let mut i: usize = 0;
+    while i < 32 {
+        r[i] = once(p, x[i] + (p - y[i]));
+        i += 1;
+    }
+    r
+}
+
+// 0 - x
+pub fn minus(p: u64, x: &[u64; 32]) -> [u64; 32]
+    requires { ⌜ Given p (now x) ⌝ }
+    ensures { λ r. ⌜ Opposite p (now (x .entry)) r ⌝ }
+{
+    let z: [u64; 32] = [0; 32];
+    sub(p, &z, x)
+}
+
+pub fn scale(p: u64, c: u64, x: &[u64; 32]) -> [u64; 32]
+    requires { ⌜ ScaleIn p c (now x) ⌝ }
+    ensures { λ r. ⌜ Scaled p c (now (x .entry)) r ⌝ }
+{
+    let n = size(x);
+    let mut r: [u64; 32] = [0; 32];
+    let mut i: usize = 0;
+    while i < n {
+        r[i] = c * x[i] % p;
+        i += 1;
+    }
+    r
+}
+
+// The coefficient of t^k y at i.
+fn shifted(y: &[u64; 32], k: usize, i: usize) -> u64
+    requires { ⌜ i < 32 ⌝ }
+    ensures { λ r. ⌜ r ≡ shiftAt (now (y .entry)) k i ⌝ }
+{
+    if i < k { 0 } else { y[i - k] }
+}
+
+// s x + d y mod p
+fn mixed(p: u64, s: u64, x: u64, d: u64, y: u64) -> u64
+    requires { ⌜ CrossAt p s x d y ⌝ }
+    ensures { λ r. ⌜ r ≡ (s * x + d * y) % p ⌝ }
+{
+    (s * x + d * y) % p
+}
+
+// s x - c t^k y, where t^k y fits.
+pub fn cross(p: u64, s: u64, x: &[u64; 32], c: u64, k: usize, y: &[u64; 32]) -> [u64; 32]
+    requires { ⌜ CrossIn p s (now x) c k (now y) ⌝ }
+    ensures { λ r. ⌜ Crossed p s (now (x .entry)) c k (now (y .entry)) r ⌝ }
+{
+    let n = size(x);
+    let m = size(y) + k;
+    let top = if n < m { m } else { n };
+    let mut r: [u64; 32] = [0; 32];
+    let mut i: usize = 0;
+    while i < top {
+        let z = shifted(y, k, i);
+        r[i] = mixed(p, s, x[i], p - c, z);
+        i += 1;
+    }
+    r
+}
+
+// s + x y up to a multiple of p, kept below 2^63.
+fn more(p: u64, s: u64, x: u64, y: u64) -> u64
+    requires { ⌜ MoreIn p s x y ⌝ }
+    ensures { λ r. ⌜ More p s x y r ⌝ }
+{
+    let v = s + x * y;
+    if v < 9223372036854775808 { v } else { v % p }
+}
+
+// The terms from .. to - 1 of coefficient k of x y, up to a multiple of p.
+fn part(p: u64, x: &[u64; 32], y: &[u64; 32], from: usize, to: usize, k: usize) -> u64
+    requires { ⌜ PartIn p (now x) (now y) from to k ⌝ }
+    ensures { λ r. ⌜ Part p (now (x .entry)) (now (y .entry)) from to k r ⌝ }
+{
+    let mut s: u64 = 0;
+    let mut i = from;
+    while i < to {
+        s = more(p, s, x[i], y[k - i]);
+        i += 1;
+    }
+    s
+}
+
+// Coefficient k of x y, from the trimmed lengths n and m.
+fn place(p: u64, x: &[u64; 32], n: usize, y: &[u64; 32], m: usize, k: usize) -> u64
+    requires { ⌜ PlaceIn p (now x) n (now y) m k ⌝ }
+    ensures { λ r. ⌜ r ≡ sumTo (termAt (now (x .entry)) (now (y .entry)) k) n % p ⌝ }
+{
+    let from = if k < m { 0 } else { k + 1 - m };
+    let to = if k < n { k + 1 } else { n };
+    part(p, x, y, from, to, k) % p
+}
+
+// x y, where the product fits.
+pub fn mul(p: u64, x: &[u64; 32], y: &[u64; 32]) -> [u64; 32]
+    requires { ⌜ MulIn p (now x) (now y) ⌝ }
+    ensures { λ r. ⌜ Product p (now (x .entry)) (now (y .entry)) r ⌝ }
+{
+    let n = size(x);
+    let m = size(y);
+    let mut r: [u64; 32] = [0; 32];
+    let mut k: usize = 0;
+    while k + 1 < n + m {
+        r[k] = place(p, x, n, y, m, k);
+        k += 1;
+    }
+    r
+}
+
+// The entries of a list of at most 32.
+pub fn from_list(s: &[u64]) -> [u64; 32]
+    requires { ⌜ length (now s) ≤ 32 ⌝ }
+    ensures { λ r. ⌜ Listed (now (s .entry)) r ⌝ }
+{
+    let mut r: [u64; 32] = [0; 32];
+    let mut i: usize = 0;
+    while i < s.len() {
+        r[i] = s[i];
+        i += 1;
+    }
+    r
+}
