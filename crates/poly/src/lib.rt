@@ -9,6 +9,8 @@ ghost use Rattle.reading.specs.Row.{Row, Size};
 ghost use Rattle.poly.specs.Leaf.{Cut, Leading, Once, Given, Both, Summed, Difference, Opposite, ScaleIn, Scaled};
 ghost use Rattle.poly.specs.Leaf.{CrossIn, Crossed, CrossAt, MulIn, Product, Listed};
 ghost use Rattle.poly.specs.Terms.{MoreIn, More, PartIn, Part, PlaceIn};
+ghost use Rattle.poly.specs.Division.{DivIn, Quotient, Exact, Divided, DigitIn, Digit};
+ghost use Rattle.poly.specs.Factors.{Derived, Over, OverBoth, Common, SquareTest, CoprimeTest};
 ghost use Rattle.reading.specs.Row.{shiftAt};
 ghost use Rattle.reading.specs.Sum.{sumTo, termAt};
 
@@ -196,4 +198,131 @@ pub fn from_list(s: &[u64]) -> [u64; 32]
         i += 1;
     }
     r
+}
+
+// The coefficient of a / b at k, where q holds those above, up to top.
+fn digit(
+    p: u64,
+    a: &[u64; 32],
+    q: &[u64; 32],
+    b: &[u64; 32],
+    m: usize,
+    il: u64,
+    top: usize,
+    k: usize,
+) -> u64
+    requires { ⌜ DigitIn p (now a) (now q) (now b) m il top k ⌝ }
+    ensures { λ v. ⌜ Digit p (now (a .entry)) (now (q .entry)) (now (b .entry)) m il k v ⌝ }
+{
+    let at = k + (m - 1);
+    let to = if at < top { at + 1 } else { top };
+    let v = part(p, q, b, k + 1, to, at) % p;
+    (a[at] + (p - v)) * il % p
+}
+
+// The quotient of a by b from the top, one coefficient a turn; il is the inverse of b's leading coefficient.
+pub fn quotient(p: u64, a: &[u64; 32], b: &[u64; 32], il: u64) -> [u64; 32]
+    requires { ⌜ DivIn p (now a) (now b) il ⌝ }
+    ensures { λ q. ⌜ Quotient p (now (a .entry)) (now (b .entry)) q ⌝ }
+{
+    let n = size(a);
+    let m = size(b);
+    let top = if n < m { 0 } else { n + 1 - m };
+    let mut q: [u64; 32] = [0; 32];
+    let mut k = top;
+    while k > 0 {
+        k -= 1;
+        let v = digit(p, a, &q, b, m, il, top, k);
+        q[k] = v;
+    }
+    q
+}
+
+// a / b, where b divides a.
+pub fn exact(p: u64, a: &[u64; 32], b: &[u64; 32], il: u64) -> [u64; 32]
+    requires { ⌜ DivIn p (now a) (now b) il ⌝ }
+    ensures { λ q. ⌜ Exact p (now (a .entry)) (now (b .entry)) q ⌝ }
+{
+    quotient(p, a, b, il)
+}
+
+// a = q b + r
+pub struct QuotRem {
+    pub q: [u64; 32],
+    pub r: [u64; 32],
+}
+
+pub fn divide(p: u64, a: &[u64; 32], b: &[u64; 32], il: u64) -> QuotRem
+    requires { ⌜ DivIn p (now a) (now b) il ⌝ }
+    ensures { λ d. ⌜ Divided p (now (a .entry)) (now (b .entry)) (d .q) (d .r) ⌝ }
+{
+    let q = quotient(p, a, b, il);
+    let s = mul(p, &q, b);
+    let r = sub(p, a, &s);
+    QuotRem { q, r }
+}
+
+// d/dt
+pub fn derivative(p: u64, x: &[u64; 32]) -> [u64; 32]
+    requires { ⌜ Given p (now x) ⌝ }
+    ensures { λ r. ⌜ Derived p (now (x .entry)) r ⌝ }
+{
+    let n = size(x);
+    let mut r: [u64; 32] = [0; 32];
+    let mut i: usize = 0;
+    while i + 1 < n {
+        r[i] = ((i + 1) as u64) * x[i + 1] % p;
+        i += 1;
+    }
+    r
+}
+
+// A greatest common divisor, by Euclid: the longer of the two loses its leading term, until one is 0.
+pub fn gcd(p: u64, a: &[u64; 32], b: &[u64; 32]) -> [u64; 32]
+    requires { ⌜ OverBoth p (now a) (now b) ⌝ }
+    ensures { λ r. ⌜ Common p (now (a .entry)) (now (b .entry)) r ⌝ }
+{
+    let mut x = *a;
+    let mut y = *b;
+    let mut n = size(a);
+    let mut m = size(b);
+    while m > 0 {
+        if n < m {
+            let t = x;
+            x = y;
+            y = t;
+            let k = n;
+            n = m;
+            m = k;
+        } else {
+            let s = y[m - 1];
+            let c = x[n - 1];
+            let t = cross(p, s, &x, c, n - m, &y);
+            n = size(&t);
+            x = t;
+        }
+    }
+    x
+}
+
+// Whether no square of a polynomial that is not constant divides x: whether x and its derivative have a constant for greatest common
+// divisor. Where the derivative of a non-constant x is 0, that is x itself.
+pub fn squarefree(p: u64, x: &[u64; 32]) -> bool
+    requires { ⌜ Over p (now x) ⌝ }
+    ensures { λ r. ⌜ SquareTest p (now (x .entry)) r ⌝ }
+{
+    let d = derivative(p, x);
+    let g = gcd(p, x, &d);
+    let n = size(&g);
+    if n == 1 { true } else { false }
+}
+
+// Whether no polynomial that is not constant divides both.
+pub fn coprime(p: u64, x: &[u64; 32], y: &[u64; 32]) -> bool
+    requires { ⌜ OverBoth p (now x) (now y) ⌝ }
+    ensures { λ r. ⌜ CoprimeTest p (now (x .entry)) (now (y .entry)) r ⌝ }
+{
+    let g = gcd(p, x, y);
+    let n = size(&g);
+    if n == 1 { true } else { false }
 }

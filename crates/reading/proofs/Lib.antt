@@ -4,3 +4,6 @@ pub mod Turn
 pub mod Floors
 pub mod Product
 pub mod Unique
+pub mod Quotient
+pub mod Derivative
+pub mod Square

@@ -4,3 +4,4 @@ pub mod Polynomial
 pub mod Gcds
 pub mod Divide
 pub mod Factor
+pub mod Coprime

@@ -2,3 +2,4 @@ pub mod Val
 pub mod Degree
 pub mod Polynomial
 pub mod Factor
+pub mod Gcd

@@ -1,0 +1,103 @@
+-- `poly::digit` meets its contract: the terms left out are 0.
+use mathlib.Core.Path.{_≡_, refl, sym, ap, _∙_}
+use mathlib.Core.List.{List}
+use Prim.Native.Nat.{ℕ, zero, suc, _≤_, _<_, _-_, _*_, _+_, _%_}
+use native.Mathlib.Omega.{arith}
+use lib.ListN.{length, getD}
+use Prim.Native.Nat.{min}
+use mathlib.Core.Logic.{⊎-elim}
+use native.Mathlib.Nat.{mod-lt, mul-le-mul}
+use Rattle.reading.specs.Sum.{sumTo, termAt}
+use Rattle.poly.proofs.Division.{digit-sum}
+use borrow.Author.Needs.{needs}
+use Rattle.poly.proofs.digit.Statement.{statement}
+use Rattle.poly.proofs.digit.Tie as tie
+
+sub-at : tie.Need-sub-at
+sub-at c = search needs
+
+add-at : tie.Need-add-at
+add-at c = search needs
+
+add-to : tie.Need-add-to
+add-to c = search needs
+
+add-part : tie.Need-add-part
+add-part c = search needs
+
+part-requires : tie.Need-part-requires
+part-requires c κs =
+    let s = c .before in
+    let a = s .args in
+    let at = a .k + (a .m - 1) in
+    let fits : a .top + a .m ≤ 33 = s .pre .fits in
+    let pos : 0 < a .m = s .pre .pos in
+    let low : a .k < a .top = s .pre .at in
+    let to = c .if1 .to in
+    let hi : (to ≤ 32) × (to ≤ at + 1) × (min (at + 1) (a .top) ≤ to) = ⊎-elim (λ u. (omega arith, omega arith, omega arith)) (λ u. (omega arith, omega arith, omega arith)) (c .if1 .came) in
+    record { modulus = s .pre .modulus; hx = s .pre .hq; hy = s .pre .hb; order = omega arith; last = omega arith; inside = omega arith; reach = omega arith }
+
+rem-v : tie.Need-rem-v
+rem-v c = search needs
+
+mul-result : tie.Need-mul-result
+mul-result c = search needs
+
+element-copy-out-result : tie.Need-element-copy-out-result
+element-copy-out-result c = search needs
+
+sub-result : tie.Need-sub-result
+sub-result c =
+    let s = c .before .before .before in
+    let l : c .before .part .result % s .args .p < s .args .p = mod-lt (c .before .part .result) (omega arith) in
+    omega arith
+
+add-result : tie.Need-add-result
+add-result c =
+    let s = c .before .before .before in
+    omega (arith, s .pre .ha .each (s .args .k + (s .args .m - 1)), s .pre .modulus .small)
+
+mul-result-2 : tie.Need-mul-result-2
+mul-result-2 c =
+    let s = c .before .before .before in
+    let v = c .before .part .result % s .args .p in
+    let x = getD (s .args .a .now) (s .args .k + (s .args .m - 1)) 0 in
+    let l : x < s .args .p = s .pre .ha .each (s .args .k + (s .args .m - 1)) in
+    let f : x + (s .args .p - v) ≤ 4294967296 = omega arith in
+    let g : s .args .il ≤ 2147483648 = omega arith in
+    let m : (x + (s .args .p - v)) * s .args .il ≤ 4294967296 * 2147483648 = mul-le-mul f g in
+    omega arith
+
+rem-result : tie.Need-rem-result
+rem-result c = search needs
+
+returns : tie.Need-returns
+returns c =
+    let s = c .before .before .before in
+    let a = s .args in
+    let at = a .k + (a .m - 1) in
+    let fits : a .top + a .m ≤ 33 = s .pre .fits in
+    let pos : 0 < a .m = s .pre .pos in
+    let low : a .k < a .top = s .pre .at in
+    let to = c .before .before .if1 .to in
+    let hi : (to ≤ 32) × (to ≤ at + 1) × (min (at + 1) (a .top) ≤ to) = ⊎-elim (λ u. (omega arith, omega arith, omega arith)) (λ u. (omega arith, omega arith, omega arith)) (c .before .before .if1 .came) in
+    ap (λ v. ((getD (a .a .now) at 0 + (a .p - v)) * a .il) % a .p)
+    (digit-sum (a .p) (a .a .now) (a .q .now) (a .b .now) (a .m) (a .il) (a .top) (a .k) to _ (s .pre) (omega arith) (omega arith) (c .before .part .ensures .law))
+
+pub digit-spec : {M : Type 1} → statement M
+digit-spec =
+    tie.close
+    (tie.spec
+    sub-at
+    add-at
+    add-to
+    add-part
+    part-requires
+    rem-v
+    mul-result
+    element-copy-out-result
+    sub-result
+    add-result
+    mul-result-2
+    rem-result
+    returns)

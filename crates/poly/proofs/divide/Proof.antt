@@ -1,0 +1,25 @@
+-- `poly::divide` meets its contract: r = a - q b.
+use mathlib.Core.Path.{_≡_, refl, sym, ap, _∙_}
+use mathlib.Core.List.{List}
+use Prim.Native.Nat.{ℕ, zero, suc, _≤_, _<_, _-_, _*_, _+_, _%_}
+use native.Mathlib.Omega.{arith}
+use lib.ListN.{length, getD}
+use Rattle.poly.proofs.Division.{divided}
+use borrow.Author.Needs.{needs}
+use Rattle.poly.proofs.divide.Statement.{statement}
+use Rattle.poly.proofs.divide.Tie as tie
+
+quotient-requires : tie.Need-quotient-requires
+quotient-requires c κs = search needs
+
+mul-requires : tie.Need-mul-requires
+mul-requires c κs = search needs
+
+sub-requires : tie.Need-sub-requires
+sub-requires c κs = search needs
+
+returns : tie.Need-returns
+returns c = divided _ _ _ _ _ _ (c .before .before .before .before .quotient .ensures) (c .before .before .mul .ensures) (c .sub .ensures)
+
+pub divide-spec : {M : Type 1} → statement M
+divide-spec = tie.close (tie.spec quotient-requires mul-requires sub-requires returns)

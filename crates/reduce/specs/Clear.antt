@@ -1,0 +1,188 @@
+-- The reduction: contracts of a turn, of the two loops, and of the whole.
+--   CancelIn, CancelOut    s a − c t^k b, where the sizes before and after lie below top
+--   ClearIn F q top lu     two elements whose sizes X, Y lie below top = S′ + 1, X(m) + Y(n) and X(n) + Y(m) at most S′ + u′ and the
+--                          determinant of degree S′ + u′; lu = u′ + 1. All numbers are lengths: degrees + 1, and 0 below degree 0
+--   Clearing               the state of the first loop
+--   Cleared                its end: Y(m) below u′, Y(n) not, and X(m), Y(n) make up all of the determinant
+--   ShearIn, Shearing, Sheared    the same of the second loop, which keeps m and the degree of Y(n)
+--   Reduced F q top lu o   THE REDUCTION: o is a pair with the span of q (by a matrix of polynomials whose determinant is a
+--                          constant that is not 0), deg X(n) < deg X(m), deg Y(m) < u′ ≤ deg Y(n), and the rows mx, nx of o are the
+--                          polynomial parts of X(m), X(n)
+-- The lemmas of the turns are in proofs/: Cancel, Clearing, Shearing.
+use mathlib.Core.Path.{_≡_}
+use mathlib.Core.Bool.{Bool, true, false}
+use mathlib.Core.List.{List}
+use Prim.Native.Nat.{ℕ, suc, _+_, _-_, _<_, _≤_}
+use Rattle.reading.specs.Row.{Size}
+use Rattle.reading.proofs.Turn.{comb}
+use Rattle.turn.specs.Points.{Turned, Moved}
+use Rattle.reduce.specs.Frame.{Frame, Fine, Meaning, Point, point, Short, Held, rd, pt, X, Y, side, D, Ltμ, Hasμ, shift}
+use Rattle.reduce.specs.declared.Pair.{Pair}
+use Rattle.reduce.specs.declared.Ends.{Ends}
+use Rattle.reduce.specs.declared.Turn.{Turn}
+
+-- the rows of an element below top
+pub record Rows (F : Frame) (top : ℕ) (b c : List ℕ) : Type 0 where
+  pub hb : Short (F .p) b (top - F .dr)
+  pub hc : Short (F .p) c (top - F .dw)
+
+-- the numbers that every loop keeps
+pub record Room (F : Frame) (top : ℕ) : Type 0 where
+  pub fine : Fine F
+  pub fits : top ≤ 32
+  pub low-r : F .dr ≤ top
+  pub low-w : F .dw ≤ top
+
+abbrev pub Movedμ : {F : Frame} (μ : Meaning F) → Pair → List ℕ → List ℕ → List ℕ → List ℕ → Type 0
+Movedμ μ q mb mc nb nc = Moved (rd μ) (pt μ (q .mb) (q .mc)) (pt μ (q .nb) (q .nc)) (pt μ mb mc) (pt μ nb nc)
+
+-- ---- one turn
+pub record RoomAt {F : Frame} (μ : Meaning F) (ab ac bb bc : List ℕ) (k top : ℕ) : Type 0 where
+  pub xa : Ltμ μ (X μ (pt μ ab ac)) top
+  pub ya : Ltμ μ (Y μ (pt μ ab ac)) top
+  pub xb : Ltμ μ (shift μ k (X μ (pt μ bb bc))) top
+  pub yb : Ltμ μ (shift μ k (Y μ (pt μ bb bc))) top
+
+pub record CancelIn (F : Frame) (e : Bool) (ab ac bb bc : List ℕ) (s c k top l : ℕ) : Type 0 where
+  pub room : Room F top
+  pub ha : Rows F top ab ac
+  pub hb : Rows F top bb bc
+  pub hs : s < F .p
+  pub hc : c < F .p
+  pub low : k ≤ 32
+  pub some : Meaning F
+  pub at : RoomAt some ab ac bb bc k top
+  pub less : l ≤ 32
+  pub drop : Ltμ some (comb (rd some) (rd some .cast s) (rd some .cast c) k (side some e (pt some ab ac)) (side some e (pt some bb bc))) l
+
+pub record CancelOut (F : Frame) (e : Bool) (ab ac bb bc : List ℕ) (s c k top : ℕ) (o : Turn) : Type 0 where
+  pub held : Held F e top (point (o .b) (o .c) (o .z))
+  pub size : Size (o .z) (o .l)
+  pub each : (μ : Meaning F) → Turned (rd μ) (rd μ .cast s) (rd μ .cast c) k (pt μ ab ac) (pt μ bb bc) (pt μ (o .b) (o .c))
+
+-- ---- the first loop
+pub record ClearIn (F : Frame) (q : Pair) (top lu : ℕ) : Type 0 where
+  pub room : Room F top
+  pub hm : Rows F top (q .mb) (q .mc)
+  pub hn : Rows F top (q .nb) (q .nc)
+  pub s : ℕ
+  pub u : ℕ
+  pub top-is : top ≡ suc s
+  pub lu-is : lu ≡ suc u
+  -- lengths of X(m), X(n), Y(m), Y(n)
+  pub x1 : ℕ
+  pub x2 : ℕ
+  pub v1 : ℕ
+  pub v2 : ℕ
+  pub bx1 : x1 ≤ top
+  pub bx2 : x2 ≤ top
+  pub bv1 : v1 ≤ top
+  pub bv2 : v2 ≤ top
+  pub k1 : x1 + v2 ≤ s + u + 2
+  pub k2 : x2 + v1 ≤ s + u + 2
+  pub some : Meaning F
+  pub lx1 : Ltμ some (X some (pt some (q .mb) (q .mc))) x1
+  pub lx2 : Ltμ some (X some (pt some (q .nb) (q .nc))) x2
+  pub ly1 : Ltμ some (Y some (pt some (q .mb) (q .mc))) v1
+  pub ly2 : Ltμ some (Y some (pt some (q .nb) (q .nc))) v2
+  pub det : Hasμ some (D some (pt some (q .mb) (q .mc)) (pt some (q .nb) (q .nc))) (s + u)
+
+-- y1 and y2 are the lengths of Y(m), Y(n); x1 and x2 bound those of X
+pub record Clearing (F : Frame) (q : Pair) (top lu : ℕ) (m n : Point) (y1 y2 : ℕ) : Type 0 where
+  pub room : Room F top
+  pub hm : Held F true top m
+  pub hn : Held F true top n
+  pub s : ℕ
+  pub u : ℕ
+  pub top-is : top ≡ suc s
+  pub lu-is : lu ≡ suc u
+  pub sy1 : Size (m .z) y1
+  pub sy2 : Size (n .z) y2
+  pub x1 : ℕ
+  pub x2 : ℕ
+  pub bx1 : x1 ≤ top
+  pub bx2 : x2 ≤ top
+  pub by1 : y1 ≤ top
+  pub by2 : y2 ≤ top
+  pub k1 : x1 + y2 ≤ s + u + 2
+  pub k2 : x2 + y1 ≤ s + u + 2
+  pub some : Meaning F
+  pub lx1 : Ltμ some (X some (pt some (m .b) (m .c))) x1
+  pub lx2 : Ltμ some (X some (pt some (n .b) (n .c))) x2
+  pub det : Hasμ some (D some (pt some (q .mb) (q .mc)) (pt some (q .nb) (q .nc))) (s + u)
+  pub moved : (μ : Meaning F) → Movedμ μ q (m .b) (m .c) (n .b) (n .c)
+
+pub record Cleared (F : Frame) (q : Pair) (top lu : ℕ) (o : Pair) : Type 0 where
+  pub my : List ℕ
+  pub ny : List ℕ
+  pub y1 : ℕ
+  pub y2 : ℕ
+  pub state : Clearing F q top lu (point (o .mb) (o .mc) my) (point (o .nb) (o .nc) ny) y1 y2
+  pub low : y1 < lu
+  pub high : lu ≤ y2
+  pub all : state .x1 + y2 ≡ state .s + state .u + 2
+
+-- ---- the second loop: X(m) has the degree x, Y(n) the length y2, Y(m) at most y1
+pub record ShearIn (F : Frame) (q : Pair) (top : ℕ) : Type 0 where
+  pub room : Room F top
+  pub hm : Rows F top (q .mb) (q .mc)
+  pub hn : Rows F top (q .nb) (q .nc)
+  pub x : ℕ
+  pub y1 : ℕ
+  pub y2 : ℕ
+  pub by2 : y2 ≤ top
+  pub gap : y1 + top < suc x + y2
+  pub ym : (μ : Meaning F) → Ltμ μ (Y μ (pt μ (q .mb) (q .mc))) y1
+  pub yn : (μ : Meaning F) → Hasμ μ (Y μ (pt μ (q .nb) (q .nc))) (y2 - 1)
+  pub some : Meaning F
+  pub xm : Hasμ some (X some (pt some (q .mb) (q .mc))) x
+  pub bm : x < top
+  pub xn : Ltμ some (X some (pt some (q .nb) (q .nc))) top
+
+pub record Shearing (F : Frame) (q : Pair) (top : ℕ) (m n : Point) (x1 x2 : ℕ) : Type 0 where
+  pub room : Room F top
+  pub hm : Held F false top m
+  pub hn : Held F false top n
+  pub y1 : ℕ
+  pub y2 : ℕ
+  pub sx1 : Size (m .z) x1
+  pub sx2 : Size (n .z) x2
+  pub bx1 : x1 ≤ top
+  pub bx2 : x2 ≤ top
+  pub by2 : y2 ≤ top
+  pub gap : y1 + top < x1 + y2
+  pub ym : (μ : Meaning F) → Ltμ μ (Y μ (pt μ (m .b) (m .c))) y1
+  pub yn : (μ : Meaning F) → Hasμ μ (Y μ (pt μ (n .b) (n .c))) (y2 - 1)
+  pub was : (μ : Meaning F) → Hasμ μ (Y μ (pt μ (q .nb) (q .nc))) (y2 - 1)
+  pub some : Meaning F
+  pub moved : (μ : Meaning F) → Movedμ μ q (m .b) (m .c) (n .b) (n .c)
+
+pub record Sheared (F : Frame) (q : Pair) (top : ℕ) (o : Ends) : Type 0 where
+  pub same-b : o .mb ≡ q .mb
+  pub same-c : o .mc ≡ q .mc
+  pub hm : Held F false top (point (o .mb) (o .mc) (o .mx))
+  pub hn : Held F false top (point (o .nb) (o .nc) (o .nx))
+  pub x2 : ℕ
+  pub sx1 : Size (o .mx) (o .lx)
+  pub sx2 : Size (o .nx) x2
+  pub less : x2 < o .lx
+  pub kept : (μ : Meaning F) (d : ℕ) → Hasμ μ (Y μ (pt μ (q .nb) (q .nc))) d → Hasμ μ (Y μ (pt μ (o .nb) (o .nc))) d
+  pub moved : (μ : Meaning F) → Movedμ μ q (o .mb) (o .mc) (o .nb) (o .nc)
+
+-- ---- both
+pub record Reduced (F : Frame) (q : Pair) (top lu : ℕ) (o : Ends) : Type 0 where
+  pub hm : Held F false top (point (o .mb) (o .mc) (o .mx))
+  pub hn : Held F false top (point (o .nb) (o .nc) (o .nx))
+  -- deg X(n) < deg X(m)
+  pub x2 : ℕ
+  pub sx1 : Size (o .mx) (o .lx)
+  pub sx2 : Size (o .nx) x2
+  pub x-less : x2 < o .lx
+  -- deg Y(m) < u′ ≤ deg Y(n), and deg X(m) + deg Y(n) = S′ + u′
+  pub y : ℕ
+  pub y-low : (μ : Meaning F) → Ltμ μ (Y μ (pt μ (o .mb) (o .mc))) (lu - 1)
+  pub y-has : (μ : Meaning F) → Hasμ μ (Y μ (pt μ (o .nb) (o .nc))) y
+  pub y-high : lu ≤ suc y
+  pub y-fits : y < top
+  pub all : o .lx + suc y ≡ top + lu
+  pub moved : (μ : Meaning F) → Movedμ μ q (o .mb) (o .mc) (o .nb) (o .nc)

@@ -1,0 +1,94 @@
+-- The contracts of the leaves: sums of products, s x − c t^k y, polynomial parts of b r ± c w.
+--   Crossed p s x c k y n z  z is the row of s x − c t^k y, which ends before n
+--   Terms .. r               r is the coefficient at t^j of b times the series that s holds, up to multiples of p
+--   PartAt .. v              v is the coefficient at t^j of b r ± c w, below p
+--   Parted F e b c top z     z is the polynomial part of b r + c w (e false) or b r − c w (e true)
+use mathlib.Core.Path.{_≡_}
+use mathlib.Core.Bool.{Bool, true, false}
+use mathlib.Core.List.{List}
+use Prim.Native.Nat.{ℕ, zero, suc, _+_, _*_, _-_, _<_, _≤_}
+use lib.ListN.{getD}
+use Rattle.ring.specs.Ring.{Ops, CRing}
+use Rattle.fp.specs.Fp.{Prime}
+use Rattle.valued.specs.Val.{Valued}
+use Rattle.reading.specs.Reading.{Reading}
+use Rattle.reading.specs.Made.{reading}
+use Rattle.reading.specs.Row.{Row, Size, row, shiftAt, fallAt, Floor}
+use Rattle.reading.proofs.Turn.{comb}
+use Rattle.residue.specs.Residue.{Modulus}
+use Rattle.reduce.specs.Frame.{Frame, Fine, Meaning, Short, rd, pt, side}
+
+-- ---- s x − c t^k y
+pub record CrossIn (p s : ℕ) (x : List ℕ) (c k : ℕ) (y : List ℕ) (n : ℕ) : Type 0 where
+  pub modulus : Modulus p
+  pub hs : s < p
+  pub hc : c ≤ p
+  pub hx : Short p x n
+  pub hy : Row p y
+  pub fits : n ≤ 32
+  pub low : k ≤ 32
+  pub above : (i : ℕ) → n ≤ i → shiftAt y k i ≡ 0
+
+pub record Crossed (p s : ℕ) (x : List ℕ) (c k : ℕ) (y : List ℕ) (n : ℕ) (z : List ℕ) : Type 0 where
+  pub short : Short p z n
+  pub law : (pr : Prime p) → row (reading p pr) z ≡ comb (reading p pr) (reading p pr .cast s) (reading p pr .cast c) k (row (reading p pr) x) (row (reading p pr) y)
+
+-- ---- sums of products, kept below p p
+pub record SumIn (p q x y z : ℕ) : Type 0 where
+  pub modulus : Modulus p
+  pub is-q : q ≡ p * p
+  pub hx : x < q
+  pub hy : y < p
+  pub hz : z < p
+
+pub record Summed (p q x y z r : ℕ) : Type 0 where
+  pub below : r < q
+  pub law : (pr : Prime p) → reading p pr .cast r ≡ reading p pr .cast (x + y * z)
+
+-- Σ b_i s_(d + i − j), i < n
+unfoldable pub along : {p : ℕ} (ρ : Reading p) (b s : List ℕ) (d j n : ℕ) → ρ .𝓥 .K .El
+along ρ b s d j zero = ρ .𝓥 .K .ops .𝟎
+along ρ b s d j (suc n) = ρ .𝓥 .K .ops .add (along ρ b s d j n) (ρ .𝓥 .K .ops .mul (ρ .cast (getD b n 0)) (ρ .cast (fallAt s (d + n) j)))
+
+pub record TermsIn (p q : ℕ) (b : List ℕ) (n : ℕ) (s : List ℕ) (d j : ℕ) : Type 0 where
+  pub modulus : Modulus p
+  pub is-q : q ≡ p * p
+  pub hb : Row p b
+  pub hs : Row p s
+  pub fits : n + d ≤ 32
+  pub high : j ≤ n + d
+
+pub record Terms (p q : ℕ) (b : List ℕ) (n : ℕ) (s : List ℕ) (d j r : ℕ) : Type 0 where
+  pub below : r < q
+  pub law : (pr : Prime p) → reading p pr .cast r ≡ along (reading p pr) b s d j n
+
+-- ---- polynomial parts
+pub record PartIn (F : Frame) (b c : List ℕ) (top : ℕ) : Type 0 where
+  pub fine : Fine F
+  pub hb : Short (F .p) b (top - F .dr)
+  pub hc : Short (F .p) c (top - F .dw)
+  pub fits : top ≤ 32
+  pub low-r : F .dr ≤ top
+  pub low-w : F .dw ≤ top
+
+pub record PartAtIn (F : Frame) (q : ℕ) (b c : List ℕ) (top j : ℕ) : Type 0 where
+  pub inp : PartIn F b c top
+  pub is-q : q ≡ F .p * F .p
+  pub high : j < top
+
+-- x + y or x − y
+abbrev pub signed : {A : Type 0} → Ops A → Bool → A → A → A
+signed o true x y = o .add x (o .neg y)
+signed o false x y = o .add x y
+
+abbrev pub partAt : (F : Frame) → (pr : Prime (F .p)) → Bool → List ℕ → List ℕ → ℕ → ℕ → reading (F .p) pr .𝓥 .K .El
+partAt F pr e b c top j =
+    signed (reading (F .p) pr .𝓥 .K .ops) e (along (reading (F .p) pr) b (F .r) (F .dr) j (top - F .dr)) (along (reading (F .p) pr) c (F .w) (F .dw) j (top - F .dw))
+
+pub record PartAt (F : Frame) (e : Bool) (b c : List ℕ) (top j v : ℕ) : Type 0 where
+  pub below : v < F .p
+  pub law : (pr : Prime (F .p)) → reading (F .p) pr .cast v ≡ partAt F pr e b c top j
+
+pub record Parted (F : Frame) (e : Bool) (b c : List ℕ) (top : ℕ) (z : List ℕ) : Type 0 where
+  pub short : Short (F .p) z top
+  pub law : (μ : Meaning F) → Floor (rd μ) (side μ e (pt μ b c)) z

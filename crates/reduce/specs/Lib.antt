@@ -1,0 +1,4 @@
+pub mod Frame
+pub mod Given
+pub mod Leaves
+pub mod Clear
