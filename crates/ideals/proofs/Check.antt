@@ -17,7 +17,7 @@ use Rattle.valued.proofs.Polynomial.{P-path, degree}
 use Rattle.valued.proofs.Divide.{p-cancel}
 use Rattle.ideals.specs.Setting.{Setting, P}
 use Rattle.ideals.specs.Element.{O, sc, el-r, el-w}
-use Rattle.ideals.specs.Ideal.{Basis, In, det, Holds, Ideal}
+use Rattle.ideals.specs.Ideal.{Basis, lin, In, det, Holds, Ideal}
 use Rattle.ideals.proofs.Sizes.{O-path, sc-a, sc-b, sc-c}
 use Rattle.ideals.proofs.Lattice.{in-U, in-add, in-scale, lin-a, lin-b, lin-c}
 
@@ -56,19 +56,14 @@ module _ (S : Setting) (B : Basis S) where
       )
 
   -- and back: three exact divisions put v into Λ
-  pub cramer-in : {n : ℕ} → Has 𝓥 (det S B .0) n → (v : O S .El) (α β γ : P S) → v .b ⊠ B .N .c ⊞ ⊟ (v .c ⊠ B .N .b) ≡ det S B ⊠ β → v .c ⊠ B .M .b ⊞ ⊟ (v .b ⊠ B .M .c) ≡ det S B ⊠ γ →
-      v .a ⊞ ⊟ (β ⊠ B .M .a ⊞ γ ⊠ B .N .a) ≡ B .U ⊠ α → In S B v
-  cramer-in h v α β γ eβ eγ eα = record {
-    α = α;
-    β = β;
-    γ = γ;
-    eq = O-path S
-        (solve-by R (var 0) (var 4 :* var 1 :+ var 2 :+ var 3) (hyp one (var 0 :+ minus (var 2 :+ var 3)) (var 1 :* var 4) ∷ []) tt (v .a ∷ B .U ∷ β ⊠ B .M .a ∷ γ ⊠ B .N .a ∷ α ∷ []) (eα, tt) ∙ sym (lin-a S B α β γ))
-        (p-cancel 𝓥 (det S B) (v .b) (β ⊠ B .M .b ⊞ γ ⊠ B .N .b) h
-        (solve-by R (eE :* var 0) (eE :* bE) (hyp (var 2) (var 0 :* var 5 :+ minus (var 1 :* var 4)) (eE :* var 6) ∷ hyp (var 4) (var 1 :* var 2 :+ minus (var 0 :* var 3)) (eE :* var 7) ∷ []) tt (env v β γ) (eβ, (eγ, tt))) ∙ sym (lin-b S B α β γ))
-        (p-cancel 𝓥 (det S B) (v .c) (β ⊠ B .M .c ⊞ γ ⊠ B .N .c) h
-        (solve-by R (eE :* var 1) (eE :* cE) (hyp (var 3) (var 0 :* var 5 :+ minus (var 1 :* var 4)) (eE :* var 6) ∷ hyp (var 5) (var 1 :* var 2 :+ minus (var 0 :* var 3)) (eE :* var 7) ∷ []) tt (env v β γ) (eβ, (eγ, tt))) ∙ sym (lin-c S B α β γ));
-  }
+  pub cramer-eq : {n : ℕ} → Has 𝓥 (det S B .0) n → (v : O S .El) (α β γ : P S) → v .b ⊠ B .N .c ⊞ ⊟ (v .c ⊠ B .N .b) ≡ det S B ⊠ β → v .c ⊠ B .M .b ⊞ ⊟ (v .b ⊠ B .M .c) ≡ det S B ⊠ γ →
+      v .a ⊞ ⊟ (β ⊠ B .M .a ⊞ γ ⊠ B .N .a) ≡ B .U ⊠ α → v ≡ lin S B α β γ
+  cramer-eq h v α β γ eβ eγ eα = O-path S
+      (solve-by R (var 0) (var 4 :* var 1 :+ var 2 :+ var 3) (hyp one (var 0 :+ minus (var 2 :+ var 3)) (var 1 :* var 4) ∷ []) tt (v .a ∷ B .U ∷ β ⊠ B .M .a ∷ γ ⊠ B .N .a ∷ α ∷ []) (eα, tt) ∙ sym (lin-a S B α β γ))
+      (p-cancel 𝓥 (det S B) (v .b) (β ⊠ B .M .b ⊞ γ ⊠ B .N .b) h
+      (solve-by R (eE :* var 0) (eE :* bE) (hyp (var 2) (var 0 :* var 5 :+ minus (var 1 :* var 4)) (eE :* var 6) ∷ hyp (var 4) (var 1 :* var 2 :+ minus (var 0 :* var 3)) (eE :* var 7) ∷ []) tt (env v β γ) (eβ, (eγ, tt))) ∙ sym (lin-b S B α β γ))
+      (p-cancel 𝓥 (det S B) (v .c) (β ⊠ B .M .c ⊞ γ ⊠ B .N .c) h
+      (solve-by R (eE :* var 1) (eE :* cE) (hyp (var 3) (var 0 :* var 5 :+ minus (var 1 :* var 4)) (eE :* var 6) ∷ hyp (var 5) (var 1 :* var 2 :+ minus (var 0 :* var 3)) (eE :* var 7) ∷ []) tt (env v β γ) (eβ, (eγ, tt))) ∙ sym (lin-c S B α β γ))
 
   -- the coordinates of v as exact quotients
   pub record Coords (v : O S .El) : Type 0 where
@@ -90,8 +85,11 @@ module _ (S : Setting) (B : Basis S) where
         ring₄ R (λ α u m n. α :* u :+ m :+ n :+ minus (m :+ n) := u :* α) tt (i .α) (B .U) (i .β ⊠ B .M .a) (i .γ ⊠ B .N .a);
   }
 
+  pub coords-eq : det S B .0 ≢ L .ops .𝟎 → (v : O S .El) (k : Coords v) → v ≡ lin S B (k .α) (k .β) (k .γ)
+  coords-eq rank v k = cramer-eq (degree 𝓥 (det S B) rank .1) v (k .α) (k .β) (k .γ) (k .e-β) (k .e-γ) (k .U-α)
+
   pub in-of : det S B .0 ≢ L .ops .𝟎 → (v : O S .El) → Coords v → In S B v
-  in-of rank v k = cramer-in (degree 𝓥 (det S B) rank .1) v (k .α) (k .β) (k .γ) (k .e-β) (k .e-γ) (k .U-α)
+  in-of rank v k = record { α = k .α; β = k .β; γ = k .γ; eq = coords-eq rank v k }
 
   -- exact quotients by e and U are settled
   pub coords-unique : B .U .0 ≢ L .ops .𝟎 → det S B .0 ≢ L .ops .𝟎 → (v : O S .El) (k l : Coords v) → (k .α ≡ l .α) × (k .β ≡ l .β) × (k .γ ≡ l .γ)

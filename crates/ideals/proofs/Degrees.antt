@@ -47,6 +47,7 @@ module _ (S : Setting) where
     -- deg e, with X(M) Y(N) the larger product in X(M) Y(N) − X(N) Y(M) = −2 e G H
     pub ε : ℕ
     pub e-has : Has 𝓥 (det S B .0) ε
+    pub ε≤u : ε ≤ u
     pub sum : x +ⁿ y ≡ ε +ⁿ dGH S
     pub u<x : u < x
     pub u≤y : u ≤ y
@@ -87,6 +88,7 @@ module _ (S : Setting) where
         Z-N = s .Z-N;
         ε = ε;
         e-has = hε;
+        ε≤u = ε≤u;
         sum = eq;
         u<x = u<x;
         u≤y = u≤y;

@@ -1,0 +1,11 @@
+pub mod Parts
+pub mod Room
+pub mod Turned
+pub mod Frame
+pub mod Level
+pub mod Correct
+pub mod Walk
+pub mod Passed
+pub mod Closing
+pub mod Unit
+pub mod Rows
