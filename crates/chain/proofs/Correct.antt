@@ -1,7 +1,8 @@
 -- Section 4 put together: what the reduction ends with is the scaled reduced basis of the next ideal, or of the order.
---   Ends            the inequalities and leading coefficients at the end, in numbers
+--   Ends Finished   the inequalities and leading coefficients at the end, in numbers and without
 --   step-correct    the seven polynomials made from the divided pairs of a good basis are the good basis of its next ideal
 --   order-correct   those made from (1, 0), (0, 1) and U = 1 are the basis of the order
+--   step-finished order-finished   the same from `Finished`
 --   step-unique     and so there is one answer
 use mathlib.Core.Path.{_≡_, refl, sym, ap, ap₂, _∙_, subst}
 use mathlib.Core.List.{[], _∷_}
@@ -12,7 +13,7 @@ use Rattle.ring.proofs.Laws as rg
 use Rattle.ring.specs.Ring.{Ops, CRing}
 use Rattle.ring.proofs.Solve.{var, one, zer, minus, _:+_, _:*_, _:=_, solve, ring₁, ring₂, ring₃}
 use Rattle.valued.specs.Val.{Valued}
-use Rattle.valued.specs.Degree.{Has, Lt}
+use Rattle.valued.specs.Degree.{Has, Lt, Leads}
 use Rattle.valued.specs.Polynomial.{polys, Divides, IsUnit}
 use Rattle.valued.proofs.Degree as d
 use Rattle.valued.proofs.Compare.{lt-≺, has-≼, lt-unscale}
@@ -32,7 +33,7 @@ use Rattle.ideals.proofs.Reduced.{OnlyPolys, reduced-of}
 use Rattle.ideals.proofs.Divided.{next-ideal, next-reduced, next-unique}
 use Rattle.chain.proofs.Parts.{Parts, Cut, x1, y1, pt, base, base-next}
 use Rattle.chain.proofs.Room.{Room, room}
-use Rattle.chain.proofs.Turned.{Pair, Turned, Alone}
+use Rattle.chain.proofs.Changed.{Pair, Changed, Alone}
 use Rattle.chain.proofs.Frame.{pair, off, Framed, Rebased, rebased-to, rebased-U, rebased-rank, rebased-alone, rebased-over}
 
 module _ (S : Setting) where
@@ -63,15 +64,27 @@ module _ (S : Setting) where
     pub Z-M : Lt 𝓥 (Z S (B .M)) u
     pub Z-N : Lt 𝓥 (Z S (B .N)) u
 
-  pub ends-basis : (B : Basis S) → Ends B → ReducedBasis S B
-  ends-basis B e =
+  -- the same without numbers
+  pub record Finished (B : Basis S) : Type 0 where
+    pub basis : ReducedBasis S B
+    pub X-M : Leads 𝓥 (X S (B .M)) (1ᵏ +ᵏ 1ᵏ)
+    pub Y-N : Leads 𝓥 (Y S (B .N)) 1ᵏ
+    pub monic : Leads 𝓥 (B .U .0) 1ᵏ
+
+  pub ends : (B : Basis S) → Ends B → Finished B
+  ends B e =
       let hU : Has 𝓥 (B .U .0) (e .u) = (1ᵏ, 𝓥 .one≢zero, e .U-lead) in
       let hX : Has 𝓥 (X S (B .M)) (e .x) = (1ᵏ +ᵏ 1ᵏ, S .two≢, e .X-M) in
       let hY : Has 𝓥 (Y S (B .N)) (e .y) = (1ᵏ, 𝓥 .one≢zero, e .Y-N) in
-      record { X-N = lt-≺ 𝓥 (e .X-N) hX; Y-M = lt-≺ 𝓥 (e .Y-M) hU; Y-N = has-≼ 𝓥 hU hY (e .u≤y); Z-M = lt-≺ 𝓥 (e .Z-M) hU; Z-N = lt-≺ 𝓥 (e .Z-N) hU }
+      record {
+        basis = record { X-N = lt-≺ 𝓥 (e .X-N) hX; Y-M = lt-≺ 𝓥 (e .Y-M) hU; Y-N = has-≼ 𝓥 hU hY (e .u≤y); Z-M = lt-≺ 𝓥 (e .Z-M) hU; Z-N = lt-≺ 𝓥 (e .Z-N) hU };
+        X-M = (e .x, 0, S .two≢, e .X-M);
+        Y-N = (e .y, 0, 𝓥 .one≢zero, e .Y-N);
+        monic = (e .u, 0, 𝓥 .one≢zero, e .U-lead);
+      }
 
-  pub ends-scaled : (B : Basis S) → Ends B → NoFactor S B → Scaled S B
-  ends-scaled B e seven = record { X-M = (e .x, 0, S .two≢, e .X-M); Y-N = (e .y, 0, 𝓥 .one≢zero, e .Y-N); monic = (e .u, 0, 𝓥 .one≢zero, e .U-lead); seven = seven }
+  finished-scaled : (B : Basis S) → Finished B → NoFactor S B → Scaled S B
+  finished-scaled B e seven = record { X-M = e .X-M; Y-N = e .Y-N; monic = e .monic; seven = seven }
 
   -- ---- the step
   pub base-framed : (B : Basis S) (k : Parts S B) (c : Cut S B k) → Framed S (x1 S B k) (y1 S B k) (base S B k c)
@@ -87,21 +100,23 @@ module _ (S : Setting) where
       sign : (a : P S) → Divides 𝓥 d (⊟ a) → Divides 𝓥 d a
       sign a (q, e) = (⊟ q, sym (rg.neg-neg Rg a) ∙ ap (λ t. ⊟ t) e ∙ sym (rg.mul-neg Rg d q))
 
-  pub step-correct : (B : Basis S) → Good S B → (k : Parts S B) (c : Cut S B k) (B′ : Basis S) → Rebased S (x1 S B k) (y1 S B k) (base S B k c) B′ → Ends B′ → Good S B′ × Next S B B′
-  step-correct B good k c B′ h e =
+  pub step-finished : (B : Basis S) → Good S B → (k : Parts S B) (c : Cut S B k) (B′ : Basis S) → Rebased S (x1 S B k) (y1 S B k) (base S B k c) B′ → Finished B′ → Good S B′ × Next S B B′
+  step-finished B good k c B′ h e =
       let rm : Room S B k c = room S B good k c in
       let nz : B′ .U .0 ≢ 𝟎 = rebased-U S h (not-zero 𝓥 (rm .d-has)) in
       let rank : det S B′ .0 ≢ 𝟎 = rebased-rank S h (rm .rank) in
-      let next : Next S B B′ = rebased-over S h (In S B) (B .M) (λ a u i. in-scale S B a u i) (base-next S B k (good .ideal .rank) c) in
-      let basis : ReducedBasis S B′ = ends-basis B′ e in (
+      let next : Next S B B′ = rebased-over S h (In S B) (B .M) (λ a u i. in-scale S B a u i) (base-next S B k (good .ideal .rank) c) in (
         record {
           ideal = next-ideal S B B′ good next nz rank;
-          basis = basis;
-          scaled = ends-scaled B′ e (rebased-alone S h (base-alone B k c));
-          reduced = next-reduced S B B′ good next nz rank basis;
+          basis = e .basis;
+          scaled = finished-scaled B′ e (rebased-alone S h (base-alone B k c));
+          reduced = next-reduced S B B′ good next nz rank (e .basis);
         },
         next,
       )
+
+  pub step-correct : (B : Basis S) → Good S B → (k : Parts S B) (c : Cut S B k) (B′ : Basis S) → Rebased S (x1 S B k) (y1 S B k) (base S B k c) B′ → Ends B′ → Good S B′ × Next S B B′
+  step-correct B good k c B′ h e = step-finished B good k c B′ h (ends B′ e)
 
   -- whatever was made so, it is the same
   pub step-unique : (B B′ B″ : Basis S) → Good S B → Good S B′ × Next S B B′ → Good S B″ × Next S B B″ → B′ ≡ B″
@@ -133,19 +148,19 @@ module _ (S : Setting) where
       zero-of a hx l h = elim (view 𝓥 a) [ inl e ↦ e | inr (m, hm) ↦ absurd (omega (arith, d.above 𝓥 (d.has-mul 𝓥 hm hx) h)) ]
 
   -- everything is a multiple of 1
-  framed-one : (B : Basis S) → B .U ≡ 1ₚ → Framed S 0ₚ 0ₚ B
+  pub framed-one : (B : Basis S) → B .U ≡ 1ₚ → Framed S 0ₚ 0ₚ B
   framed-one B e = record { M-a = by-one (off S 0ₚ 0ₚ (B .M)); N-a = by-one (off S 0ₚ 0ₚ (B .N)) }
     where
       by-one : (a : P S) → Divides 𝓥 (B .U) a
       by-one a = (a, sym (ap (λ t. t ⊠ a) e ∙ rg.one-mul Rg a))
 
-  pub order-correct : (B : Basis S) → B .U ≡ 1ₚ → Turned 𝓥 (record { b = 1ₚ; c = 0ₚ }) (record { b = 0ₚ; c = 1ₚ }) (pair S (B .M)) (pair S (B .N)) → Ends B → Start S B
-  order-correct B U-one turn e = record {
+  pub order-finished : (B : Basis S) → B .U ≡ 1ₚ → Changed 𝓥 (record { b = 1ₚ; c = 0ₚ }) (record { b = 0ₚ; c = 1ₚ }) (pair S (B .M)) (pair S (B .N)) → Finished B → Start S B
+  order-finished B U-one change e = record {
     good = record {
       ideal = record { U≢ = nz; rank = rank; one = in-U S B; only = only-of-rank S B nz rank; by-r = λ v i. whole (el-r S ⊗ v); by-w = λ v i. whole (el-w S ⊗ v) };
-      basis = ends-basis B e;
-      scaled = ends-scaled B e (λ d a₀ a₁ a₂ a₃ a₄ a₅ a₆. subst (Divides 𝓥 d) U-one a₀);
-      reduced = reduced-of S B nz rank (ends-basis B e) only;
+      basis = e .basis;
+      scaled = finished-scaled B e (λ d a₀ a₁ a₂ a₃ a₄ a₅ a₆. subst (Divides 𝓥 d) U-one a₀);
+      reduced = reduced-of S B nz rank (e .basis) only;
     };
     U-one = U-one;
     whole = whole;
@@ -158,7 +173,7 @@ module _ (S : Setting) where
         unit = 1ₚ;
         is-unit = (1ₚ, sym (Rg .laws .mul-one 1ₚ));
         U-eq = U-one ∙ sym (Rg .laws .mul-one 1ₚ);
-        turn = turn;
+        change = change;
       }
 
       nz : B .U .0 ≢ 𝟎
@@ -174,3 +189,6 @@ module _ (S : Setting) where
       only u hU v i b =
           let z : u ≡ 0 = d.same 𝓥 hU (d.has-eq 𝓥 (d.has-one 𝓥) (sym (ap (λ t. t .0) U-one))) in
           order-poly v (d.lt-up 𝓥 1 (b .X-lt) (omega arith)) (d.lt-up 𝓥 1 (b .Y-lt) (omega arith))
+
+  pub order-correct : (B : Basis S) → B .U ≡ 1ₚ → Changed 𝓥 (record { b = 1ₚ; c = 0ₚ }) (record { b = 0ₚ; c = 1ₚ }) (pair S (B .M)) (pair S (B .N)) → Ends B → Start S B
+  order-correct B U-one change e = order-finished B U-one change (ends B e)

@@ -1,7 +1,7 @@
 -- Bases whose first row is settled by their pairs. In 4.1 the first coordinate of an element with the pair c₁, c₂ is −(c₁ x + c₂ y), up to
 -- multiples of U: so only the pairs are carried through the reduction, and the first row is found at its end.
 --   Framed x y B    M0 = −(M1 x + M2 y) and N0 = −(N1 x + N2 y) modulo U
---   Rebased B B′    both framed, U′ = U times a unit, and the pairs of B′ are those of B turned
+--   Rebased B B′    both framed, U′ = U times a unit, and the pairs of B′ are those of B changed
 --   rebased-to rebased-from   then their lattices are one
 --   rebased-over rebased-rank rebased-alone   and what B is over, its rank and its lack of a common factor pass to B′
 use mathlib.Core.Path.{_≡_, refl, sym, ap, ap₂, _∙_, subst}
@@ -20,7 +20,7 @@ use Rattle.ideals.specs.Basis.{NoFactor}
 use Rattle.ideals.specs.Next.{Over}
 use Rattle.ideals.proofs.Sizes.{O-path}
 use Rattle.ideals.proofs.Lattice.{in-U, in-scale, in-lin, lin-a, lin-b, lin-c, sc-mul}
-use Rattle.chain.proofs.Turned.{Pair, Turned, Alone, turned-back, turned-alone}
+use Rattle.chain.proofs.Changed.{Pair, Changed, Alone, changed-back, changed-alone}
 
 module _ (S : Setting) where
   open Setting S using (𝓥)
@@ -52,7 +52,7 @@ module _ (S : Setting) where
     pub unit : P S
     pub is-unit : IsUnit 𝓥 unit
     pub U-eq : B′ .U ≡ unit ⊠ B .U
-    pub turn : Turned 𝓥 (pair (B .M)) (pair (B .N)) (pair (B′ .M)) (pair (B′ .N))
+    pub change : Changed 𝓥 (pair (B .M)) (pair (B .N)) (pair (B′ .M)) (pair (B′ .N))
 
   -- the other way round
   abbrev pub rebased-back : {x y : P S} {B B′ : Basis S} → Rebased x y B B′ → Rebased x y B′ B
@@ -62,7 +62,7 @@ module _ (S : Setting) where
     unit = h .is-unit .0;
     is-unit = (h .unit, h .is-unit .1 ∙ R .laws .mul-comm (h .unit) (h .is-unit .0));
     U-eq = solve-by R (var 0) (var 1 :* var 3) (hyp (var 0) one (var 2 :* var 1) ∷ hyp (minus (var 1)) (var 3) (var 2 :* var 0) ∷ []) tt (B .U ∷ h .is-unit .0 ∷ h .unit ∷ B′ .U ∷ []) (h .is-unit .1, (h .U-eq, tt));
-    turn = turned-back 𝓥 (h .turn);
+    change = changed-back 𝓥 (h .change);
   }
 
   -- an element framed by U whose pair is a combination of those of M and N lies in Λ
@@ -89,22 +89,22 @@ module _ (S : Setting) where
     pub rebased-from : (v : O S .El) → In S B′ v → In S B v
     rebased-from = in-lin S B B′
         (subst (In S B) (sym (ap (sc S) (h .U-eq) ∙ sc-mul S (h .unit) (B .U))) (in-scale S B (h .unit) _ (in-U S B)))
-        (within x y B (h .old) (B′ .M) (h .turn .α) (h .turn .β) (h .turn .m-b) (h .turn .m-c) (divides-trans 𝓥 (B .U) (B′ .U) _ U-U (h .new .M-a)))
-        (within x y B (h .old) (B′ .N) (h .turn .γ) (h .turn .δ) (h .turn .n-b) (h .turn .n-c) (divides-trans 𝓥 (B .U) (B′ .U) _ U-U (h .new .N-a)))
+        (within x y B (h .old) (B′ .M) (h .change .α) (h .change .β) (h .change .m-b) (h .change .m-c) (divides-trans 𝓥 (B .U) (B′ .U) _ U-U (h .new .M-a)))
+        (within x y B (h .old) (B′ .N) (h .change .γ) (h .change .δ) (h .change .n-b) (h .change .n-c) (divides-trans 𝓥 (B .U) (B′ .U) _ U-U (h .new .N-a)))
       where
         U-U : Divides 𝓥 (B .U) (B′ .U)
         U-U = (h .unit, h .U-eq ∙ R .laws .mul-comm (h .unit) (B .U))
 
-    -- e′ is e times the determinant of the turn
-    pub rebased-det : det S B′ ≡ (h .turn .α ⊠ h .turn .δ ⊞ ⊟ (h .turn .β ⊠ h .turn .γ)) ⊠ det S B
+    -- e′ is e times the determinant of the change
+    pub rebased-det : det S B′ ≡ (h .change .α ⊠ h .change .δ ⊞ ⊟ (h .change .β ⊠ h .change .γ)) ⊠ det S B
     rebased-det =
-        ap₂ (λ s t. s ⊠ B′ .N .c ⊞ ⊟ (t ⊠ B′ .N .b)) (h .turn .m-b) (h .turn .m-c) ∙ ap₂ (λ s t. (h .turn .α ⊠ B .M .b ⊞ h .turn .β ⊠ B .N .b) ⊠ s ⊞ ⊟ ((h .turn .α ⊠ B .M .c ⊞ h .turn .β ⊠ B .N .c) ⊠ t)) (h .turn .n-c) (h .turn .n-b)
+        ap₂ (λ s t. s ⊠ B′ .N .c ⊞ ⊟ (t ⊠ B′ .N .b)) (h .change .m-b) (h .change .m-c) ∙ ap₂ (λ s t. (h .change .α ⊠ B .M .b ⊞ h .change .β ⊠ B .N .b) ⊠ s ⊞ ⊟ ((h .change .α ⊠ B .M .c ⊞ h .change .β ⊠ B .N .c) ⊠ t)) (h .change .n-c) (h .change .n-b)
         ∙ solve R ((var 0 :* var 4 :+ var 1 :* var 6) :* (var 2 :* var 5 :+ var 3 :* var 7) :+ minus ((var 0 :* var 5 :+ var 1 :* var 7) :* (var 2 :* var 4 :+ var 3 :* var 6)))
-        ((var 0 :* var 3 :+ minus (var 1 :* var 2)) :* (var 4 :* var 7 :+ minus (var 5 :* var 6))) tt (h .turn .α ∷ h .turn .β ∷ h .turn .γ ∷ h .turn .δ ∷ B .M .b ∷ B .M .c ∷ B .N .b ∷ B .N .c ∷ [])
+        ((var 0 :* var 3 :+ minus (var 1 :* var 2)) :* (var 4 :* var 7 :+ minus (var 5 :* var 6))) tt (h .change .α ∷ h .change .β ∷ h .change .γ ∷ h .change .δ ∷ B .M .b ∷ B .M .c ∷ B .N .b ∷ B .N .c ∷ [])
 
     -- the pairs have no common factor, so the seven have none
     pub rebased-alone : Alone 𝓥 (pair (B .M)) (pair (B .N)) → NoFactor S B′
-    rebased-alone alone d a₀ a₁ a₂ a₃ a₄ a₅ a₆ = turned-alone 𝓥 (h .turn) alone d a₂ a₃ a₅ a₆
+    rebased-alone alone d a₀ a₁ a₂ a₃ a₄ a₅ a₆ = changed-alone 𝓥 (h .change) alone d a₂ a₃ a₅ a₆
 
   module _ {x y : P S} {B B′ : Basis S} (h : Rebased x y B B′) where
     pub rebased-to : (v : O S .El) → In S B v → In S B′ v
@@ -115,7 +115,7 @@ module _ (S : Setting) where
 
     pub rebased-rank : det S B .0 ≢ 𝟎 → det S B′ .0 ≢ 𝟎
     rebased-rank nz z =
-        let t = rebased-back h .turn in
+        let t = rebased-back h .change in
         nz (ap (λ s. s .0) (rebased-det (rebased-back h)) ∙ ap (λ s. L .ops .mul ((t .α ⊠ t .δ ⊞ ⊟ (t .β ⊠ t .γ)) .0) s) z ∙ rg.mul-zero L ((t .α ⊠ t .δ ⊞ ⊟ (t .β ⊠ t .γ)) .0))
 
     -- E (Λ/U) = E (Λ′/U′)

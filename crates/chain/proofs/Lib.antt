@@ -1,6 +1,7 @@
 pub mod Parts
 pub mod Room
-pub mod Turned
+pub mod Changed
+pub mod Moved
 pub mod Frame
 pub mod Level
 pub mod Correct
@@ -9,3 +10,6 @@ pub mod Passed
 pub mod Closing
 pub mod Unit
 pub mod Rows
+pub mod Bounds
+pub mod Reduce
+pub mod Exists

@@ -2,6 +2,7 @@
 --   Fit c v        the three rows of v fit c coefficients
 --   unit-rows      deg E = n = 2h: rows of E have degree at most n, rows of F at most h
 --   unit-fits      so c coefficients hold all six rows exactly where c ≥ n + 1
+--   product-rows   the product of the m passed: rows of degree at most its degree n, and E0 of degree n
 --   norm-product   N(E) e = U² times a unit
 --   U-below        so after a step deg U < deg E: numerators before the exact division by U are shorter than twice the product
 use mathlib.Core.Path.{_≡_, sym, ap, ap₂, _∙_}
@@ -18,17 +19,17 @@ use Rattle.valued.specs.Val.{Valued}
 use Rattle.valued.specs.Degree.{Has, Lt}
 use Rattle.valued.specs.Polynomial.{polys}
 use Rattle.valued.proofs.Degree as d
-use Rattle.valued.proofs.Compare.{lt-unscale}
+use Rattle.valued.proofs.Compare.{lt-unscale, has-unscale}
 use Rattle.valued.proofs.Polynomial.{degree, unit-const, not-zero}
 use Rattle.ideals.specs.Setting.{Setting, P}
 use Rattle.ideals.specs.Element.{O, sc, ev, norm}
 use Rattle.ideals.specs.Ideal.{Basis, det}
 use Rattle.ideals.specs.Next.{Start}
-use Rattle.ideals.proofs.Sizes.{scE, two-a, two-b, two-c}
+use Rattle.ideals.proofs.Sizes.{scE, two-a, two-b, two-c, three-a}
 use Rattle.ideals.proofs.Values.{Q, Q-YZ, ev-Q}
-use Rattle.ideals.proofs.Form.{has-two, form-below}
+use Rattle.ideals.proofs.Form.{has-two, has-three, form-below}
 use Rattle.ideals.proofs.Lattice.{in-M, in-N}
-use Rattle.ideals.proofs.Norm.{F, F-deg, Below, below-of}
+use Rattle.ideals.proofs.Norm.{F, F-deg, YZ-of, Below, below-of}
 use Rattle.ideals.proofs.Degrees.{Small, small, lt-off}
 use Rattle.chain.specs.Chain.{Chain}
 use Rattle.chain.specs.Unit.{UnitOf}
@@ -80,6 +81,14 @@ module _ (S : Setting) where
       )
 
   -- ---- the products on the way
+  pub product-rows : (B₀ : Basis S) (st : Start S B₀) {s n : ℕ} {B : Basis S} (c : Chain S B₀ s n B) → Fit (suc n) (passed S B₀ st c .E) × (1 ≤ s → Has 𝓥 (passed S B₀ st c .E .a .0) n)
+  product-rows B₀ st {n = n} c =
+      let p : Passed S c = passed S B₀ st c in (
+        fit-below (p .E) (suc n) (below-of S (p .E) (suc n) (d.lt-up 𝓥 (suc n +ⁿ suc n) (p .low) (omega arith)) (d.has-up 𝓥 (suc n) (p .E-deg) (omega arith))),
+        λ l. let (y, z) = YZ-of S (p .E) 0 (d.lt-up 𝓥 (0 +ⁿ 0) (p .below l) (omega arith)) in
+            has-unscale 𝓥 (has-three S) (d.has-eq 𝓥 (d.has-lt 𝓥 (p .E-deg) (d.lt-up 𝓥 n z (omega arith))) (three-a S (p .E))),
+      )
+
   open Ops (triops exprs (var 0) (var 1)) using (mul as _:⊗_)
 
   infixl 70 _:⊗_

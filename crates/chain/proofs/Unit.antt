@@ -1,7 +1,7 @@
 -- 5.3: what the chain passed from the order to a closing is a unit, of even degree.
 --   norm-eq Q-E half       for E F = 1: the norms are units, the cofactor's value has the opposite degree, and the degree is even
 --   large                  a unit of positive degree: Y and Z lie below 0, and E0 has the degree of E
---   inverse-cof            F = cof(E)/N(E)
+--   inverse-cof cof-inverse   F = cof(E)/N(E), and where N(E) is a unit that is the inverse
 --   inverse-unique         one inverse
 --   scale-to scale-unique  one constant gives a size of an element a wanted leading coefficient
 --   closing-unit           the product at a closing has an inverse
@@ -64,8 +64,15 @@ module _ (S : Setting) where
         ap (λ t. t ⊗ F) (sym (norm-cof S E))
         ∙ solve-by (O S) (var 0 :* var 1 :* var 2) (var 1) (hyp (var 1) (var 0 :* var 2) one ∷ []) tt (E ∷ cof S E ∷ F ∷ []) (inverse, tt)
 
+    -- one inverse
     pub inverse-unique : (F′ : O S .El) → E ⊗ F′ ≡ 1ₒ → F ≡ F′
     inverse-unique F′ e = solve-by (O S) (var 1) (var 2) (hyp (var 2) (var 0 :* var 1) one ∷ hyp (minus (var 1)) (var 0 :* var 2) one ∷ []) tt (E ∷ F ∷ F′ ∷ []) (inverse, (e, tt))
+
+  -- and back: an element whose norm is a unit has cof(E)/N(E) for its inverse
+  pub cof-inverse : (E : O S .El) (ν : P S) → 1ₚ ≡ norm S E ⊠ ν → E ⊗ (sc S ν ⊗ cof S E) ≡ 1ₒ
+  cof-inverse E ν e =
+      ring₃ (O S) (λ x v c. x :* (v :* c) := x :* c :* v) tt E (sc S ν) (cof S E)
+      ∙ ap (λ t. t ⊗ sc S ν) (norm-cof S E) ∙ sym (sc-mul S (norm S E) ν) ∙ ap (sc S) (sym e)
 
   module _ (E F : O S .El) {n : ℕ} (inverse : E ⊗ F ≡ 1ₒ) (E-deg : Has 𝓥 (ev S E) n) where
     -- ev(cof E) has the opposite degree

@@ -3,9 +3,9 @@
 --   accepted-none   accepted: number 0
 -- What is not at fault is good, since the faults 1 and 3 are of things that are decided, and the others are negations themselves.
 use mathlib.Core.Path.{_≡_, refl, sym, ap, _∙_, subst}
-use mathlib.Core.Logic.{_≢_, _⊎_, inl, inr}
+use mathlib.Core.Logic.{_≢_, inl, inr}
 use mathlib.Core.List.{List}
-use Prim.Native.Nat.{ℕ, zero, suc, _+_, _-_, _%_, _<_, _≤_}
+use Prim.Native.Nat.{ℕ, suc, _+_, _-_, _%_, _<_, _≤_}
 use native.Mathlib.Nat.{mod-lt}
 use native.Mathlib.Omega.{arith}
 use native.Mathlib.Decide.{decLe, ℕ-discrete}
@@ -19,8 +19,10 @@ use Rattle.reading.specs.Made.{reading}
 use Rattle.reading.specs.Row.{row, Size}
 use Rattle.reading.proofs.Rows.{size-lead}
 use Rattle.prime.specs.Table.{largest}
-use Rattle.field.specs.Refusal.{longest, highest, Degree, polynomial, Fault1, Fault2, Fault3, Fault4, Fault5, Fault6, Fault7, Fault8, Refusal, Accepted}
-use Rattle.field.proofs.Stages.{past, degree-one}
+use Rattle.poly.specs.Factors.{polynomial}
+use Rattle.field.specs.Refusal.{longest, highest, Degree, Fault1, Fault2, Fault3, Fault4, Fault5, Fault6, Fault7, Fault8, End, Rows12, Rows36, Rows78, Refusal, Accepted}
+use Rattle.field.specs.Parts.{Shaped}
+use Rattle.field.proofs.Stages.{later, past, degree-one}
 
 le-stable : (a b : ℕ) → ((a ≤ b → ⊥) → ⊥) → a ≤ b
 le-stable a b f = elim (decLe a b) [ yes h ↦ h | no h ↦ absurd (f h) ]
@@ -65,6 +67,49 @@ degree-has {p} {d} {l} pr s =
     let ρ = reading p pr in
     let e : length l ≡ suc d = s .whole in
     (ρ .cast (getD l d 0), (λ z. s .last (ρ .cast-small (getD l d 0) (s .each d (omega arith)) z)), size-lead ρ (degree-size s))
+
+-- ---- the rows put together: a row's number stops the table, 0 hands it on
+module _ (p : ℕ) (G H : List ℕ) where
+  pub stop-p : (n : ℕ) → n ≢ 0 → Rows12 p End n → Refusal p G H n
+  unfolding Refusal
+  stop-p n f = later (later (λ e. absurd (f e)))
+
+  pass-p : (a : ℕ) → a ≡ 0 → Rows12 p End a → (Fault1 p → ⊥) × (Fault2 p → ⊥)
+  pass-p a e s = let (f, t) = past (λ z. omega arith) s in let (g, u) = past (λ z. omega arith) t in (f, g)
+
+  pub stop-lists : (a n : ℕ) → a ≡ 0 → Rows12 p End a → n ≢ 0 → Rows36 p G H End n → Refusal p G H n
+  unfolding Refusal
+  stop-lists a n z s f t =
+      let (i, j) = pass-p a z s in
+      inr (i, inr (j, later (later (later (later (later (λ e. absurd (f e)))))) t))
+
+  pub pass-lists : (a b n : ℕ) → a ≡ 0 → Rows12 p End a → b ≡ 0 → Rows36 p G H End b → Rows78 p G H n → Refusal p G H n
+  unfolding Refusal
+  pass-lists a b n z s y t u =
+      let (i, j) = pass-p a z s in
+      inr (i, inr (j, after t))
+    where
+      after : Rows36 p G H End b → Rows36 p G H (Rows78 p G H) n
+      after t =
+          let (k₁, t₁) = past (λ z. omega arith) t in
+          let (k₂, t₂) = past (λ z. omega arith) t₁ in
+          let (k₃, t₃) = past (λ z. omega arith) t₂ in
+          let (k₄, t₄) = past (λ z. omega arith) t₃ in
+          let (k₅, t₅) = past (λ z. omega arith) t₄ in
+          inr (k₁, inr (k₂, inr (k₃, inr (k₄, inr (k₅, u)))))
+
+  pub shaped : (a b : ℕ) → a ≡ 0 → Rows12 p End a → b ≡ 0 → Rows36 p G H End b → Shaped p G H
+  shaped a b z s y t =
+      let (i, j) = pass-p a z s in
+      let (k₁, t₁) = past (λ z. omega arith) t in
+      let (k₂, t₂) = past (λ z. omega arith) t₁ in record {
+        prime = prime-stable p (λ f. i (inr (inr f)));
+        high = le-stable p largest (λ f. i (inr (inl (omega arith))));
+        degG = length G - 1;
+        degH = length H - 1;
+        listG = degree-stable p G k₁;
+        listH = degree-stable p H k₂;
+      }
 
 -- ---- the two ways
 module _ (p : ℕ) (G H : List ℕ) where

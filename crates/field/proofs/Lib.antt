@@ -2,4 +2,6 @@ pub mod Stages
 pub mod Accept
 pub mod Parts
 pub mod Rows
+pub mod Factors
 pub mod Opening
+pub mod Examples

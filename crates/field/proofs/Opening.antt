@@ -1,8 +1,7 @@
 -- The answer of `open` is one.
-use mathlib.Core.Path.{_≡_, refl, sym, ap, ap₂, _∙_, subst}
-use mathlib.Core.Logic.{_≢_}
+use mathlib.Core.Path.{_≡_, sym, ap₂, _∙_, subst}
 use mathlib.Core.List.{List}
-use Prim.Native.Nat.{ℕ, suc, _+_, _*_}
+use Prim.Native.Nat.{ℕ}
 use native.Mathlib.Omega.{arith}
 use native.Mathlib.Decide.{ℕ-discrete}
 use Rattle.fp.specs.Fp.{Prime}
@@ -10,8 +9,8 @@ use Rattle.reading.specs.Made.{reading}
 use Rattle.reading.proofs.Unique.{row-unique}
 use Rattle.field.specs.declared.Field.{Field}
 use Rattle.field.specs.declared.Opened.{Opened}
-use Rattle.field.specs.Refusal.{Degree, Refusal, Accepted}
-use Rattle.field.specs.Opening.{Holds, Held, Opens}
+use Rattle.field.specs.Refusal.{Refusal, Accepted}
+use Rattle.field.specs.Opening.{Holds, Opens}
 use Rattle.field.proofs.Stages.{refusal-one}
 use Rattle.field.proofs.Accept.{accepted}
 

@@ -2,7 +2,7 @@
 --   row-of, size-of, padded   the row of a list of coefficients: a row, its trimmed length, the list with zeros after it
 --   product-room              the product of the two rows fits
 --   field-holds               what `field_of` puts together is the field
-use mathlib.Core.Path.{_≡_, refl, sym, ap, ap₂, _∙_, subst}
+use mathlib.Core.Path.{_≡_, refl, sym, ap, ap₂, _∙_}
 use mathlib.Core.List.{List}
 use Prim.Native.Nat.{ℕ, suc, _+_, _*_, _-_, _/_, _%_, _<_, _≤_}
 use native.Mathlib.Nat.{mod-add-div}
@@ -10,14 +10,12 @@ use native.Mathlib.Omega.{arith}
 use native.Mathlib.Decide.{decLt}
 use lib.ListN.{length, getD, List·getD-eq-default}
 use lib.Seq.{ext-getD}
-use Rattle.fp.specs.Fp.{Prime}
 use Rattle.ring.specs.Ring.{CRing}
 use Rattle.valued.specs.Val.{Valued}
 use Rattle.reading.specs.Reading.{Reading}
 use Rattle.reading.specs.Made.{reading}
-use Rattle.reading.specs.Row.{Row, Size, row, tab}
+use Rattle.reading.specs.Row.{Row, Size}
 use Rattle.reading.proofs.Tab.{length-tab, at-tab}
-use Rattle.residue.specs.Residue.{Modulus}
 use Rattle.poly.specs.Leaf.{Listed, MulIn, Product}
 use Rattle.poly.proofs.Leaf.{size-one}
 use Rattle.field.specs.Refusal.{Degree, Accepted}

@@ -2,12 +2,11 @@
 --   refusal-one            two numbers that meet the table are equal
 --   later, past            the rows below a row, and what an answer that is not a row's number says of it
 --   degree-one             a list has one degree
-use mathlib.Core.Path.{_≡_, refl, sym, ap, _∙_}
+use mathlib.Core.Path.{_≡_, sym, _∙_}
 use mathlib.Core.Logic.{_≢_, _⊎_, inl, inr}
 use mathlib.Core.List.{List}
 use Prim.Native.Nat.{ℕ, suc}
 use native.Mathlib.Omega.{arith}
-use lib.ListN.{length}
 use Rattle.field.specs.Refusal.{Degree, Fault1, Fault2, Fault3, Fault4, Fault5, Fault6, Fault7, Fault8, Stage, Refusal}
 
 stage-one : (k : ℕ) (Fault : Type 0) (below : ℕ → Type 0) → ((m n : ℕ) → below m → below n → m ≡ n)

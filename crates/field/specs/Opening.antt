@@ -12,7 +12,7 @@ use mathlib.Core.List.{List}
 use Prim.Native.Nat.{ℕ, suc, _+_, _*_}
 use lib.ListN.{getD, replicate}
 use Rattle.fp.specs.Fp.{Prime}
-use Rattle.ring.specs.Ring.{Ops, CRing}
+use Rattle.ring.specs.Ring.{CRing}
 use Rattle.valued.specs.Val.{Valued}
 use Rattle.reading.specs.Reading.{Reading}
 use Rattle.reading.specs.Made.{reading}

@@ -1,6 +1,5 @@
 -- Opening a field: the table of refusals 1 to 8.
 --   Degree p l d      l is a list of coefficients of a polynomial of degree d: lowest first, at most 13, each below p, the last not 0
---   polynomial p l    the polynomial of a list
 --   Fault1 p          p < 5, p > 65,535 or p not prime
 --   Fault2 p          p mod 3 = 1
 --   Fault3 p l        l is no list of coefficients: it is empty, over 13 long, has a coefficient ≥ p, or its last one is 0
@@ -11,6 +10,7 @@
 --   Fault8 p G H      some non-constant d divides both
 --   Refusal p G H n   n is the number of the first fault of p, G, H; 0 where there is none
 --   Accepted p G H    p, G, H are a field that we sell
+-- `polynomial` of a list is that of crate poly.
 -- In proofs/: Stages (`refusal-one`, one number for each p, G, H), Accept (`accepted`, `accepted-none`: the number is 0 exactly for the accepted).
 use mathlib.Core.Path.{_≡_}
 use mathlib.Core.Logic.{_≢_, _⊎_}
@@ -19,12 +19,11 @@ use Prim.Native.Nat.{ℕ, suc, _+_, _%_, _<_, _≤_}
 use lib.ListN.{length, getD}
 use Rattle.fp.specs.Fp.{Prime}
 use Rattle.valued.specs.Val.{Valued}
-use Rattle.valued.specs.Polynomial.{Poly, Squarefree, Coprime}
+use Rattle.valued.specs.Polynomial.{Squarefree, Coprime}
 use Rattle.valued.specs.Factor.{SquareFactor, CommonFactor}
 use Rattle.reading.specs.Reading.{Reading}
 use Rattle.reading.specs.Made.{reading}
-use Rattle.reading.specs.Row.{row}
-use Rattle.reading.proofs.Rows.{row-poly}
+pub use Rattle.poly.specs.Factors.{polynomial}
 use Rattle.prime.specs.Table.{largest}
 
 -- the most coefficients of G and of H, and the most that deg G + deg H may be
@@ -39,9 +38,6 @@ pub record Degree (p : ℕ) (l : List ℕ) (d : ℕ) : Type 0 where
   pub short : length l ≤ longest
   pub each : (i : ℕ) → i < length l → getD l i 0 < p
   pub last : getD l d 0 ≢ 0
-
-abbrev pub polynomial : (p : ℕ) (pr : Prime p) → List ℕ → Poly (reading p pr .𝓥)
-polynomial p pr l = (row (reading p pr) l, row-poly (reading p pr) l)
 
 abbrev pub Fault1 : ℕ → Type 0
 Fault1 p = (p < 5) ⊎ ((largest < p) ⊎ (Prime p → ⊥))

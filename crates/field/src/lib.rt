@@ -1,9 +1,9 @@
 // Opening a field: the refusals 1 to 8, in the table's order, and what the layers above need of a field that is accepted.
 // specs/Refusal.antt has the table, specs/Opening.antt the contract of `open`.
 ghost use mathlib.Core.Path.{_≡_};
-ghost use Rattle.field.specs.Refusal.{End, Rows12, Rows36, Accepted};
-ghost use Rattle.field.specs.Parts.{ListLength};
-ghost use Rattle.field.specs.Opening.{Held, nothing};
+ghost use Rattle.field.specs.Refusal.{End, Rows12, Rows36, Rows78, Refusal, Accepted};
+ghost use Rattle.field.specs.Parts.{ListLength, Shaped};
+ghost use Rattle.field.specs.Opening.{Held, nothing, Opens};
 
 const LONGEST: usize = 13;
 
@@ -98,6 +98,43 @@ fn check_lists(p: u64, g: &[u64], h: &[u64]) -> u32
     0
 }
 
+// 7 and 8.
+fn check_factors(p: u64, g: &[u64], h: &[u64]) -> u32
+    requires { ⌜ Shaped p (now g) (now h) ⌝ }
+    ensures { λ n. ⌜ Rows78 p (now (g .entry)) (now (h .entry)) n ⌝ }
+{
+    let x = poly::from_list(g);
+    let y = poly::from_list(h);
+    let left = poly::squarefree(p, &x);
+    if !left {
+        return 7;
+    }
+    let right = poly::squarefree(p, &y);
+    if !right {
+        return 7;
+    }
+    let apart = poly::coprime(p, &x, &y);
+    if !apart {
+        return 8;
+    }
+    0
+}
+
+// The number of the first refusal of p, G, H, or 0.
+pub fn refusal(p: u64, g: &[u64], h: &[u64]) -> u32
+    ensures { λ n. ⌜ Refusal p (now (g .entry)) (now (h .entry)) n ⌝ }
+{
+    let a = check_p(p);
+    if a != 0 {
+        return a;
+    }
+    let b = check_lists(p, g, h);
+    if b != 0 {
+        return b;
+    }
+    check_factors(p, g, h)
+}
+
 // The field of p, G, H that are accepted.
 fn field_of(p: u64, g: &[u64], h: &[u64]) -> Field
     requires { ⌜ Accepted p (now g) (now h) ⌝ }
@@ -140,5 +177,23 @@ fn no_field() -> Field
         dw: 0,
         leadg: 0,
         leadh: 0,
+    }
+}
+
+pub fn open(p: u64, g: &[u64], h: &[u64]) -> Opened
+    ensures { λ o. ⌜ Opens p (now (g .entry)) (now (h .entry)) o ⌝ }
+{
+    let n = refusal(p, g, h);
+    if n != 0 {
+        let z = no_field();
+        return Opened {
+            refusal: n,
+            field: z,
+        };
+    }
+    let f = field_of(p, g, h);
+    Opened {
+        refusal: 0,
+        field: f,
     }
 }

@@ -6,15 +6,14 @@
 --   no-omega                z² + z + 1 ≠ 0: no cube root of 1 but 1
 --   norm-zero               u² − u v + v² = 0 only for u = v = 0
 --   norm-zero′              3 u² + v² = 0 only for u = v = 0
-use mathlib.Core.Path.{_≡_, refl, sym, ap, ap₂, _∙_}
+use mathlib.Core.Path.{_≡_, sym, ap, _∙_}
 use mathlib.Core.Logic.{_≢_}
-use mathlib.Core.List.{List, [], _∷_}
-use Prim.Native.Nat.{ℕ, zero, suc, _+_, _*_, _-_, _/_, _%_, _<_, _≤_}
-use native.Mathlib.Nat.{mod-eq-of-lt, mod-add-div, mod-lt, div-eq-of-eq-mul-right}
+use mathlib.Core.List.{[], _∷_}
+use Prim.Native.Nat.{ℕ, _+_, _*_, _-_, _/_, _%_, _<_}
+use native.Mathlib.Nat.{mod-eq-of-lt, mod-add-div, div-eq-of-eq-mul-right}
 use native.Mathlib.Omega.{arith}
 use native.Mathlib.Decide.{decLt}
-use Rattle.ring.specs.Ring.{Ops, Laws, CRing, nat}
-use Rattle.ring.proofs.Laws.{one-mul}
+use Rattle.ring.specs.Ring.{Ops, CRing, nat}
 use Rattle.ring.proofs.Solve.{var, lit, one, zer, minus, _:+_, _:-_, _:*_, hyp, solve, solve-by}
 use Rattle.ring.specs.Power.{pow}
 use Rattle.ring.proofs.Power.{pow-suc, pow-add, pow-mul, pow-1}

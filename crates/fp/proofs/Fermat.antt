@@ -6,18 +6,18 @@
 --   pow-cls          powers of classes are classes of powers, for every modulus
 use mathlib.Core.Path.{_≡_, refl, sym, ap, ap₂, _∙_}
 use mathlib.Core.Logic.{_≢_}
-use mathlib.Core.List.{List, [], _∷_}
-use Prim.Native.Nat.{ℕ, zero, suc, _+_, _*_, _-_, _/_, _%_, _^_, _<_, _≤_}
-use native.Mathlib.Nat.{mod-lt, mod-eq-of-lt, mod-add-div, add-comm, zero-add, pow-zero, pow-succ'}
+use mathlib.Core.List.{[], _∷_}
+use Prim.Native.Nat.{ℕ, zero, suc, _+_, _*_, _-_, _/_, _%_, _^_, _<_}
+use native.Mathlib.Nat.{mod-eq-of-lt, mod-add-div, pow-zero, pow-succ'}
 use native.Mathlib.Omega.{arith}
-use Rattle.ring.specs.Ring.{Ops, Laws, CRing, nat}
+use Rattle.ring.specs.Ring.{Ops, CRing, nat}
 use Rattle.ring.proofs.Laws.{nat-mul, zero-mul′}
-use Rattle.ring.proofs.Solve.{var, one, zer, minus, _:+_, _:*_, hyp, solve-by}
+use Rattle.ring.proofs.Solve.{var, one, minus, _:+_, _:*_, hyp, solve-by}
 use Rattle.ring.specs.Power.{pow}
 use Rattle.ring.proofs.Power.{choose, absorb, frobenius, pow-suc, one-pow}
 use Rattle.ring.proofs.Power as P
 use Rattle.fp.specs.Fp.{F, Prime, cls}
-use Rattle.fp.proofs.Ring.{F-path, ring, cls-add, cls-mul, cls-p, cls-val}
+use Rattle.fp.proofs.Ring.{ring, cls-add, cls-mul, cls-p, cls-val}
 use Rattle.fp.proofs.Field.{Fld, ppos, inverse, cancel-zero}
 
 -- the powers of numbers are the ring's: every modulus, prime or not

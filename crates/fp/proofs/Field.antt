@@ -6,13 +6,13 @@
 use mathlib.Core.Path.{_≡_, sym, ap, _∙_}
 use mathlib.Core.Logic.{_≢_}
 use mathlib.Core.HLevel.{Σ-prop-discrete}
-use mathlib.Core.List.{List, [], _∷_}
+use mathlib.Core.List.{[], _∷_}
 use Prim.Native.Nat.{ℕ, zero, suc, _*_, _/_, _%_, _<_, _≤_}
 use native.Mathlib.Nat.{mod-lt, mod-eq-of-lt, mod-add-div}
 use native.Mathlib.Bridge.{le-prop}
 use native.Mathlib.Omega.{arith}
 use native.Mathlib.Decide.{decLt, ℕ-discrete}
-use Rattle.ring.specs.Ring.{Ops, Laws, CRing}
+use Rattle.ring.specs.Ring.{Ops, CRing}
 use Rattle.ring.specs.Field.{Field}
 use Rattle.ring.proofs.Solve.{var, one, zer, minus, _:+_, _:*_, hyp, solve-by}
 use Rattle.fp.specs.Fp.{F, cls, Prime}

@@ -2,7 +2,7 @@
 --   F-path       two classes are equal when their numbers are
 --   cls-add ..   the class of a sum or product is that of the classes: every law goes this way, since it holds for the numbers
 --   ring p       the ring
-use mathlib.Core.Path.{_≡_, refl, sym, ap, _∙_}
+use mathlib.Core.Path.{_≡_, sym, ap, _∙_}
 use mathlib.Core.HLevel.{Σ-prop-path, Σ-set, prop→set}
 use Prim.Native.Nat.{ℕ, suc, _+_, _*_, _-_, _/_, _%_, _<_, _≤_}
 use native.Mathlib.Nat.{ℕ-set, mod-eq-of-lt, mod-self, mod-add-mod, add-mod-mod, add-assoc, add-comm, add-zero, mul-assoc, mul-comm, mul-one, mul-add, add-mul, mod-add-div, add-mul-mod-self-left, add-sub-of-le}

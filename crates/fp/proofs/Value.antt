@@ -3,11 +3,9 @@
 --   inverse-value            a^(p − 2) is an inverse of a mod p
 --   inverse-only             an inverse below p is one
 --   root-value, root-only    a^((2p − 1)/3) is the one cube root of a below p, where p mod 3 = 2
-use mathlib.Core.Path.{_≡_, refl, sym, ap, ap₂, _∙_}
-use mathlib.Core.Logic.{_≢_}
-use mathlib.Core.List.{List, [], _∷_}
-use Prim.Native.Nat.{ℕ, zero, suc, _+_, _*_, _-_, _/_, _%_, _^_, _<_, _≤_}
-use native.Mathlib.Nat.{mod-eq-of-lt, mod-lt, mod-mod, mul-one, mul-comm, mul-assoc, pow-zero, pow-suc}
+use mathlib.Core.Path.{_≡_, refl, sym, ap, _∙_}
+use Prim.Native.Nat.{ℕ, suc, _+_, _*_, _-_, _%_, _^_, _<_}
+use native.Mathlib.Nat.{mod-eq-of-lt, mod-lt, mod-mod, mul-one, mul-comm, mul-assoc, pow-suc}
 use native.Mathlib.Omega.{arith}
 use Rattle.ring.specs.Ring.{Ops, CRing}
 use Rattle.ring.specs.Power.{pow}

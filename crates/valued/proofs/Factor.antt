@@ -2,9 +2,9 @@
 --   of-degree                          a polynomial is 0, or a unit, or not constant
 --   free-no-square, no-square-free     squarefree exactly where there is no square factor
 --   apart-no-common, no-common-apart   coprime exactly where there is no common factor
-use mathlib.Core.Path.{_≡_, refl, sym, ap, _∙_}
+use mathlib.Core.Path.{_≡_, ap, _∙_}
 use mathlib.Core.Logic.{_⊎_, inl, inr}
-use Prim.Native.Nat.{ℕ, zero, suc, _+_ as _+ⁿ_}
+use Prim.Native.Nat.{ℕ, zero, suc}
 use native.Mathlib.Omega.{arith}
 use Rattle.ring.proofs.Laws as r
 use Rattle.ring.specs.Ring.{Ops, CRing}

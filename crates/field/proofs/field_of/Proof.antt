@@ -1,7 +1,6 @@
 -- `field::field_of` meets its contract. The degrees are at most 16, so that every sum fits and every index is inside.
 use mathlib.Core.Path.{_≡_}
-use Prim.Native.Nat.{suc, _≤_}
-use lib.ListN.{length}
+use Prim.Native.Nat.{suc}
 use borrow.Author.Needs.{needs}
 use native.Mathlib.Omega.{arith}
 use Rattle.field.proofs.Parts.{length-of}

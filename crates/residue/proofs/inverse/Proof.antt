@@ -1,5 +1,5 @@
 -- `residue::inverse` meets its contract: Fermat.
-use mathlib.Core.Path.{_≡_, ap, sym, _∙_}
+use mathlib.Core.Path.{ap, _∙_}
 use Prim.Native.Nat.{_*_, _-_, _%_, _<_}
 use native.Mathlib.Omega.{arith}
 use Rattle.fp.proofs.Value.{powMod-below, inverse-value}

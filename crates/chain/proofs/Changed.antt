@@ -1,8 +1,8 @@
 -- A change of basis of pairs: what the reduction does to the pairs c₁ r + c₂ w, by polynomials whose determinant is a unit.
 --   Pair            two polynomials
---   Turned p q m n  m = αp + βq and n = γp + δq, where αδ − βγ is a unit
---   turned-start turned-back turned-then turned-scale   nothing done; undone; one after the other; m and n times units
---   turned-alone    the pairs keep what divides them: no common factor before, none after
+--   Changed p q m n  m = αp + βq and n = γp + δq, where αδ − βγ is a unit
+--   changed-start -back -then -scale   nothing done; undone; one after the other; m and n times units
+--   changed-alone   the pairs keep what divides them: no common factor before, none after
 use mathlib.Core.Path.{_≡_, refl, sym, ap, ap₂, _∙_}
 use mathlib.Core.List.{List, [], _∷_}
 use Rattle.ring.specs.Ring.{Ops, CRing}
@@ -24,7 +24,7 @@ module _ (𝓥 : Valued) where
     pub b : Poly 𝓥
     pub c : Poly 𝓥
 
-  pub record Turned (p q m n : Pair) : Type 0 where
+  pub record Changed (p q m n : Pair) : Type 0 where
     pub α : Poly 𝓥
     pub β : Poly 𝓥
     pub γ : Poly 𝓥
@@ -35,8 +35,8 @@ module _ (𝓥 : Valued) where
     pub n-b : n .b ≡ γ ⊠ p .b ⊞ δ ⊠ q .b
     pub n-c : n .c ≡ γ ⊠ p .c ⊞ δ ⊠ q .c
 
-  pub turned-start : (p q : Pair) → Turned p q p q
-  turned-start p q = record {
+  pub changed-start : (p q : Pair) → Changed p q p q
+  changed-start p q = record {
     α = 1ₚ;
     β = 0ₚ;
     γ = 0ₚ;
@@ -54,8 +54,8 @@ module _ (𝓥 : Valued) where
       second : (x y : Poly 𝓥) → y ≡ 0ₚ ⊠ x ⊞ 1ₚ ⊠ y
       second x y = solve R (var 1) (zer :* var 0 :+ one :* var 1) tt (x ∷ y ∷ [])
 
-  pub turned-back : {p q m n : Pair} → Turned p q m n → Turned m n p q
-  turned-back {p} {q} {m} {n} t = record {
+  pub changed-back : {p q m n : Pair} → Changed p q m n → Changed m n p q
+  changed-back {p} {q} {m} {n} t = record {
     α = j ⊠ t .δ;
     β = ⊟ (j ⊠ t .β);
     γ = ⊟ (j ⊠ t .γ);
@@ -82,8 +82,8 @@ module _ (𝓥 : Valued) where
       second x y = solve-by R (var 6) (minus (var 4 :* var 2) :* (var 0 :* var 5 :+ var 1 :* var 6) :+ var 4 :* var 0 :* (var 2 :* var 5 :+ var 3 :* var 6))
           (hyp (var 6) one ((var 0 :* var 3 :+ minus (var 1 :* var 2)) :* var 4) ∷ []) tt (t .α ∷ t .β ∷ t .γ ∷ t .δ ∷ j ∷ x ∷ y ∷ []) (t .unit .1, tt)
 
-  pub turned-then : {p q m n m′ n′ : Pair} → Turned p q m n → Turned m n m′ n′ → Turned p q m′ n′
-  turned-then {p} {q} t s = record {
+  pub changed-then : {p q m n m′ n′ : Pair} → Changed p q m n → Changed m n m′ n′ → Changed p q m′ n′
+  changed-then {p} {q} t s = record {
     α = s .α ⊠ t .α ⊞ s .β ⊠ t .γ;
     β = s .α ⊠ t .β ⊞ s .β ⊠ t .δ;
     γ = s .γ ⊠ t .α ⊞ s .δ ⊠ t .γ;
@@ -108,8 +108,8 @@ module _ (𝓥 : Valued) where
   abbrev pub times : Poly 𝓥 → Pair → Pair
   times s m = record { b = s ⊠ m .b; c = s ⊠ m .c }
 
-  pub turned-scale : (s r : Poly 𝓥) (m n : Pair) → IsUnit 𝓥 s → IsUnit 𝓥 r → Turned m n (times s m) (times r n)
-  turned-scale s r m n (s′, e) (r′, f) = record {
+  pub changed-scale : (s r : Poly 𝓥) (m n : Pair) → IsUnit 𝓥 s → IsUnit 𝓥 r → Changed m n (times s m) (times r n)
+  changed-scale s r m n (s′, e) (r′, f) = record {
     α = s;
     β = 0ₚ;
     γ = 0ₚ;
@@ -131,11 +131,11 @@ module _ (𝓥 : Valued) where
   abbrev pub Alone : Pair → Pair → Type 0
   Alone p q = (d : Poly 𝓥) → Divides 𝓥 d (p .b) → Divides 𝓥 d (p .c) → Divides 𝓥 d (q .b) → Divides 𝓥 d (q .c) → IsUnit 𝓥 d
 
-  pub turned-alone : {p q m n : Pair} → Turned p q m n → Alone p q → Alone m n
-  turned-alone {p} {q} {m} {n} t alone d d₁ d₂ d₃ d₄ = alone d (back (b .α) (b .β) (b .m-b) d₁ d₃) (back (b .α) (b .β) (b .m-c) d₂ d₄) (back (b .γ) (b .δ) (b .n-b) d₁ d₃) (back (b .γ) (b .δ) (b .n-c) d₂ d₄)
+  pub changed-alone : {p q m n : Pair} → Changed p q m n → Alone p q → Alone m n
+  changed-alone {p} {q} {m} {n} t alone d d₁ d₂ d₃ d₄ = alone d (back (b .α) (b .β) (b .m-b) d₁ d₃) (back (b .α) (b .β) (b .m-c) d₂ d₄) (back (b .γ) (b .δ) (b .n-b) d₁ d₃) (back (b .γ) (b .δ) (b .n-c) d₂ d₄)
     where
-      b : Turned m n p q
-      b = turned-back t
+      b : Changed m n p q
+      b = changed-back t
 
       back : (x y : Poly 𝓥) {u v z : Poly 𝓥} → z ≡ x ⊠ u ⊞ y ⊠ v → Divides 𝓥 d u → Divides 𝓥 d v → Divides 𝓥 d z
       back x y {u} {v} {z} e du dv = let (k, f) = divides-add 𝓥 d (x ⊠ u) (y ⊠ v) (divides-mul 𝓥 d u x du) (divides-mul 𝓥 d v y dv) in (k, e ∙ f)

@@ -1,0 +1,157 @@
+-- Each accepted field has its pair r, w.
+--   degR, degW          (deg G + 2 deg H)/3 and (2 deg G + deg H)/3
+--   leadR               the cube root of the leading coefficient of D = G H²
+--   root-r, root-w      the two series; they stay shut
+--   root-pair           r² = H w, r w = G H, and r has degree degR and leads with leadR
+--   setting             the field as the theory of ideals takes it
+use mathlib.Core.Path.{_≡_, refl, sym, ap, ap₂, _∙_}
+use mathlib.Core.Logic.{_≢_}
+use mathlib.Core.List.{List, [], _∷_}
+use Prim.Native.Nat.{ℕ, suc, _+_, _*_, _/_, _%_, _<_, _≤_}
+use native.Mathlib.Nat.{mod-lt}
+use native.Mathlib.Omega.{arith}
+use lib.ListN.{length, getD}
+use Rattle.ring.specs.Ring.{Ops, CRing}
+use Rattle.ring.proofs.Solve.{var, zer, _:*_, _:=_, ring₁}
+use Rattle.fp.specs.Fp.{Prime, powMod, third}
+use Rattle.fp.proofs.Value.{root-value}
+use Rattle.valued.specs.Val.{Valued}
+use Rattle.valued.specs.Degree.{Has}
+use Rattle.valued.proofs.Degree.{lead-eq, k-domain}
+use Rattle.reading.specs.Reading.{Reading}
+use Rattle.reading.specs.Made.{reading, cube-roots}
+use Rattle.reading.specs.Roots.{CubeRoots}
+use Rattle.reading.specs.Row.{row}
+use Rattle.poly.specs.Factors.{polynomial}
+use Rattle.field.specs.Refusal.{Degree, Accepted}
+use Rattle.field.proofs.Accept.{degree-size, degree-has}
+use Rattle.reading.proofs.Rows.{size-lead}
+use Rattle.ideals.specs.Setting.{Setting}
+use Rattle.cubicfield.specs.Pair.{RootPair}
+use Rattle.cubicfield.proofs.Pair.{three, w-has, pair-from}
+use Rattle.cubicfield.proofs.Near.{Sizes}
+use Rattle.cubicfield.proofs.Begin.{cast-cube}
+use Rattle.reading.proofs.Constants.{two≢, three≢, form}
+
+abbrev pub degR : ℕ → ℕ → ℕ
+degR d e = (d + 2 * e) / 3
+
+abbrev pub degW : ℕ → ℕ → ℕ
+degW d e = (2 * d + e) / 3
+
+module _ {p : ℕ} {G H : List ℕ} (A : Accepted p G H) (pr : Prime p) where
+  abbrev ρ : Reading p
+  ρ = reading p pr
+
+  open Reading ρ using (𝓥, cast)
+  open Valued 𝓥 using (K, L, Lead)
+  open Ops (K .ops) using (mul as _*ᵏ_, 𝟎 as 0ᵏ)
+  open Ops (L .ops) using (mul as _*ˡ_)
+
+  infixl 70 _*ˡ_ _*ᵏ_
+  pub sizes : Sizes (reading p pr) (A .degG) (A .degH) (degR (A .degG) (A .degH)) (degW (A .degG) (A .degH))
+  sizes =
+      let t : A .degG % 3 ≡ A .degH % 3 = A .thirds in
+      record { r-size = omega arith; w-size = omega arith }
+
+  abbrev lg : ℕ
+  lg = getD G (A .degG) 0
+
+  abbrev lh : ℕ
+  lh = getD H (A .degH) 0
+
+  -- the leading coefficient of D
+  abbrev top-D : ℕ
+  top-D = (lg * (lh * lh)) % p
+
+  -- a leading coefficient is not 0
+  top-not : {l : List ℕ} {d : ℕ} → Degree p l d → cast (getD l d 0) ≢ 0ᵏ
+  top-not {l} {d} h e = h .last (ρ .cast-small (getD l d 0) (h .each d (let w : length l ≡ suc d = h .whole in omega arith)) e)
+
+  pub leadR : K .El
+  leadR = cast (powMod p top-D (third p))
+
+  cube-is : leadR *ᵏ leadR *ᵏ leadR ≡ cast lg *ᵏ (cast lh *ᵏ cast lh)
+  unfolding leadR
+  cube-is =
+      let r : ℕ = powMod p top-D (third p) in
+      sym (cast-cube ρ r)
+      ∙ sym (ρ .cast-mod (r * r * r))
+      ∙ ap cast (root-value p pr top-D (mod-lt (lg * (lh * lh)) (ρ .pos)) (A .kind) r refl)
+      ∙ ρ .cast-mod (lg * (lh * lh))
+      ∙ ρ .cast-mul lg (lh * lh)
+      ∙ ap (λ x. cast lg *ᵏ x) (ρ .cast-mul lh lh)
+
+  -- r leads with the cube root of D's leading coefficient
+  pub leadR-cube : leadR *ᵏ leadR *ᵏ leadR ≡ cast (lg * (lh * lh))
+  leadR-cube = cube-is ∙ sym (ρ .cast-mul lg (lh * lh) ∙ ap (λ x. cast lg *ᵏ x) (ρ .cast-mul lh lh))
+
+  pub leadR-not : leadR ≢ 0ᵏ
+  leadR-not e =
+      k-domain 𝓥 (cast lg) (cast lh *ᵏ cast lh) (top-not (A .listG)) (k-domain 𝓥 (cast lh) (cast lh) (top-not (A .listH)) (top-not (A .listH)))
+      (sym cube-is ∙ ap (λ x. x *ᵏ x *ᵏ x) e ∙ ring₁ K (λ x. zer :* zer :* zer := zer) tt 0ᵏ)
+
+  pub G-has : Has 𝓥 (row ρ G) (A .degG)
+  G-has = degree-has pr (A .listG)
+
+  pub H-has : Has 𝓥 (row ρ H) (A .degH)
+  H-has = degree-has pr (A .listH)
+
+  abbrev dr : ℕ
+  dr = degR (A .degG) (A .degH)
+
+  abbrev dw : ℕ
+  dw = degW (A .degG) (A .degH)
+
+  D-lead : Lead (row ρ G *ˡ (row ρ H *ˡ row ρ H)) (dr + dr + dr) 0 (leadR *ᵏ leadR *ᵏ leadR)
+  D-lead =
+      let h : Lead (row ρ H) (A .degH) 0 (cast lh) = size-lead ρ (degree-size (A .listH)) in
+      let s = sizes in
+      𝓥 .lead-move (dr + dr + dr) 0 (lead-eq 𝓥 (𝓥 .lead-mul (size-lead ρ (degree-size (A .listG))) (𝓥 .lead-mul h h)) refl (sym cube-is)) (omega (arith, s .r-size))
+
+  both : (r : L .El) × (w : L .El) × RootPair 𝓥 (row ρ G) (row ρ H) dr leadR r w
+  both =
+      let (r, e, l) = cube-roots p pr .cube-root (row ρ G *ˡ (row ρ H *ˡ row ρ H)) dr leadR leadR-not (three≢ ρ pr (A .kind)) D-lead in
+      let (w, h) = pair-from 𝓥 H-has e l in
+      (r, w, h)
+
+  pub root-r : L .El
+  root-r = both .0
+
+  pub root-w : L .El
+  root-w = both .1
+
+  pub root-pair : RootPair 𝓥 (row ρ G) (row ρ H) dr leadR root-r root-w
+  unfolding root-r root-w
+  root-pair = both .2
+
+  pub r-has : Has 𝓥 root-r dr
+  r-has = (leadR, leadR-not, root-pair .lead)
+
+  pub w-degree : Has 𝓥 root-w dw
+  w-degree = let s = sizes in w-has 𝓥 dw leadR-not H-has (omega (arith, s .r-size, s .w-size)) root-pair
+
+  abbrev pub setting : Setting
+  setting = record {
+    𝓥 = reading p pr .𝓥;
+    two≢ = two≢ (reading p pr) pr (A .kind) (let l : 5 ≤ p = A .low in omega arith);
+    form = form (reading p pr) pr (A .kind);
+    G = polynomial p pr G;
+    H = polynomial p pr H;
+    G-free = A .freeG pr;
+    H-free = A .freeH pr;
+    coprime = A .apart pr;
+    dG = A .degG;
+    dH = A .degH;
+    G-deg = G-has;
+    H-deg = H-has;
+    not-const = A .some;
+    r = root-r;
+    w = root-w;
+    dr = degR (A .degG) (A .degH);
+    dw = degW (A .degG) (A .degH);
+    r-deg = r-has;
+    w-deg = w-degree;
+    r-r = root-pair .r-r;
+    r-w = root-pair .r-w;
+  }

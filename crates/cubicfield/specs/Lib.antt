@@ -1,0 +1,4 @@
+pub mod Pair
+pub mod First
+pub mod SeriesOf
+pub mod Prefix

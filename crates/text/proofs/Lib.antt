@@ -1,0 +1,13 @@
+pub mod Puts
+pub mod Digits
+pub mod Texts
+pub mod Cuts
+pub mod Numbers
+pub mod Lists
+pub mod Parts
+pub mod Steps
+pub mod Inverse
+pub mod Joins
+pub mod Writings
+pub mod Answers
+pub mod Feeds

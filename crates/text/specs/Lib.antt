@@ -1,0 +1,6 @@
+pub mod Pieces
+pub mod Grammar
+pub mod Print
+pub mod Lines
+pub mod Tells
+pub mod Feed
