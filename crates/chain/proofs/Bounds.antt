@@ -1,11 +1,11 @@
--- How large x0 .. y2 of 4.1 are, so that code knows that its rows hold them.
+-- How large x0 .. y2 (Parts) are, so that code knows that its rows hold them.
 --   Bounds bounds   deg x1 ≤ deg r, deg y1 ≤ deg w, and x0 w, x2 w, y0 r, y2 r have degree below deg GH
 use mathlib.Core.Path.{_≡_, sym, ap, _∙_}
 use mathlib.Core.List.{[], _∷_}
 use Prim.Native.Nat.{ℕ, suc, _≤_, _<_, _+_ as _+ⁿ_}
 use native.Mathlib.Omega.{arith}
 use Rattle.ring.proofs.Laws as rg
-use Rattle.ring.specs.Ring.{Ops, CRing}
+use Rattle.ring.specs.Ring.{Ops}
 use Rattle.ring.proofs.Solve.{var, hyp, one, minus, _:+_, _:*_, _:=_, solve, solve-by, ring₃}
 use Rattle.valued.specs.Val.{Valued}
 use Rattle.valued.specs.Degree.{Has, Lt}
@@ -13,7 +13,7 @@ use Rattle.valued.specs.Polynomial.{polys}
 use Rattle.valued.proofs.Degree as d
 use Rattle.valued.proofs.Compare.{lt-unscale, has-scale}
 use Rattle.ideals.specs.Setting.{Setting, P, dGH}
-use Rattle.ideals.specs.Element.{O, X, Y, Z}
+use Rattle.ideals.specs.Element.{O, X, Y}
 use Rattle.ideals.specs.Ideal.{Basis, det}
 use Rattle.ideals.specs.Basis.{Good}
 use Rattle.ideals.proofs.Sizes.{X-Y-det, two-b, two-c}

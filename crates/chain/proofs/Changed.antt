@@ -3,8 +3,8 @@
 --   Changed p q m n  m = αp + βq and n = γp + δq, where αδ − βγ is a unit
 --   changed-start -back -then -scale   nothing done; undone; one after the other; m and n times units
 --   changed-alone   the pairs keep what divides them: no common factor before, none after
-use mathlib.Core.Path.{_≡_, refl, sym, ap, ap₂, _∙_}
-use mathlib.Core.List.{List, [], _∷_}
+use mathlib.Core.Path.{_≡_, sym, ap₂, _∙_}
+use mathlib.Core.List.{[], _∷_}
 use Rattle.ring.specs.Ring.{Ops, CRing}
 use Rattle.ring.proofs.Solve.{var, hyp, one, zer, minus, _:+_, _:*_, solve, solve-by}
 use Rattle.valued.specs.Val.{Valued}

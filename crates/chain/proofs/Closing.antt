@@ -1,14 +1,13 @@
--- 5.2: the chain closes where U = 1, which is where the ideal is the whole order; then its basis is the order's own.
+-- The chain closes where U = 1, which is where the ideal is the whole order; then its basis is the order's own.
 --   whole-of-one   U = 1: the lattice is the order
 --   one-of-whole   1 in the lattice: U = 1
 --   start-of-one   so a good basis with U = 1 is that of the order
 --   closing-start  and the chain is back at its start
 --   start-unique   the order has one basis
-use mathlib.Core.Path.{_≡_, sym, ap, _∙_, subst}
-use Prim.Native.Nat.{ℕ}
+use mathlib.Core.Path.{_≡_, sym, ap, _∙_}
 use Rattle.ring.proofs.Laws as rg
 use Rattle.ring.specs.Ring.{Ops, CRing}
-use Rattle.ring.proofs.Solve.{one, minus, _:+_, _:*_, _:=_, ring₁, ring₂}
+use Rattle.ring.proofs.Solve.{one, _:*_, _:=_, ring₁}
 use Rattle.valued.specs.Val.{Valued}
 use Rattle.valued.specs.Polynomial.{polys, Divides}
 use Rattle.valued.proofs.Compare.{leads-one}
@@ -20,7 +19,7 @@ use Rattle.ideals.specs.Basis.{Scaled, Good}
 use Rattle.ideals.specs.Next.{Start}
 use Rattle.ideals.proofs.Unique.{good-unique}
 use Rattle.ideals.proofs.Determinant.{only-poly, det-divides}
-use Rattle.ideals.proofs.Check.{Coords, in-of}
+use Rattle.ideals.proofs.Check.{in-of}
 
 module _ (S : Setting) where
   open Setting S using (𝓥)

@@ -1,26 +1,24 @@
--- Section 4 put together: what the reduction ends with is the scaled reduced basis of the next ideal, or of the order.
+-- The step put together: what the reduction ends with is the scaled reduced basis of the next ideal, or of the order.
 --   Ends Finished   the inequalities and leading coefficients at the end, in numbers and without
 --   step-correct    the seven polynomials made from the divided pairs of a good basis are the good basis of its next ideal
 --   order-correct   those made from (1, 0), (0, 1) and U = 1 are the basis of the order
 --   step-finished order-finished   the same from `Finished`
 --   step-unique     and so there is one answer
-use mathlib.Core.Path.{_≡_, refl, sym, ap, ap₂, _∙_, subst}
-use mathlib.Core.List.{[], _∷_}
-use mathlib.Core.Logic.{_≢_, _⊎_, inl, inr}
-use Prim.Native.Nat.{ℕ, _≤_, _+_ as _+ⁿ_}
+use mathlib.Core.Path.{_≡_, refl, sym, ap, _∙_, subst}
+use mathlib.Core.Logic.{_≢_, inl, inr}
+use Prim.Native.Nat.{ℕ, _≤_}
 use native.Mathlib.Omega.{arith}
 use Rattle.ring.proofs.Laws as rg
 use Rattle.ring.specs.Ring.{Ops, CRing}
-use Rattle.ring.proofs.Solve.{var, one, zer, minus, _:+_, _:*_, _:=_, solve, ring₁, ring₂, ring₃}
+use Rattle.ring.proofs.Solve.{one, zer, minus, _:+_, _:*_, _:=_, ring₁, ring₂, ring₃}
 use Rattle.valued.specs.Val.{Valued}
 use Rattle.valued.specs.Degree.{Has, Lt, Leads}
-use Rattle.valued.specs.Polynomial.{polys, Divides, IsUnit}
+use Rattle.valued.specs.Polynomial.{polys, Divides}
 use Rattle.valued.proofs.Degree as d
 use Rattle.valued.proofs.Compare.{lt-≺, has-≼, lt-unscale}
 use Rattle.valued.proofs.Polynomial.{view, not-zero}
-use Rattle.valued.proofs.Gcds.{divides-mul}
 use Rattle.ideals.specs.Setting.{Setting, P}
-use Rattle.ideals.specs.Element.{O, sc, el-r, el-w, X, Y, Z}
+use Rattle.ideals.specs.Element.{O, el-r, el-w, X, Y, Z}
 use Rattle.ideals.specs.Ideal.{Basis, In, det}
 use Rattle.ideals.specs.Basis.{ReducedBasis, Scaled, NoFactor, Good}
 use Rattle.ideals.specs.Next.{Next, Start}
@@ -33,7 +31,7 @@ use Rattle.ideals.proofs.Reduced.{OnlyPolys, reduced-of}
 use Rattle.ideals.proofs.Divided.{next-ideal, next-reduced, next-unique}
 use Rattle.chain.proofs.Parts.{Parts, Cut, x1, y1, pt, base, base-next}
 use Rattle.chain.proofs.Room.{Room, room}
-use Rattle.chain.proofs.Changed.{Pair, Changed, Alone}
+use Rattle.chain.proofs.Changed.{Changed, Alone}
 use Rattle.chain.proofs.Frame.{pair, off, Framed, Rebased, rebased-to, rebased-U, rebased-rank, rebased-alone, rebased-over}
 
 module _ (S : Setting) where

@@ -6,26 +6,26 @@
 use mathlib.Core.Path.{_≡_, refl, sym, ap, _∙_, subst}
 use mathlib.Core.List.{[], _∷_}
 use mathlib.Core.Logic.{_≢_}
-use Prim.Native.Nat.{ℕ, zero, suc, _≤_, _+_ as _+ⁿ_}
+use Prim.Native.Nat.{ℕ, zero, suc, _+_ as _+ⁿ_}
 use native.Mathlib.Omega.{arith}
 use Rattle.ring.proofs.Laws as rg
-use Rattle.ring.specs.Ring.{Ops, CRing}
+use Rattle.ring.specs.Ring.{Ops}
 use Rattle.ring.proofs.Solve.{var, one, zer, minus, _:+_, _:*_, _:=_, solve, ring₁, ring₃}
 use Rattle.valued.specs.Val.{Valued}
-use Rattle.valued.specs.Degree.{HasDeg, Has, Lt, Leads}
+use Rattle.valued.specs.Degree.{HasDeg, Has}
 use Rattle.valued.specs.Polynomial.{polys, IsUnit}
 use Rattle.valued.proofs.Degree as d
 use Rattle.valued.proofs.Compare.{lt-≺, has-≼, leads-one}
-use Rattle.valued.proofs.Polynomial.{degree, not-zero, unit-of, one-of, unit-const}
+use Rattle.valued.proofs.Polynomial.{not-zero, unit-of, one-of, unit-const}
 use Rattle.ideals.specs.Setting.{Setting, P}
-use Rattle.ideals.specs.Element.{O, X, Y, Z}
+use Rattle.ideals.specs.Element.{O, X, Y}
 use Rattle.ideals.specs.Ideal.{Basis, det}
 use Rattle.ideals.specs.Basis.{Good}
 use Rattle.ideals.specs.Next.{Next, Start}
 use Rattle.chain.specs.Chain.{Chain, here, then}
 use Rattle.chain.proofs.Parts.{Parts, Cut, parts, cut, x1, y1, base}
 use Rattle.chain.proofs.Room.{Room, room, d-not-zero}
-use Rattle.chain.proofs.Changed.{Pair, Changed, times, changed-then, changed-scale}
+use Rattle.chain.proofs.Changed.{Pair, Changed, changed-then, changed-scale}
 use Rattle.chain.proofs.Frame.{pair, Framed, Rebased}
 use Rattle.chain.proofs.Level.{level}
 use Rattle.chain.proofs.Reduce.{el, Shape, reduce}

@@ -1,21 +1,21 @@
--- Bases whose first row is settled by their pairs. In 4.1 the first coordinate of an element with the pair c₁, c₂ is −(c₁ x + c₂ y), up to
+-- Bases whose first row is settled by their pairs. In the step the first coordinate of an element with the pair c₁, c₂ is −(c₁ x + c₂ y), up to
 -- multiples of U: so only the pairs are carried through the reduction, and the first row is found at its end.
 --   Framed x y B    M0 = −(M1 x + M2 y) and N0 = −(N1 x + N2 y) modulo U
 --   Rebased B B′    both framed, U′ = U times a unit, and the pairs of B′ are those of B changed
 --   rebased-to rebased-from   then their lattices are one
 --   rebased-over rebased-rank rebased-alone   and what B is over, its rank and its lack of a common factor pass to B′
-use mathlib.Core.Path.{_≡_, refl, sym, ap, ap₂, _∙_, subst}
-use mathlib.Core.List.{List, [], _∷_}
+use mathlib.Core.Path.{_≡_, sym, ap, ap₂, _∙_, subst}
+use mathlib.Core.List.{[], _∷_}
 use mathlib.Core.Logic.{_≢_}
 use Rattle.ring.proofs.Laws as rg
 use Rattle.ring.specs.Ring.{Ops, CRing}
-use Rattle.ring.proofs.Solve.{var, hyp, one, zer, minus, _:+_, _:*_, _:=_, solve, solve-by, ring₃, ring₄}
+use Rattle.ring.proofs.Solve.{var, hyp, one, minus, _:+_, _:*_, _:=_, solve, solve-by, ring₃}
 use Rattle.valued.specs.Val.{Valued}
 use Rattle.valued.specs.Polynomial.{polys, Divides, IsUnit}
 use Rattle.valued.proofs.Gcds.{divides-trans}
 use Rattle.ideals.specs.Setting.{Setting, P}
 use Rattle.ideals.specs.Element.{O, sc}
-use Rattle.ideals.specs.Ideal.{Basis, lin, In, det}
+use Rattle.ideals.specs.Ideal.{Basis, In, det}
 use Rattle.ideals.specs.Basis.{NoFactor}
 use Rattle.ideals.specs.Next.{Over}
 use Rattle.ideals.proofs.Sizes.{O-path}

@@ -1,17 +1,17 @@
--- 4.3, level: the first row, so that deg Z < 0.
+-- Levelling: the first row, so that deg Z < 0.
 --   Levelled        a = (T − R)/2, where T is the polynomial part of X and R the remainder of T + 2(b x + c y) by U
 --   level-frame     then a = −(b x + c y) modulo U
 --   level-Z         and deg Z < deg U
 --   level-unique    these two settle the first row
 --   level           and there is one
-use mathlib.Core.Path.{_≡_, refl, sym, ap, ap₂, _∙_}
-use mathlib.Core.List.{List, [], _∷_}
+use mathlib.Core.Path.{_≡_, ap, _∙_}
+use mathlib.Core.List.{[], _∷_}
 use mathlib.Core.Logic.{_⊎_, inl, inr}
 use Prim.Native.Nat.{ℕ, _+_ as _+ⁿ_}
 use native.Mathlib.Omega.{arith}
 use Rattle.ring.proofs.Laws as rg
 use Rattle.ring.specs.Ring.{Ops, CRing}
-use Rattle.ring.proofs.Solve.{var, hyp, one, zer, minus, _:+_, _:*_, _:=_, solve, solve-by, ring₂, ring₃}
+use Rattle.ring.proofs.Solve.{var, hyp, one, minus, _:+_, _:*_, solve, solve-by}
 use Rattle.valued.specs.Val.{Valued}
 use Rattle.valued.specs.Degree.{Has, Lt}
 use Rattle.valued.specs.Polynomial.{polys, Divides, IsUnit}

@@ -1,9 +1,8 @@
 -- The change of basis that the loops of the reduction make (crate turn) is one of pairs of polynomials.
 --   point-of      a pair as the point that the reduction carries
 --   changed-of    `Moved` gives `Changed`
-use mathlib.Core.Path.{_≡_, refl, sym}
+use mathlib.Core.Path.{refl, sym}
 use Prim.Native.Nat.{ℕ}
-use Rattle.valued.specs.Val.{Valued}
 use Rattle.valued.proofs.Degree as d
 use Rattle.valued.proofs.Polynomial.{P-path, const-unit}
 use Rattle.reading.specs.Reading.{Reading}

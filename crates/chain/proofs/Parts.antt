@@ -1,4 +1,4 @@
--- 4.1: dividing an ideal by m without cofactor or norm.
+-- Dividing an ideal by m without cofactor or norm.
 --   Parts          r m = x0 + x1 m + x2 n and w m = y0 + y1 m + y2 n, as exact quotients by e and by U
 --   parts          they exist for every ideal; `parts-unique`: there is one choice
 --   pt c₁ c₂       c₁ (r − x1) + c₂ (w − y1): an element settled by its pair c₁, c₂
@@ -12,14 +12,11 @@
 use mathlib.Core.Path.{_≡_, refl, sym, ap, ap₂, _∙_, subst}
 use mathlib.Core.List.{List, [], _∷_}
 use mathlib.Core.Logic.{_≢_}
-use Prim.Native.Nat.{ℕ}
-use Rattle.ring.proofs.Laws as rg
 use Rattle.ring.specs.Ring.{Ops, CRing}
-use Rattle.ring.proofs.Solve.{Expr, var, hyp, one, zer, minus, _:+_, _:*_, _:=_, exprs, solve, solve-by, ring₃}
+use Rattle.ring.proofs.Solve.{var, hyp, zer, minus, _:+_, _:*_, _:=_, exprs, solve, solve-by, ring₃}
 use Rattle.cubic.specs.Tri.{triE, normT}
 use Rattle.cubic.specs.Order.{triops}
 use Rattle.valued.specs.Val.{Valued}
-use Rattle.valued.specs.Degree.{Has}
 use Rattle.valued.specs.Polynomial.{polys, Divides, IsUnit}
 use Rattle.valued.proofs.Polynomial.{P-path, degree}
 use Rattle.valued.proofs.Divide.{p-cancel}

@@ -1,16 +1,15 @@
--- 5.1 (demand 3): the three basis elements times all minima passed fill the order.
+-- Demand 3: the three basis elements times all minima passed fill the order.
 --   over-step over-start   E · (Λ/U) = O goes on to E m, and starts with 1
 --   Passed passed          the product E of the m passed lies in the order, has the degree sum as its degree, and E · (Λ/U) = O
 --   Spans spans            so E, E m, E n lie in the order, span it, and their determinant is a unit, a constant that is not 0
 --   Filled chain-theorem   all of it in one theorem over the number of steps
 --   next-product           E_{j+1} = E_j M_j / U_j, an exact division
-use mathlib.Core.Path.{_≡_, sym, ap, ap₂, _∙_}
+use mathlib.Core.Path.{_≡_, sym, ap, _∙_}
 use mathlib.Core.List.{List, [], _∷_}
-use Prim.Native.Nat.{ℕ, _≤_, _<_, _+_ as _+ⁿ_}
+use Prim.Native.Nat.{ℕ, _≤_, _+_ as _+ⁿ_}
 use native.Mathlib.Omega.{arith}
 use Rattle.ring.specs.Ring.{Ops, CRing}
-use Rattle.ring.proofs.Laws as rg
-use Rattle.ring.proofs.Solve.{Expr, exprs, var, hyp, one, zer, minus, _:+_, _:*_, _:=_, solve, solve-by, ring₁, ring₂, ring₃}
+use Rattle.ring.proofs.Solve.{Expr, exprs, var, hyp, one, zer, minus, _:+_, _:*_, _:=_, solve, solve-by, ring₁}
 use Rattle.cubic.specs.Tri.{Tri, triE}
 use Rattle.cubic.specs.Order.{triops}
 use Rattle.cubic.specs.Mat3 as Mt
@@ -21,7 +20,7 @@ use Rattle.valued.specs.Polynomial.{polys, IsUnit}
 use Rattle.valued.proofs.Degree as d
 use Rattle.valued.proofs.Compare.{lt-unscale, lt-mul-sharp}
 use Rattle.valued.proofs.Polynomial.{degree}
-use Rattle.ideals.specs.Setting.{Setting, P, dGH}
+use Rattle.ideals.specs.Setting.{Setting, P}
 use Rattle.ideals.specs.Element.{O, sc, el-r, el-w, ev}
 use Rattle.ideals.specs.Ideal.{Basis}
 use Rattle.ideals.specs.Basis.{Good}

@@ -1,4 +1,4 @@
--- 4.3 as a theorem: every two pairs of rank 2 can be changed into a reduced pair, for each degree u of U.
+-- The reduction as a theorem: every two pairs of rank 2 can be changed into a reduced pair, for each degree u of U.
 --   el            the element with a pair and first coordinate 0: X and Y see the pair only
 --   swap shear    the two moves: m, n to n, m, and n to n + c m
 --   Shape         deg X(n) < deg X(m), deg Y(m) < u ≤ deg Y(n)
@@ -10,7 +10,6 @@ use mathlib.Core.List.{[], _∷_}
 use mathlib.Core.Logic.{_≢_, _⊎_, inl, inr}
 use Prim.Native.Nat.{ℕ, zero, suc, _≤_, _<_, _+_ as _+ⁿ_}
 use native.Mathlib.Omega.{arith}
-use Rattle.ring.proofs.Laws as rg
 use Rattle.ring.specs.Ring.{Ops, CRing}
 use Rattle.ring.proofs.Solve.{var, one, zer, minus, _:+_, _:*_, _:=_, solve, ring₁}
 use Rattle.valued.specs.Val.{Valued}

@@ -1,16 +1,16 @@
--- 4.2: d is not 0, and how large the pairs are from which the reduction starts.
+-- d is not 0, and how large the pairs are from which the reduction starts.
 --   Room room    with s = deg GH − deg g and u the degree of d/g: P and Q, without g, have sizes at most a and b, where a + b = s + u is
 --                the degree of their determinant X(P) Y(Q) − X(Q) Y(P); u < a < s and u < b < s
 --   d-deg d-not-zero   deg d, and that d is not 0
 -- So deg X(P) + deg Y(Q) and deg X(Q) + deg Y(P) are at most s + u, and deg d ≤ deg GH − 2.
-use mathlib.Core.Path.{_≡_, refl, sym, ap, _∙_, subst}
+use mathlib.Core.Path.{_≡_, sym, ap, _∙_}
 use mathlib.Core.Logic.{_≢_, inl}
 use mathlib.Core.List.{[], _∷_}
 use Prim.Native.Nat.{ℕ, suc, _≤_, _<_, _+_ as _+ⁿ_, _-_ as _-ⁿ_}
 use native.Mathlib.Omega.{arith}
 use Rattle.ring.proofs.Laws as rg
 use Rattle.ring.specs.Ring.{Ops}
-use Rattle.ring.proofs.Solve.{Expr, var, one, zer, minus, _:+_, _:*_, _:=_, solve, ring₃}
+use Rattle.ring.proofs.Solve.{Expr, var, one, zer, minus, _:+_, _:*_, solve}
 use Rattle.valued.specs.Val.{Valued}
 use Rattle.valued.specs.Degree.{HasDeg, Has, Lt}
 use Rattle.valued.specs.Polynomial.{polys}
@@ -18,10 +18,10 @@ use Rattle.valued.proofs.Degree as d
 use Rattle.valued.proofs.Compare.{has-scale, lt-scale, lt-unscale}
 use Rattle.valued.proofs.Polynomial.{degree, factor, not-zero}
 use Rattle.ideals.specs.Setting.{Setting, P, dGH}
-use Rattle.ideals.specs.Element.{O, sc, ev, X, Y, Z, norm}
+use Rattle.ideals.specs.Element.{O, sc, ev, X, Y, norm}
 use Rattle.ideals.specs.Ideal.{Basis, det}
 use Rattle.ideals.specs.Basis.{Good}
-use Rattle.ideals.proofs.Sizes.{X-Y-det, Y-poly, Z-poly, ev-sc, ev-XZ, ev-poly}
+use Rattle.ideals.proofs.Sizes.{X-Y-det, ev-sc, ev-XZ, ev-poly}
 use Rattle.ideals.proofs.Values.{Q, ev-Q, ev-mul}
 use Rattle.ideals.proofs.Form.{form-has, form-below, has-two, has-three}
 use Rattle.ideals.proofs.Norm.{F, F-deg, F-mul, Q-deg, M-not, Below, below-of}

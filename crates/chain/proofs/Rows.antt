@@ -1,4 +1,4 @@
--- 5.4: how long the rows of the unit, of its inverse, and of the products on the way are.
+-- How long the rows of the unit, of its inverse, and of the products on the way are.
 --   Fit c v        the three rows of v fit c coefficients
 --   unit-rows      deg E = n = 2h: rows of E have degree at most n, rows of F at most h
 --   unit-fits      so c coefficients hold all six rows exactly where c ≥ n + 1
@@ -7,11 +7,11 @@
 --   U-below        so after a step deg U < deg E: numerators before the exact division by U are shorter than twice the product
 use mathlib.Core.Path.{_≡_, sym, ap, ap₂, _∙_}
 use mathlib.Core.List.{[], _∷_}
-use Prim.Native.Nat.{ℕ, zero, suc, _≤_, _<_, _+_ as _+ⁿ_}
+use Prim.Native.Nat.{ℕ, suc, _≤_, _<_, _+_ as _+ⁿ_}
 use native.Mathlib.Omega.{arith}
 use Rattle.ring.proofs.Laws as rg
 use Rattle.ring.specs.Ring.{Ops, CRing}
-use Rattle.ring.proofs.Solve.{Expr, exprs, var, one, zer, minus, _:+_, _:*_, _:=_, solve, ring₂, ring₃}
+use Rattle.ring.proofs.Solve.{Expr, exprs, var, minus, _:+_, _:*_, _:=_, solve, ring₃}
 use Rattle.cubic.specs.Tri.{Tri, triE, normT}
 use Rattle.cubic.specs.Order.{triops}
 use Rattle.cubic.specs.Mat3 as Mt
@@ -21,7 +21,7 @@ use Rattle.valued.specs.Polynomial.{polys}
 use Rattle.valued.proofs.Degree as d
 use Rattle.valued.proofs.Compare.{lt-unscale, has-unscale}
 use Rattle.valued.proofs.Polynomial.{degree, unit-const, not-zero}
-use Rattle.ideals.specs.Setting.{Setting, P}
+use Rattle.ideals.specs.Setting.{Setting}
 use Rattle.ideals.specs.Element.{O, sc, ev, norm}
 use Rattle.ideals.specs.Ideal.{Basis, det}
 use Rattle.ideals.specs.Next.{Start}

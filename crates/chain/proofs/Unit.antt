@@ -1,40 +1,40 @@
--- 5.3: what the chain passed from the order to a closing is a unit, of even degree.
+-- What the chain passed from the order to a closing is a unit, of even degree.
 --   norm-eq Q-E half       for E F = 1: the norms are units, the cofactor's value has the opposite degree, and the degree is even
 --   large                  a unit of positive degree: Y and Z lie below 0, and E0 has the degree of E
 --   inverse-cof cof-inverse   F = cof(E)/N(E), and where N(E) is a unit that is the inverse
 --   inverse-unique         one inverse
 --   scale-to scale-unique  one constant gives a size of an element a wanted leading coefficient
---   closing-unit           the product at a closing has an inverse
+--   closing-unit closing-norm   the product at a closing has an inverse, and its norm is a unit
+--   unit-made              the unit as it is computed
 --   unit-exists unit-unique   the unit of document 01 exists and is one; `unit-degree`: deg E0 = d, and d is even
 use mathlib.Core.Path.{_≡_, refl, sym, ap, ap₂, _∙_, subst}
-use mathlib.Core.List.{List, [], _∷_}
+use mathlib.Core.List.{[], _∷_}
 use mathlib.Core.Logic.{_≢_, _⊎_, inl, inr}
 use Prim.Native.Nat.{ℕ, _≤_, _+_ as _+ⁿ_, _-_ as _-ⁿ_}
 use native.Mathlib.Omega.{arith}
 use Rattle.ring.proofs.Laws as rg
 use Rattle.ring.specs.Ring.{Ops, CRing}
-use Rattle.ring.proofs.Solve.{Expr, exprs, var, hyp, one, zer, minus, _:+_, _:*_, _:=_, solve, solve-by, ring₁, ring₃}
+use Rattle.ring.proofs.Solve.{exprs, var, hyp, one, zer, minus, _:+_, _:*_, _:=_, solve, solve-by, ring₃}
 use Rattle.cubic.specs.Tri.{triE, normT}
 use Rattle.valued.specs.Val.{Valued}
 use Rattle.valued.specs.Degree.{HasDeg, Has, Lt, Leads}
 use Rattle.valued.specs.Polynomial.{polys, IsUnit}
 use Rattle.valued.proofs.Degree as d
-use Rattle.valued.proofs.Compare.{has-scale, has-unscale, leads-mul, leads-unique, leads-one, k-zero}
-use Rattle.valued.proofs.Polynomial.{P-path, view, degree, factor, unit-of, unit-const, const-path, not-zero}
+use Rattle.valued.proofs.Compare.{has-scale, has-unscale, leads-mul, leads-unique, k-zero}
+use Rattle.valued.proofs.Polynomial.{view, unit-of, unit-const, const-path, not-zero}
 use Rattle.ideals.specs.Setting.{Setting, P}
 use Rattle.ideals.specs.Element.{O, sc, ev, Y, Z, norm, cof}
 use Rattle.ideals.specs.Ideal.{Basis}
-use Rattle.ideals.specs.Basis.{Good}
 use Rattle.ideals.specs.Next.{Start}
 use Rattle.ideals.proofs.Sizes.{sc-a, sc-cancel, ev-sc, three-a}
 use Rattle.ideals.proofs.Values.{Q, Q-YZ, Q-mul, Q-one, ev-Q, ev-mul, ev-one, norm-mul, norm-cof, plain}
 use Rattle.ideals.proofs.Form.{has-two, has-three, form-lt}
 use Rattle.ideals.proofs.Lattice.{sc-mul}
 use Rattle.ideals.proofs.Norm.{YZ-lt, Q-deg}
-use Rattle.chain.specs.Chain.{Chain, tops, bottoms, Product, Closing}
+use Rattle.chain.specs.Chain.{tops, bottoms, Product, Closing}
 use Rattle.chain.specs.Unit.{UnitOf}
 use Rattle.chain.proofs.Walk.{same-products, closing-unique, chain-room}
-use Rattle.chain.proofs.Passed.{Passed, passed, bottoms-deg}
+use Rattle.chain.proofs.Passed.{Passed, passed, bottoms-deg, product-unique}
 
 module _ (S : Setting) where
   open Setting S using (𝓥, G, H, r, w)
@@ -152,6 +152,7 @@ module _ (S : Setting) where
         sc S s ⊗ p .E,
         sc S s′ ⊗ F,
         record {
+          start = st;
           B = B;
           closing = c;
           scale = s;
@@ -161,6 +162,26 @@ module _ (S : Setting) where
           inverse = solve-by (O S) (var 0 :* var 1 :* (var 2 :* var 3)) one (hyp (var 0 :* var 2) (var 1 :* var 3) one ∷ hyp (minus one) one (var 0 :* var 2) ∷ []) tt (sc S s ∷ p .E ∷ sc S s′ ∷ F ∷ []) (e, (ap (sc S) u ∙ sc-mul S s s′, tt));
         },
       )
+
+  -- the product's norm is a unit, so a constant that is not 0
+  pub closing-norm : (B₀ : Basis S) → Start S B₀ → {l n : ℕ} {B : Basis S} (c : Closing S B₀ l n B) (E : O S .El) → Product S (c .chain) E → IsUnit 𝓥 (norm S E)
+  closing-norm B₀ st c E p =
+      let (F, e) = closing-unit B₀ st c in
+      norm-unit E F (ap (λ t. t ⊗ F) (product-unique S (c .chain) E (passed S B₀ st (c .chain) .E) p (passed S B₀ st (c .chain) .product)) ∙ e)
+
+  -- the unit as it is computed: the product, scaled, and its cofactor over its norm
+  pub unit-made : (B₀ : Basis S) → Start S B₀ → {l n : ℕ} {B : Basis S} (c : Closing S B₀ l n B) (E₁ : O S .El) (s ν : P S) → Product S (c .chain) E₁ → IsUnit 𝓥 s → Leads 𝓥 ((sc S s ⊗ E₁) .a .0) 1ᵏ →
+      1ₚ ≡ norm S (sc S s ⊗ E₁) ⊠ ν → UnitOf S B₀ l n (sc S s ⊗ E₁) (sc S ν ⊗ cof S (sc S s ⊗ E₁))
+  unit-made B₀ st {B = B} c E₁ s ν p us m e = record {
+    start = st;
+    B = B;
+    closing = c;
+    scale = s;
+    is-unit = us;
+    product = solve-by (O S) (var 0 :* (var 1 :* var 2)) (var 1 :* var 3) (hyp (var 1) (var 0 :* var 2) (var 3) ∷ []) tt (sc S (bottoms S (c .chain)) ∷ sc S s ∷ E₁ ∷ tops S (c .chain) ∷ []) (p, tt);
+    monic = m;
+    inverse = cof-inverse (sc S s ⊗ E₁) ν e;
+  }
 
   module _ (B₀ : Basis S) (st : Start S B₀) where
     -- it is a constant times the product

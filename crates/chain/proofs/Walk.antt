@@ -10,17 +10,16 @@
 --   open-more closes   what a walk does with one more step
 use mathlib.Core.Path.{_≡_, refl, sym, ap, ap₂, _∙_, subst}
 use mathlib.Core.Logic.{_≢_}
-use Prim.Native.Nat.{ℕ, zero, suc, _≤_, _<_, _+_ as _+ⁿ_, _-_ as _-ⁿ_}
+use Prim.Native.Nat.{ℕ, suc, _≤_, _<_, _+_ as _+ⁿ_, _-_ as _-ⁿ_}
 use Prim.Native.Nat as N
 use native.Mathlib.Omega.{arith}
 use native.Mathlib.Decide.{decLe}
 use Rattle.ring.specs.Ring.{Ops}
-use Rattle.valued.specs.Val.{Valued}
 use Rattle.valued.specs.Degree.{Has}
 use Rattle.valued.specs.Polynomial.{polys}
 use Rattle.valued.proofs.Degree as d
-use Rattle.ideals.specs.Setting.{Setting, P, dGH}
-use Rattle.ideals.specs.Element.{O, ev}
+use Rattle.ideals.specs.Setting.{Setting, dGH}
+use Rattle.ideals.specs.Element.{O}
 use Rattle.ideals.specs.Ideal.{Basis}
 use Rattle.ideals.specs.Basis.{Good}
 use Rattle.ideals.specs.Next.{Next}

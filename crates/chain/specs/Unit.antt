@@ -1,15 +1,16 @@
 -- The unit (document 01: "Unit").
---   UnitOf B₀ l d E F   B₀ closes after l steps with degree sum d; E is the product of the m passed, scaled so that E0 is monic, and F its
---                       inverse
--- Theorems: it is determined, E0 has degree d, d is even, and how long the six rows are (proofs/Unit).
+--   UnitOf B₀ l d E F   B₀ is the basis of the order, from which the chain closes after l steps with degree sum d; E is the product of the
+--                       m passed, scaled so that E0 is monic, and F its inverse
+-- Theorems: it is determined, E0 has degree d, d is even, and how long the six rows are (proofs/Unit, proofs/Rows).
 use mathlib.Core.Path.{_≡_}
 use Prim.Native.Nat.{ℕ}
 use Rattle.ring.specs.Ring.{Ops}
 use Rattle.valued.specs.Degree.{Leads}
-use Rattle.valued.specs.Polynomial.{polys, IsUnit}
+use Rattle.valued.specs.Polynomial.{IsUnit}
 use Rattle.ideals.specs.Setting.{Setting, P}
 use Rattle.ideals.specs.Element.{O, sc}
 use Rattle.ideals.specs.Ideal.{Basis}
+use Rattle.ideals.specs.Next.{Start}
 use Rattle.chain.specs.Chain.{Closing, tops, bottoms}
 
 module _ (S : Setting) where
@@ -19,6 +20,7 @@ module _ (S : Setting) where
   infixl 70 _⊗_
   -- "The product of the m passed from O to closing, scaled so that E0 is monic, and its inverse F"
   pub record UnitOf (B₀ : Basis S) (l d : ℕ) (E F : O S .El) : Type 0 where
+    pub start : Start S B₀
     pub B : Basis S
     pub closing : Closing S B₀ l d B
     pub scale : P S

@@ -2,7 +2,8 @@
 // specs/Refusal.antt has the table, specs/Opening.antt the contract of `open`.
 ghost use mathlib.Core.Path.{_≡_};
 ghost use Rattle.field.specs.Refusal.{End, Rows12, Rows36, Rows78, Refusal, Accepted};
-ghost use Rattle.field.specs.Parts.{ListLength, Shaped};
+ghost use Rattle.field.specs.Parts.{ListLength, Shaped, FreeTest, factorNumber};
+ghost use Rattle.poly.specs.Factors.{OverBoth};
 ghost use Rattle.field.specs.Opening.{Held, nothing, Opens};
 
 const LONGEST: usize = 13;
@@ -98,6 +99,31 @@ fn check_lists(p: u64, g: &[u64], h: &[u64]) -> u32
     0
 }
 
+// Whether neither row has a square factor.
+fn both_free(p: u64, x: &[u64; 32], y: &[u64; 32]) -> bool
+    requires { ⌜ OverBoth p (now x) (now y) ⌝ }
+    ensures { λ r. ⌜ FreeTest p (now (x .entry)) (now (y .entry)) r ⌝ }
+{
+    let left = poly::squarefree(p, x);
+    if !left {
+        return false;
+    }
+    poly::squarefree(p, y)
+}
+
+// 7 comes before 8.
+fn first_factor(free: bool, apart: bool) -> u32
+    ensures { λ n. ⌜ n ≡ factorNumber free apart ⌝ }
+{
+    if !free {
+        return 7;
+    }
+    if !apart {
+        return 8;
+    }
+    0
+}
+
 // 7 and 8.
 fn check_factors(p: u64, g: &[u64], h: &[u64]) -> u32
     requires { ⌜ Shaped p (now g) (now h) ⌝ }
@@ -105,19 +131,9 @@ fn check_factors(p: u64, g: &[u64], h: &[u64]) -> u32
 {
     let x = poly::from_list(g);
     let y = poly::from_list(h);
-    let left = poly::squarefree(p, &x);
-    if !left {
-        return 7;
-    }
-    let right = poly::squarefree(p, &y);
-    if !right {
-        return 7;
-    }
+    let free = both_free(p, &x, &y);
     let apart = poly::coprime(p, &x, &y);
-    if !apart {
-        return 8;
-    }
-    0
+    first_factor(free, apart)
 }
 
 // The number of the first refusal of p, G, H, or 0.

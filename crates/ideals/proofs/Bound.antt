@@ -1,4 +1,4 @@
--- 2.3: b r + c w is 0 only for b = c = 0; otherwise it has a degree between deg GH − 2d and d, d the larger of deg br and deg cw.
+-- b r + c w is 0 only for b = c = 0; otherwise it has a degree between deg GH − 2d and d, d the larger of deg br and deg cw.
 --   cubes           b³ H + c³ G is not 0, by descent
 --   Top top         the larger of deg br and deg cw, with the two coefficients there
 --   bound bound-Y   the degree of b r + c w, and of b r − c w
@@ -23,7 +23,7 @@ use Rattle.valued.proofs.Polynomial.{P-path, view, degree, factor}
 use Rattle.valued.proofs.Divide.{Bez, bez-sym, coprime-bez, euclid, cube-divides, p-cancel}
 use Rattle.ideals.specs.Setting.{Setting, P, dGH}
 use Rattle.ideals.specs.Element.{O, X, Y}
-use Rattle.ideals.proofs.Values.{form′, X-form}
+use Rattle.ideals.proofs.Values.{X-form}
 use Rattle.ideals.proofs.Form.{form′-has}
 
 module _ (S : Setting) where

@@ -1,8 +1,8 @@
--- Section 7, membership: v lies in Λ exactly where three divisions are exact, two by e (Cramer's rule) and one by U.
+-- Membership: v lies in Λ exactly where three divisions are exact, two by e (Cramer's rule) and one by U.
 --   Coords            the three exact divisions; `coords-of` and `in-of` say that they are the same as `In`
 --   only-of-rank      "of the fractions of polynomials, only the polynomials" follows from the rank
 --   ideal-of          an ideal is U ≠ 0, e ≠ 0 and six memberships; `by-r`, `by-w` of Lattice write out their elements
-use mathlib.Core.Path.{_≡_, refl, sym, ap, ap₂, _∙_, subst}
+use mathlib.Core.Path.{_≡_, sym, ap, ap₂, _∙_, subst}
 use mathlib.Core.List.{List, [], _∷_}
 use mathlib.Core.Logic.{_≢_}
 use Prim.Native.Nat.{ℕ}
@@ -12,7 +12,6 @@ use Rattle.ring.proofs.Solve.{Expr, var, hyp, one, zer, minus, _:+_, _:*_, _:=_
 use Rattle.valued.specs.Val.{Valued}
 use Rattle.valued.specs.Degree.{Has}
 use Rattle.valued.specs.Polynomial.{polys, Divides}
-use Rattle.valued.proofs.Degree as d
 use Rattle.valued.proofs.Polynomial.{P-path, degree}
 use Rattle.valued.proofs.Divide.{p-cancel}
 use Rattle.ideals.specs.Setting.{Setting, P}

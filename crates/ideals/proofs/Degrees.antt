@@ -1,22 +1,22 @@
--- 3.4: how large the rows of the scaled reduced basis of a reduced ideal are.
+-- How large the rows of the scaled reduced basis of a reduced ideal are.
 --   Small small    all of it: deg U < deg GH, rows at most deg GH, M0 monic, deg m = deg M0 − deg U between 1 and deg GH
 --   Fits fits      no row above deg GH
 --   det-lead       lead(e) · lead(GH) = −1: the leading coefficient of e needs no inversion
-use mathlib.Core.Path.{_≡_, refl, sym, ap, _∙_}
+use mathlib.Core.Path.{_≡_, refl, ap, _∙_}
 use mathlib.Core.Logic.{_≢_}
 use Prim.Native.Nat.{ℕ, suc, _≤_, _<_, _+_ as _+ⁿ_}
 use native.Mathlib.Omega.{arith}
 use Rattle.ring.proofs.Laws as rg
 use Rattle.ring.specs.Ring.{Ops}
-use Rattle.ring.proofs.Solve.{one, zer, minus, _:+_, _:*_, _:=_, ring₁, ring₂, ring₃}
+use Rattle.ring.proofs.Solve.{one, zer, minus, _:+_, _:*_, _:=_, ring₁}
 use Rattle.valued.proofs.Degree as d
 use Rattle.valued.specs.Val.{Valued}
 use Rattle.valued.specs.Degree.{Has, Lt}
 use Rattle.valued.proofs.Compare.{has-unscale, leads-at, ≺-has, has-scale, lt-unscale, k-zero}
 use Rattle.valued.proofs.Polynomial.{degree, factor}
-use Rattle.ideals.specs.Setting.{Setting, P, dGH}
+use Rattle.ideals.specs.Setting.{Setting, dGH}
 use Rattle.ideals.specs.Ideal.{Basis, det, Ideal}
-use Rattle.ideals.specs.Element.{O, X, Y, Z}
+use Rattle.ideals.specs.Element.{X, Y, Z}
 use Rattle.ideals.specs.Basis.{Good}
 use Rattle.ideals.proofs.Sizes.{X-Y-det, two-a, two-b, two-c}
 use Rattle.ideals.proofs.Form.{has-two}

@@ -1,4 +1,4 @@
--- 3.3: the determinant e = M1 N2 − M2 N1 of an ideal's basis divides U, where no factor divides all seven rows.
+-- The determinant e = M1 N2 − M2 N1 of an ideal's basis divides U, where no factor divides all seven rows.
 --   only-poly     a polynomial in Λ is a multiple of U
 --   det-divides   e | U
 use mathlib.Core.Path.{_≡_, sym, ap, ap₂, _∙_, subst}
@@ -100,7 +100,7 @@ module _ (S : Setting) (B : Basis S) (ideal : Ideal S B) where
           (solve-by R (z .b) zer (hyp (var 3) (var 7) (var 2 :* var 4) ∷ hyp (minus (var 4)) (var 9) (var 2 :* var 3) ∷ []) tt l (e₁, (eU, tt)))
           (solve-by R (z .c) zer (hyp (var 3) (var 8) (var 2 :* var 5) ∷ hyp (minus (var 5)) (var 9) (var 2 :* var 3) ∷ []) tt l (e₂, (eU, tt)))
 
-  -- 3.3
+  -- e | U c and c² | e; so c | U, c divides the seven, and c is a unit
   pub det-divides : NoFactor S B → Divides 𝓥 (det S B) (B .U)
   det-divides seven = go (gcds 𝓥 (B .M .b ∷ B .M .c ∷ B .N .b ∷ B .N .c ∷ []))
     where

@@ -1,23 +1,23 @@
--- 4.4: the next ideal is one, it is reduced, and it has one basis.
+-- The next ideal is one, it is reduced, and it has one basis.
 --   ev-M norm-M      the value of m has the degree of X(m), and the norm of M is not 0
 --   poly-only        only polynomials have all sizes at most 0 in the next ideal
 --   next-ideal       what is the next of an ideal is an ideal
 --   next-reduced     and it is reduced
 --   next-same next-unique   a basis has one next
-use mathlib.Core.Path.{_≡_, refl, sym, ap, _∙_, subst}
+use mathlib.Core.Path.{_≡_, sym, ap, _∙_, subst}
 use mathlib.Core.List.{[], _∷_}
 use mathlib.Core.Logic.{_≢_}
 use Prim.Native.Nat.{ℕ, suc, _<_, _+_ as _+ⁿ_}
 use native.Mathlib.Omega.{arith}
 use Rattle.ring.specs.Ring.{Ops}
-use Rattle.ring.proofs.Solve.{var, hyp, solve-by, one, minus, _:+_, _:*_, _:=_, ring₃}
+use Rattle.ring.proofs.Solve.{var, hyp, solve-by, one, minus, _:*_, _:=_, ring₃}
 use Rattle.valued.specs.Val.{Valued}
 use Rattle.valued.specs.Degree.{Has, Lt}
 use Rattle.valued.specs.Polynomial.{polys}
 use Rattle.valued.proofs.Degree as d
 use Rattle.valued.proofs.Compare.{lt-mul-sharp, has-scale, has-unscale, lt-scale, lt-unscale}
 use Rattle.ideals.specs.Setting.{Setting}
-use Rattle.ideals.specs.Element.{O, sc, el-r, el-w, ev, X, Y, Z, norm}
+use Rattle.ideals.specs.Element.{O, sc, el-r, el-w, ev, Y, Z, norm}
 use Rattle.ideals.specs.Ideal.{Basis, In, det, Ideal}
 use Rattle.ideals.specs.Basis.{ReducedBasis, Reduced, Good}
 use Rattle.ideals.specs.Next.{Next, Same}
@@ -103,11 +103,11 @@ module _ (S : Setting) where
           (solve-by (O S) (var 0 :* var 1) (var 0 :* (var 2 :* var 3)) (hyp one (var 0 :* var 1) (var 4 :* (var 2 :* var 5)) ∷ hyp (minus (var 2)) (var 0 :* var 3) (var 4 :* var 5) ∷ []) tt
           (B .M ∷ v′ ∷ x ∷ v ∷ sc S (B′ .U) ∷ u ∷ []) (e′, (e, tt)))) i′
 
-  -- 4.4
+  -- so the next ideal is reduced
   pub next-reduced : (B B′ : Basis S) → Good S B → Next S B B′ → B′ .U .0 ≢ 𝟎 → det S B′ .0 ≢ 𝟎 → ReducedBasis S B′ → Reduced S B′
   next-reduced B B′ good next nz rank basis = reduced-of S B′ nz rank basis (poly-only B B′ good next)
 
-  -- The relation `Next` settles the ideal, and so (3.2) its scaled reduced basis.
+  -- The relation `Next` settles the ideal, and so its scaled reduced basis.
   pub next-same : (B B′ B″ : Basis S) → Good S B → Next S B B′ → Next S B B″ → Same S B′ B″
   next-same B B′ B″ good n′ n″ = record {
     into = λ v i.

@@ -1,4 +1,4 @@
--- 1.4: no cancellation in 3y² + z² and y² − yz + z².
+-- No cancellation in 3y² + z² and y² − yz + z².
 --   has-two has-three      2 and 3 are constants that are not 0
 --   form form′             3y² + z² and y² − yz + z²; `form` is four times the value of the cofactor (Values.Q-YZ)
 --   form-has form′-has     of degree 2d, where d is the larger of the two degrees

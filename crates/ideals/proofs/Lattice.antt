@@ -10,7 +10,6 @@ use Rattle.ring.specs.Ring.{Ops, CRing}
 use Rattle.ring.proofs.Solve.{var, exprs, one, zer, _:+_, _:*_, _:=_, solve, ring₃}
 use Rattle.cubic.specs.Tri.{triE, solve₃}
 use Rattle.cubic.specs.Order.{triops}
-use Rattle.valued.specs.Val.{Valued}
 use Rattle.valued.specs.Polynomial.{polys}
 use Rattle.valued.proofs.Polynomial.{P-path}
 use Rattle.ideals.specs.Setting.{Setting, P}

@@ -1,4 +1,4 @@
--- 3.1: the minimum lemma.
+-- The minimum lemma.
 --   Sized sized    what a reduced basis says, in numbers
 --   core core-N    elements of the lattice that are small in Y, or in X
 --   minimum        an element small in Y and Z, with X at most X(m), is a constant multiple of m; `minimum-in` says it of elements
@@ -153,7 +153,7 @@ module _ (S : Setting) where
             (ap (λ z. z + - (β .0 * Z S (B .M) + γ .0 * Z S (B .N))) (Z-lin S B α β γ) ∙
             ring₃ L (λ x y z. x :+ y :+ z :+ minus (y :+ z) := x) tt ((𝟏 + 𝟏) * (α .0 * B .U .0)) (β .0 * Z S (B .M)) (γ .0 * Z S (B .N))))
 
-    -- 3.1: v is a constant multiple of M.
+    -- v is a constant multiple of M
     pub minimum : {c : K .El} → Lt 𝓥 (Y S v) (s .u) → Lt 𝓥 (Z S v) (s .u) → Lead (X S v) (s .p) (s .q) c → (α .0 ≡ 𝟎) × (γ .0 ≡ 𝟎) × Const β
     minimum {c} hy hz hx = go (core hy)
       where
@@ -163,7 +163,7 @@ module _ (S : Setting) where
             let z : b ≡ 0 = omega (arith, d.has-above 𝓥 h (𝓥 .lead-up (suc (s .p)) (s .q) hx (omega arith))) in
             (no-U (inr (k z .1)) (inl (k z .0)) hz, k z .0, inr (k z .1))
 
-  -- 3.1 for an element of the lattice
+  -- the same for an element of the lattice
   pub minimum-in : {c : K .El} (B : Basis S) (s : Sized B) (v : O S .El) → In S B v → Lt 𝓥 (Y S v) (s .u) → Lt 𝓥 (Z S v) (s .u) → Lead (X S v) (s .p) (s .q) c →
       (β : P S) × Const β × (v ≡ O S .ops .mul (sc S β) (B .M))
   minimum-in B s v i hy hz hx =

@@ -8,7 +8,7 @@
 --   M-not N-not        in a basis of rank 3 neither M nor N is a polynomial
 use mathlib.Core.Path.{_≡_, sym, ap, ap₂, _∙_}
 use mathlib.Core.Logic.{_≢_, _⊎_, inl, inr}
-use Prim.Native.Nat.{ℕ, suc, _+_ as _+ⁿ_}
+use Prim.Native.Nat.{ℕ, _+_ as _+ⁿ_}
 use native.Mathlib.Omega.{arith}
 use Rattle.ring.specs.Ring.{Ops}
 use Rattle.ring.proofs.Solve.{one, zer, minus, _:+_, _:*_, _:=_, ring₂, ring₃}

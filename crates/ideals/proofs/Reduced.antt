@@ -1,25 +1,24 @@
--- 3.5: reduced by degrees is the same as "1 is a minimum".
+-- Reduced by degrees is the same as "1 is a minimum".
 --   OnlyPolys        only polynomials have all sizes at most those of 1
 --   reduced-of       then the ideal is reduced
 --   only-of          and if it is reduced, only polynomials do
 --   OneMinimum       the papers' form: of the elements whose value and cofactor's value have degree at most 0, only constants;
 --   minimum-iff, iff-minimum   it is the same as `Reduced`
-use mathlib.Core.Path.{_≡_, refl, sym, ap, ap₂, _∙_}
+use mathlib.Core.Path.{_≡_, sym, ap, ap₂, _∙_}
 use mathlib.Core.Logic.{_≢_, _⊎_, inl, inr}
 use Prim.Native.Nat.{ℕ, suc, _≤_, _<_, _+_ as _+ⁿ_, _-_ as _-ⁿ_}
 use native.Mathlib.Omega.{arith}
 use native.Mathlib.Decide.{decLe}
-use Rattle.ring.proofs.Laws as rg
 use Rattle.ring.specs.Ring.{Ops}
-use Rattle.ring.proofs.Solve.{one, zer, minus, _:+_, _:*_, _:=_, ring₂}
+use Rattle.ring.proofs.Solve.{zer, _:+_, _:*_, _:=_, ring₂}
 use Rattle.valued.specs.Val.{Valued}
-use Rattle.valued.specs.Degree.{HasDeg, Has, Lt, _≺_}
+use Rattle.valued.specs.Degree.{Has, Lt, _≺_}
 use Rattle.valued.proofs.Degree as d
 use Rattle.valued.proofs.Compare.{≺-has, lt-scale, lt-unscale}
 use Rattle.valued.proofs.Polynomial.{view}
 use Rattle.ideals.specs.Setting.{Setting, P}
-use Rattle.ideals.specs.Element.{O, ev, X, Y, Z}
-use Rattle.ideals.specs.Ideal.{Basis, lin, In, det}
+use Rattle.ideals.specs.Element.{O, ev, X, Y}
+use Rattle.ideals.specs.Ideal.{Basis, In, det}
 use Rattle.ideals.specs.Basis.{ReducedBasis, Reduced}
 use Rattle.ideals.proofs.Sizes.{X-lin, Y-lin, ev-XZ}
 use Rattle.ideals.proofs.Form.{has-two, has-three, form-at-most}

@@ -1,8 +1,8 @@
 -- The series r and w are settled by their laws: no other pair of series that have degrees obeys them. So a field has one `Setting`.
-use mathlib.Core.Path.{_≡_, refl, sym, ap, _∙_}
+use mathlib.Core.Path.{_≡_, sym, ap, _∙_}
 use mathlib.Core.List.{[], _∷_}
 use mathlib.Core.Logic.{inl}
-use Prim.Native.Nat.{ℕ, _+_ as _+ⁿ_}
+use Prim.Native.Nat.{ℕ}
 use native.Mathlib.Omega.{arith}
 use Rattle.ring.proofs.Laws as rg
 use Rattle.ring.specs.Ring.{Ops}
@@ -11,7 +11,7 @@ use Rattle.valued.specs.Val.{Valued}
 use Rattle.valued.specs.Degree.{Has}
 use Rattle.valued.proofs.Degree as d
 use Rattle.ideals.specs.Setting.{Setting}
-use Rattle.ideals.proofs.Values.{form′, r-cube}
+use Rattle.ideals.proofs.Values.{r-cube}
 use Rattle.ideals.proofs.Form.{form′-has}
 
 module _ (S : Setting) where

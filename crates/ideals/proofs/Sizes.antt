@@ -1,4 +1,4 @@
--- 2.2, the linear part: the sizes X, Y, Z and the value of elements.
+-- The linear part of the theory of elements: the sizes X, Y, Z and the value of elements.
 --   gE .. linE               the solver's expressions for G, H, r, w, two elements and αU + βM + γN
 --   X-lin Y-lin Z-lin        the sizes of αU + βM + γN
 --   X-sc Y-sc Z-sc ev-sc     the sizes of a polynomial times an element, sc-a sc-b sc-c its coordinates
@@ -14,7 +14,6 @@ use Rattle.cubic.specs.Tri.{Tri, triE}
 use Rattle.cubic.specs.Order.{triops}
 use Rattle.valued.specs.Val.{Valued}
 use Rattle.valued.specs.Degree.{Has}
-use Rattle.valued.specs.Polynomial.{polys}
 use Rattle.valued.proofs.Degree as d
 use Rattle.valued.proofs.Polynomial.{P-path}
 use Rattle.ideals.specs.Setting.{Setting, P}

@@ -1,11 +1,10 @@
--- Section 7: the tests of refusal 9. Each is decided on rows; each is necessary, and together they are the definition.
+-- The tests of refusal 9. Each is decided on rows; each is necessary, and together they are the definition.
 --   Tests               the list of tests
 --   good-of tests-of    it is the same as `Good`
 --   no-factor-gcd       the seven have no common factor exactly where their greatest common divisor is a unit
-use mathlib.Core.Path.{_≡_, refl, sym, ap, _∙_, subst}
+use mathlib.Core.Path.{sym, subst}
 use mathlib.Core.Logic.{_≢_, _⊎_, inl, inr}
-use Prim.Native.Nat.{ℕ, _≤_, _<_, _+_ as _+ⁿ_}
-use native.Mathlib.Omega.{arith}
+use Prim.Native.Nat.{ℕ, _≤_, _<_}
 use Rattle.ring.specs.Ring.{Ops}
 use Rattle.valued.specs.Val.{Valued}
 use Rattle.valued.specs.Degree.{Has, Lt}
@@ -14,7 +13,7 @@ use Rattle.valued.proofs.Degree as d
 use Rattle.valued.proofs.Compare.{≺-has, has-≼, has-≺, lt-≺, leads-at}
 use Rattle.valued.proofs.Gcds.{divides-trans}
 use Rattle.ideals.specs.Setting.{Setting, P}
-use Rattle.ideals.specs.Element.{O, sc, el-r, el-w, X, Y, Z}
+use Rattle.ideals.specs.Element.{O, X, Y, Z}
 use Rattle.ideals.specs.Ideal.{Basis, In, det, Ideal}
 use Rattle.ideals.specs.Basis.{NoFactor, Good}
 use Rattle.ideals.proofs.Lattice.{in-U, in-M, in-N, by-r, by-w, by-r-poly, by-w-poly}

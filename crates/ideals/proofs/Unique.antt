@@ -1,11 +1,11 @@
--- 3.2: one ideal has one scaled reduced basis.
+-- One ideal has one scaled reduced basis.
 --   same-sym     "the ideals are one" is symmetric
 --   half-M half-N   what the M and the N of two reduced bases of one ideal have to do with one another
 --   unique       two scaled reduced bases of one ideal are equal, row by row; `good-unique` for reduced ideals
-use mathlib.Core.Path.{_≡_, refl, sym, ap, ap₂, _∙_, subst}
+use mathlib.Core.Path.{_≡_, sym, ap, ap₂, _∙_, subst}
 use mathlib.Core.List.{List, [], _∷_}
 use mathlib.Core.Logic.{_≢_, _⊎_, inl, inr}
-use Prim.Native.Nat.{ℕ, zero, _+_ as _+ⁿ_}
+use Prim.Native.Nat.{ℕ, _+_ as _+ⁿ_}
 use native.Mathlib.Omega.{arith}
 use Rattle.ring.proofs.Laws as r
 use Rattle.ring.specs.Ring.{Ops}
@@ -15,7 +15,7 @@ use Rattle.valued.specs.Degree.{HasDeg, Has, Lt}
 use Rattle.valued.specs.Polynomial.{polys, Divides}
 use Rattle.valued.proofs.Degree as d
 use Rattle.valued.proofs.Compare.{leads-one}
-use Rattle.valued.proofs.Polynomial.{P-path, degree, factor, one-of}
+use Rattle.valued.proofs.Polynomial.{P-path, factor, one-of}
 use Rattle.valued.proofs.Gcds.{gcds, comb-divides}
 use Rattle.ideals.specs.Setting.{Setting, P}
 use Rattle.ideals.specs.Element.{O, sc, X, Y, Z}
@@ -138,7 +138,7 @@ module _ (S : Setting) where
       at-c : {v v′ : O S .El} → sc S (B .U) ⊗ v′ ≡ sc S (B′ .U) ⊗ v → Divides 𝓥 (B .U) (polys 𝓥 .ops .mul (B′ .U) (v .c))
       at-c {v} {v′} e = (v′ .c, P-path 𝓥 (sym (sc-c S (B′ .U) v) ∙ ap (λ z. z .c .0) (sym e) ∙ sc-c S (B .U) v′))
 
-  -- 3.2
+  -- two scaled reduced bases of one ideal are equal
   pub unique : (B B′ : Basis S) → B .U .0 ≢ 𝟎 → B′ .U .0 ≢ 𝟎 → ReducedBasis S B → ReducedBasis S B′ → Scaled S B → Scaled S B′ → Same S B B′ → B ≡ B′
   unique B B′ nz nz′ rb rb′ sc₁ sc₂ one-ideal =
       let UU : B .U ≡ B′ .U = U-eq in

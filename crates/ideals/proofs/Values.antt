@@ -1,25 +1,25 @@
--- 2.2, the products: the value, the norm and the cofactor are multiplicative.
+-- Products of elements: the value, the norm and the cofactor are multiplicative.
 --   w-w r-cube w-cube    w² = G r, r³ = G H², w³ = G² H
 --   dr-dw dr-pos dw-pos  deg r + deg w = deg GH, and both are at least 1
 --   ev-mul norm-mul cof-mul     of a product, the product
 --   norm-cof             x · cof x = norm x
 --   Q                    the value of the cofactor, as a form in A, Br, Cw; `ev-cof` says that it is, and 4 Q = 3Y² + Z²
 --   ev-Q                 the value times that of the cofactor is the norm
---   X-form Y-form        X · ((Br)² − (Br)(Cw) + (Cw)²) = G H (B³ H + C³ G), and Y with −C
+--   X-form               X · ((Br)² − (Br)(Cw) + (Cw)²) = G H (B³ H + C³ G); for Y take −C
 use mathlib.Core.Path.{_≡_, sym, ap, _∙_}
 use mathlib.Core.List.{List, [], _∷_}
-use Prim.Native.Nat.{ℕ, _≤_, _+_ as _+ⁿ_}
+use Prim.Native.Nat.{_≤_, _+_ as _+ⁿ_}
 use native.Mathlib.Omega.{arith}
 use Rattle.ring.specs.Ring.{Ops}
-use Rattle.ring.proofs.Solve.{Expr, hyp, var, exprs, one, lit, zer, minus, _:+_, _:*_, _:=_, solve, solve-by, ring₂}
+use Rattle.ring.proofs.Solve.{hyp, var, exprs, one, zer, minus, _:+_, _:*_, _:=_, solve, solve-by, ring₂}
 use Rattle.cubic.specs.Tri as T
-use Rattle.cubic.specs.Tri.{Tri, normT, cofT, triE}
+use Rattle.cubic.specs.Tri.{Tri, cofT}
 use Rattle.cubic.specs.Order.{triops}
 use Rattle.valued.specs.Val.{Valued}
 use Rattle.valued.specs.Polynomial.{polys}
 use Rattle.valued.proofs.Degree as d
 use Rattle.ideals.specs.Setting.{Setting, P, dGH}
-use Rattle.ideals.specs.Element.{evT, XT, YT, ZT, O, sc, ev, X, Y, Z, norm, cof}
+use Rattle.ideals.specs.Element.{evT, YT, ZT, O, sc, ev, Y, Z, norm, cof}
 use Rattle.ideals.proofs.Sizes.{gE, hE, rE, wE, xE, yE, env}
 open Ops (triops exprs gE hE) using (mul as _:⊗_)
 

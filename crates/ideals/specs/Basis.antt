@@ -8,7 +8,6 @@
 -- Theorems: one ideal has one scaled reduced basis (proofs/Unique); degrees (proofs/Degrees); reduced by degrees is the same as
 -- "1 is a minimum" (proofs/Reduced); the tests of refusal 9 (proofs/Tests).
 use mathlib.Core.Logic.{_⊎_}
-use Rattle.ring.specs.Ring.{Ops}
 use Rattle.valued.specs.Val.{Valued}
 use Rattle.valued.specs.Degree.{_≺_, _≼_, Leads}
 use Rattle.valued.specs.Polynomial.{Divides, IsUnit}

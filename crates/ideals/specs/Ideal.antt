@@ -46,9 +46,13 @@ module _ (S : Setting) where
   -- "a lattice of rank 3 over the polynomials, containing 1 and, of the fractions of polynomials, only the polynomials, closed under
   -- products with r and w"
   pub record Ideal (B : Basis) : Type 0 where
+    -- rank 3
     pub U≢ : B .U .0 ≢ 𝓥 .L .ops .𝟎
     pub rank : det B .0 ≢ 𝓥 .L .ops .𝟎
+    -- 1, which is U/U
     pub one : In B (sc S (B .U))
+    -- a fraction a/b in it is a polynomial
     pub only : (a b : P S) → b .0 ≢ 𝓥 .L .ops .𝟎 → Holds B a b → Divides 𝓥 b a
+    -- r v and w v for every v in it
     pub by-r : (v : O S .El) → In B v → In B (el-r S ⊗ v)
     pub by-w : (v : O S .El) → In B v → In B (el-w S ⊗ v)

@@ -8,7 +8,6 @@
 use mathlib.Core.Path.{_≡_}
 use mathlib.Core.Logic.{_≢_}
 use Prim.Native.Nat.{ℕ, _≤_, _+_}
-use Rattle.ring.specs.Ring.{Ops}
 use Rattle.valued.specs.Val.{Valued}
 use Rattle.valued.specs.Degree.{Has}
 use Rattle.valued.specs.Polynomial.{Poly, Squarefree, Coprime}

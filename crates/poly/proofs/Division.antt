@@ -1,5 +1,5 @@
 -- The loop of the quotient, from the top: `Dividing` holds before each turn, and each turn adds one coefficient.
-use mathlib.Core.Path.{_≡_, refl, sym, ap, _∙_, subst}
+use mathlib.Core.Path.{_≡_, sym, ap, _∙_, subst}
 use mathlib.Core.List.{List, [], _∷_}
 use Prim.Native.Nat.{ℕ, zero, suc, _+_, _*_, _-_, _%_, _<_, _≤_, min}
 use native.Mathlib.Nat.{mod-lt, zero-mod, mul-zero, zero-mul}
@@ -7,24 +7,19 @@ use native.Mathlib.Omega.{arith}
 use native.Mathlib.Decide.{decLt, decLe, ℕ-discrete}
 use lib.ListN.{length, getD, set, replicate, length-set}
 use lib.Seq.{getD-set-same, getD-set-other}
-use Rattle.ring.specs.Ring.{CRing}
-use Rattle.ring.proofs.Laws as laws
 use Rattle.ring.proofs.Solve.{var, minus, _:+_, solve}
 use Rattle.fp.specs.Fp.{Prime}
-use Rattle.valued.specs.Val.{Valued}
-use Rattle.valued.specs.Degree.{Has, Lt}
+use Rattle.valued.specs.Degree.{Lt}
 use Rattle.valued.proofs.Degree.{same, lt-eq}
-use Rattle.residue.specs.Residue.{Modulus}
-use Rattle.reading.specs.Reading.{Reading}
 use Rattle.reading.specs.Made.{reading}
 use Rattle.reading.specs.Row.{Row, Size, row, shiftAt}
 use Rattle.reading.specs.Sum.{sumTo, termAt}
 use Rattle.reading.proofs.Tab.{zeros-at}
-use Rattle.reading.proofs.Rows.{size-has, row-poly}
+use Rattle.reading.proofs.Rows.{size-has-at, row-poly}
 use Rattle.reading.proofs.Floors.{sized}
 use Rattle.reading.proofs.Product.{sum-none, sum-skip}
 use Rattle.reading.proofs.Quotient.{Agree, agree-more, agree-end, exact-law}
-use Rattle.poly.specs.Leaf.{MulIn, Product, Difference}
+use Rattle.poly.specs.Leaf.{Product, Difference}
 use Rattle.poly.specs.Division.{DivIn, Quotient, Exact, Divided, DigitIn, Digit}
 use Rattle.poly.proofs.Leaf.{size-one, zeros-row}
 use Rattle.poly.proofs.Terms.{term-past}
@@ -117,11 +112,6 @@ module _ {p : ℕ} {a b : List ℕ} {il m top : ℕ} {q : List ℕ} {k : ℕ} (h
             (λ j w. d .agree pr j (omega arith));
       }
 
--- b has the degree m − 1
-pub size-deg : {p : ℕ} (R : Reading p) {l : List ℕ} (m : ℕ) → Row p l → Size l m → 0 < m → Has (R .𝓥) (row R l) (m - 1)
-size-deg R zero h s u = absurd (omega arith)
-size-deg R {l} (suc d) h s u = subst (λ j. Has (R .𝓥) (row R l) j) (let e : d ≡ suc d - 1 = omega arith in e) (size-has R h s)
-
 pub dividing-end : (p : ℕ) (a b : List ℕ) (il m top : ℕ) (q : List ℕ) (k : ℕ) → DivIn p a b il → Dividing p a b il m top q k → k ≤ 0 → Quotient p a b q
 dividing-end p a b il m top q k h d z = record {
   is-row = d .hq;
@@ -129,14 +119,14 @@ dividing-end p a b il m top q k h d z = record {
   law = λ pr n hn. let R = reading p pr in
       let o : 0 < m = d .pos in
       let f : top + m ≤ 33 = d .fits in
-      let e : m - 1 ≡ n = same (R .𝓥) (size-deg R m (h .hb) (d .sb) o) hn in
+      let e : m - 1 ≡ n = same (R .𝓥) (size-has-at R m (h .hb) (d .sb) o) hn in
       subst (λ j. Lt (R .𝓥) (R .𝓥 .L .ops .add (row R a) (R .𝓥 .L .ops .neg (R .𝓥 .L .ops .mul (row R q) (row R b)))) j) e (agree-end R a q b (m - 1) (h .ha .size) (d .hq .size) (h .hb .size) (omega arith) (λ j w. d .agree pr j (omega arith)));
 }
 
 pub exact-made : (p : ℕ) (a b : List ℕ) (il : ℕ) (q : List ℕ) → DivIn p a b il → Quotient p a b q → Exact p a b q
 exact-made p a b il q h g = record {
   is-row = g .is-row;
-  law = λ pr w hw e. let R = reading p pr in let (m, s) = sized b in let d = size-deg R m (h .hb) s (div-pos p a b il m h s) in
+  law = λ pr w hw e. let R = reading p pr in let (m, s) = sized b in let d = size-has-at R m (h .hb) s (div-pos p a b il m h s) in
       exact-law R (row R a) (row R q) (row R b) (m - 1) d (g .law pr (m - 1) d) (row-poly R q) w hw e;
 }
 

@@ -7,10 +7,7 @@ use Prim.Native.Nat.{ℕ, zero, suc, _+_, _*_, _-_, _%_, _<_, _≤_}
 use native.Mathlib.Nat.{mod-lt, mul-zero, zero-mod}
 use native.Mathlib.Omega.{arith}
 use lib.ListN.{length, getD}
-use Rattle.ring.specs.Ring.{CRing}
 use Rattle.fp.specs.Fp.{Prime}
-use Rattle.valued.specs.Val.{Valued}
-use Rattle.valued.specs.Degree.{Has, Lt}
 use Rattle.valued.specs.Polynomial.{IsUnit}
 use Rattle.valued.specs.Factor.{Nonconstant}
 use Rattle.valued.specs.Gcd.{IsGcd}
@@ -18,18 +15,17 @@ use Rattle.valued.proofs.Degree.{lt-eq}
 use Rattle.valued.proofs.Polynomial.{P-path, const-unit}
 use Rattle.valued.proofs.Coprime.{coprime-unit, common-nonconst, zero-square, zero-common, zero-divides}
 use Rattle.residue.specs.Residue.{Modulus}
-use Rattle.reading.specs.Reading.{Reading}
 use Rattle.reading.specs.Made.{reading, derivation}
 use Rattle.reading.specs.Row.{tab, Row, Size, row}
 use Rattle.reading.proofs.Tab.{Begun, begun-end, tab-row}
-use Rattle.reading.proofs.Rows.{size-le, size-has, size-lead}
+use Rattle.reading.proofs.Rows.{size-le, size-has, size-lead-at}
 use Rattle.reading.proofs.Turn.{comb-drop}
-use Rattle.reading.proofs.Floors.{sized, zero-row, top-not}
+use Rattle.reading.proofs.Floors.{zero-row, top-not}
 use Rattle.reading.proofs.Derivative.{derivative-law}
 use Rattle.reading.proofs.Square.{∂, squarefree-unit, square-factor}
 use Rattle.turn.proofs.Euclid.{Span, span-start, span-swap, span-turn, span-gcd}
 use Rattle.poly.specs.Leaf.{Given, CrossIn, Crossed}
-use Rattle.poly.specs.Factors.{polynomial, Derived, Over, OverBoth, Common, SquareTest, CoprimeTest}
+use Rattle.poly.specs.Factors.{polynomial, Derived, OverBoth, Common, SquareTest, CoprimeTest}
 use Rattle.poly.proofs.Leaf.{size-one}
 
 -- ---- the derivative
@@ -42,11 +38,6 @@ derived p x n i r h s l b =
     }
 
 -- ---- Euclid
--- the leading coefficient stands at the top
-size-top-lead : {p : ℕ} (R : Reading p) {l : List ℕ} (n : ℕ) → Size l n → 0 < n → R .𝓥 .Lead (row R l) (n - 1) 0 (R .cast (getD l (n - 1) 0))
-size-top-lead R zero s u = absurd (omega arith)
-size-top-lead R {l} (suc d) s u = subst (λ j. R .𝓥 .Lead (row R l) j 0 (R .cast (getD l j 0))) (let e : d ≡ suc d - 1 = omega arith in e) (size-lead R s)
-
 pub record Euclid (p : ℕ) (a b x y : List ℕ) (n m : ℕ) : Type 0 where
   pub hx : Row p x
   pub hy : Row p y
@@ -75,7 +66,7 @@ module _ {p : ℕ} {a b x y : List ℕ} {n m : ℕ} (i : Euclid p a b x y n m) (
     pub euclid-less : Prime p → k < n
     euclid-less pr =
         let R = reading p pr in
-        let l : k ≤ n - 1 = size-le R (n - 1) (o .is-row) st (lt-eq (R .𝓥) (comb-drop R (n - m) (size-top-lead R n (i .sx) (omega arith)) (size-top-lead R m (i .sy) pos) (omega arith)) (sym (o .law pr))) in
+        let l : k ≤ n - 1 = size-le R (n - 1) (o .is-row) st (lt-eq (R .𝓥) (comb-drop R (n - m) (size-lead-at R n (i .sx) (omega arith)) (size-lead-at R m (i .sy) pos) (omega arith)) (sym (o .law pr))) in
         omega arith
 
     pub euclid-turn : Euclid p a b t y k m
@@ -92,6 +83,13 @@ euclid-end p a b x y n m i z = record {
   is-row = i .hx;
   law = λ pr. let R = reading p pr in
       span-gcd R (polynomial p pr a) (polynomial p pr b) (polynomial p pr x) (row R y) (i .each pr) (zero-row R y (subst (λ j. Size y j) (let e : m ≡ 0 = omega arith in e) (i .sy)));
+}
+
+-- a row is its greatest common divisor with 0
+pub common-self : (p : ℕ) (x d : List ℕ) (m : ℕ) → Row p x → Size d m → m ≡ 0 → Common p x d x
+common-self p x d m h s e = record {
+  is-row = h;
+  law = λ pr. let R = reading p pr in span-gcd R (polynomial p pr x) (polynomial p pr d) (polynomial p pr x) (row R d) (span-start R (row R x) (row R d)) (zero-row R d (subst (λ j. Size d j) e s));
 }
 
 -- ---- the tests

@@ -1,23 +1,18 @@
 -- From the formula of each coefficient to the polynomial: what the loops of the leaves hand out.
 use mathlib.Core.Path.{_≡_, refl, sym, ap, _∙_, subst}
 use mathlib.Core.List.{List}
-use Prim.Native.Nat.{ℕ, zero, suc, _+_, _*_, _-_, _%_, _<_, _≤_}
+use Prim.Native.Nat.{ℕ, _+_, _*_, _-_, _%_, _<_, _≤_}
 use native.Mathlib.Nat.{mod-lt, mul-zero, zero-mod, mul-le-mul}
 use native.Mathlib.Omega.{arith}
 use native.Mathlib.Decide.{decLt}
 use lib.ListN.{length, getD, replicate, List·getD-eq-default}
-use Rattle.ring.specs.Ring.{CRing}
 use Rattle.ring.proofs.Laws as laws
-use Rattle.fp.specs.Fp.{Prime}
-use Rattle.valued.specs.Val.{Valued}
-use Rattle.residue.specs.Residue.{Modulus}
-use Rattle.reading.specs.Reading.{Reading}
 use Rattle.reading.specs.Made.{reading}
 use Rattle.reading.specs.Row.{tab, Row, Size, row, coefs, shiftAt}
-use Rattle.reading.proofs.Tab.{zeros-at, tab-row, crossAt, cross-row, Begun, begun-start, begun-end, shift-low, shift-high}
+use Rattle.reading.proofs.Tab.{zeros-at, tab-row, crossAt, cross-row, Begun, begun-end, shift-high}
 use Rattle.reading.proofs.Rows.{add-law, sub-law, scale-law, cross-law, row-32, row-upto, psum-ext}
 use Rattle.reading.proofs.Floors.{zero-row}
-use Rattle.poly.specs.Leaf.{Both, Given, Summed, Difference, Opposite, ScaleIn, Scaled, CrossIn, Crossed, Listed}
+use Rattle.poly.specs.Leaf.{Both, Summed, Difference, Opposite, ScaleIn, Scaled, CrossIn, Crossed, Listed}
 
 -- a product of two numbers at most 2^31
 pub small-mul : (a b : ℕ) → a ≤ 2147483648 → b ≤ 2147483648 → a * b ≤ 4611686018427387904

@@ -1,18 +1,17 @@
 -- The sums behind one coefficient of a product, and the product.
-use mathlib.Core.Path.{_≡_, refl, sym, ap, _∙_, subst}
+use mathlib.Core.Path.{_≡_, sym, ap, _∙_, subst}
 use mathlib.Core.List.{List}
-use Prim.Native.Nat.{ℕ, zero, suc, _+_, _*_, _-_, _%_, _<_, _≤_, min}
+use Prim.Native.Nat.{ℕ, _+_, _*_, _-_, _%_, _<_, _≤_, min}
 use native.Mathlib.Nat.{mod-lt, mod-add-mod, add-mod-mod, add-assoc, mul-zero, zero-mod}
 use native.Mathlib.Numerals.{add-one}
 use native.Mathlib.Omega.{arith}
 use lib.ListN.{getD}
 use Rattle.reading.specs.Made.{reading}
-use Rattle.reading.specs.Row.{tab, Row, Size, row, shiftAt}
+use Rattle.reading.specs.Row.{tab, Row, Size, row}
 use Rattle.reading.specs.Sum.{sumTo, termAt}
 use Rattle.reading.proofs.Tab.{tab-row, shift-low, shift-high, Begun, begun-end}
 use Rattle.reading.proofs.Product.{mul-law, sum-more, sum-skip, sum-none}
 use Rattle.poly.specs.Leaf.{MulIn, Product}
-use Rattle.poly.specs.Terms.{PlaceIn}
 
 -- one more term, where s and r are sums up to a multiple of p
 pub part-more : (p : ℕ) (f : ℕ → ℕ) (from i s t r : ℕ) → (sumTo f from + s) % p ≡ sumTo f i % p → r % p ≡ (s + t) % p → t ≡ f i → (sumTo f from + r) % p ≡ sumTo f (i + 1) % p

@@ -9,14 +9,11 @@ use mathlib.Core.Bool.{Bool, true, false}
 use mathlib.Core.List.{List}
 use Prim.Native.Nat.{ℕ}
 use Rattle.fp.specs.Fp.{Prime}
-use Rattle.valued.specs.Val.{Valued}
 use Rattle.valued.specs.Polynomial.{Poly, Squarefree, Coprime}
 use Rattle.valued.specs.Factor.{SquareFactor, CommonFactor}
 use Rattle.valued.specs.Gcd.{IsGcd}
 use Rattle.residue.specs.Residue.{Modulus}
-use Rattle.reading.specs.Reading.{Reading}
 use Rattle.reading.specs.Made.{reading, derivation}
-use Rattle.reading.specs.Derivation.{Derivation}
 use Rattle.reading.specs.Row.{Row, row}
 use Rattle.reading.proofs.Rows.{row-poly}
 

@@ -306,15 +306,21 @@ pub fn gcd(p: u64, a: &[u64; 32], b: &[u64; 32]) -> [u64; 32]
 }
 
 // Whether no square of a polynomial that is not constant divides x: whether x and its derivative have a constant for greatest common
-// divisor. Where the derivative of a non-constant x is 0, that is x itself.
+// divisor. Where the derivative is 0, x is a p-th power and its own greatest common divisor with it.
 pub fn squarefree(p: u64, x: &[u64; 32]) -> bool
     requires { ⌜ Over p (now x) ⌝ }
     ensures { λ r. ⌜ SquareTest p (now (x .entry)) r ⌝ }
 {
     let d = derivative(p, x);
-    let g = gcd(p, x, &d);
-    let n = size(&g);
-    if n == 1 { true } else { false }
+    let m = size(&d);
+    if m == 0 {
+        let k = size(x);
+        if k == 1 { true } else { false }
+    } else {
+        let g = gcd(p, x, &d);
+        let n = size(&g);
+        if n == 1 { true } else { false }
+    }
 }
 
 // Whether no polynomial that is not constant divides both.

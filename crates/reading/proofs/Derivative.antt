@@ -7,13 +7,13 @@ use mathlib.Core.Path.{_≡_, refl, sym, ap, ap₂, _∙_}
 use mathlib.Core.List.{List, [], _∷_}
 use Prim.Native.Nat.{ℕ, zero, suc, _≤_, _<_, _%_}
 use Prim.Native.Nat as N
-use native.Mathlib.Nat.{mul-zero, zero-mod}
+use native.Mathlib.Nat.{mul-zero}
 use native.Mathlib.Numerals.{add-one}
 use native.Mathlib.Omega.{arith}
 use lib.ListN.{length, getD, List·getD-eq-default}
 use Rattle.ring.proofs.Laws as r
-use Rattle.ring.specs.Ring.{Ops, CRing}
-use Rattle.ring.proofs.Solve.{var, one, zer, minus, _:+_, _:*_, solve, solve-by, hyp}
+use Rattle.ring.specs.Ring.{Ops}
+use Rattle.ring.proofs.Solve.{var, one, zer, minus, _:+_, _:*_, solve}
 use Rattle.valued.specs.Val.{Valued}
 use Rattle.valued.specs.Degree.{Lt}
 use Rattle.valued.proofs.Degree.{lead-eq, lt-eq, lt-add, lt-up}
@@ -21,7 +21,7 @@ use Rattle.reading.specs.Reading.{Reading}
 use Rattle.reading.specs.Derivation.{Derivation}
 use Rattle.reading.specs.Row.{tab, tpow, psum, coefs, row}
 use Rattle.reading.proofs.Rows.{tpow-lead, tpow-poly, psum-cut, psum-ext, row-tab, row-32, const-zero}
-use Rattle.reading.proofs.Turn.{lt-scale, lead-shift}
+use Rattle.reading.proofs.Turn.{lt-scale}
 
 module _ {p : ℕ} (ρ : Reading p) (δ : Derivation ρ) where
   open Reading ρ using (𝓥, cast)

@@ -7,19 +7,16 @@ use Prim.Native.Nat.{ℕ, zero, suc, _≤_, _<_}
 use Prim.Native.Nat as N
 use native.Mathlib.Nat.{zero-add, add-zero, suc-add}
 use native.Mathlib.Omega.{arith}
-use native.Mathlib.Decide.{decLt, decLe, ℕ-discrete}
+use native.Mathlib.Decide.{decLe, ℕ-discrete}
 use lib.ListN.{length, getD, List·getD-eq-default}
-use Rattle.ring.proofs.Laws as r
-use Rattle.ring.specs.Ring.{Ops, CRing}
-use Rattle.ring.proofs.Solve.{var, one, zer, minus, _:+_, _:*_, _:-_, hyp, solve, solve-by}
+use Rattle.ring.specs.Ring.{Ops}
+use Rattle.ring.proofs.Solve.{var, zer, minus, _:+_, _:*_, solve}
 use Rattle.valued.specs.Val.{Valued}
 use Rattle.valued.specs.Degree.{Has, Lt}
 use Rattle.valued.proofs.Degree.{lead-eq, lt-eq, lt-add, lt-neg, lt-up, above, lt-cancel}
 use Rattle.reading.specs.Reading.{Reading}
-use Rattle.reading.specs.Row.{tab, Row, Size, fallAt, tpow, psum, coefs, row, Floor, Reads}
-use Rattle.reading.proofs.Tab.{at-tab, length-tab}
-use Rattle.reading.proofs.Rows.{tpow-add, tpow-lead, psum-ext, psum-cut, psum-lt, cast-sub, const-neg, size-lt, size-lead, size-top, size-le, row-cut, row-tab}
-use Rattle.reading.proofs.Turn.{comb, lt-scale}
+use Rattle.reading.specs.Row.{tab, Row, Size, fallAt, tpow, psum, row, Floor, Reads}
+use Rattle.reading.proofs.Rows.{tpow-add, tpow-lead, psum-ext, psum-cut, psum-lt, size-lt, size-lead, size-top, size-le, row-cut, row-tab}
 
 pub fall-in : (s : List ℕ) (d j : ℕ) → j ≤ d → fallAt s d j ≡ getD s (N._-_ d j) 0
 unfolding fallAt
@@ -90,47 +87,7 @@ module _ {p : ℕ} (ρ : Reading p) where
   floor-le {z} {l} {n} b g h s w =
       size-le ρ b g s (lt-eq 𝓥 (lt-add 𝓥 w (lt-neg 𝓥 (lt-up 𝓥 b h (omega arith)))) (solve L (var 0 :+ minus (var 0 :+ minus (var 1))) (var 1) tt (z ∷ row ρ l ∷ [])))
 
-  -- ---- the code's sums of polynomial parts
-  pub one-const : const (cast 1) ≡ 𝟏
-  one-const = ap const (ρ .cast-one) ∙ ρ .const-one
-
-  -- x − (p − c) y is x + c y
-  minus-of : (c : ℕ) → c ≤ p → (x y : L .El) → comb ρ (cast 1) (cast (N._-_ p c)) 0 x y ≡ x + const (cast c) * y
-  unfolding tpow
-  minus-of c l x y =
-      ap₂ (λ a b. a * x + - (b * (𝟏 * y))) one-const (ap const (cast-sub ρ c l) ∙ const-neg ρ (cast c))
-      ∙ solve L (one :* var 0 :+ minus (minus (var 2) :* (one :* var 1))) (var 0 :+ var 2 :* var 1) tt (x ∷ y ∷ const (cast c) ∷ [])
-
-  -- x − (p − c) t^k y is x + c t^k y
-  pub plus-of : (c k : ℕ) → c ≤ p → (x y : L .El) → comb ρ (cast 1) (cast (N._-_ p c)) k x y ≡ x + const (cast c) * (tpow ρ k * y)
-  plus-of c k l x y =
-      ap₂ (λ a b. a * x + - (b * (tpow ρ k * y))) one-const (ap const (cast-sub ρ c l) ∙ const-neg ρ (cast c))
-      ∙ solve L (one :* var 0 :+ minus (minus (var 2) :* var 1)) (var 0 :+ var 2 :* var 1) tt (x ∷ tpow ρ k * y ∷ const (cast c) ∷ [])
-
-  pub sum-of : (x y : L .El) → 1 ≤ p → comb ρ (cast 1) (cast (N._-_ p 1)) 0 x y ≡ x + y
-  sum-of x y l = minus-of 1 l x y ∙ ap (λ a. x + a * y) one-const ∙ ap (λ a. x + a) (r.one-mul L y)
-
-  pub difference-of : (x y : L .El) → comb ρ (cast 1) (cast 1) 0 x y ≡ x + - y
-  unfolding tpow
-  difference-of x y = ap₂ (λ a b. a * x + - (b * (𝟏 * y))) one-const one-const ∙ solve L (one :* var 0 :+ minus (one :* (one :* var 1))) (var 0 :+ minus (var 1)) tt (x ∷ y ∷ [])
-
-  -- one more term of b z
-  pub floor-start : (z : L .El) (b l : List ℕ) → row ρ l ≡ 𝟎 → Floor ρ (psum ρ 0 (coefs ρ b) * z) l
-  unfolding psum
-  floor-start z b l e = lead-eq 𝓥 (𝓥 .lead-zero 0 0) (solve L zer (zer :* var 0 :+ minus zer) tt (z ∷ []) ∙ ap (λ x. 𝟎 * z + - x) (sym e)) refl
-
-  pub floor-more : (z : L .El) (b acc v acc′ : List ℕ) (i : ℕ) → getD b i 0 ≤ p → Floor ρ (psum ρ i (coefs ρ b) * z) acc → Floor ρ (tpow ρ i * z) v
-      → row ρ acc′ ≡ comb ρ (cast 1) (cast (N._-_ p (getD b i 0))) 0 (row ρ acc) (row ρ v) → Floor ρ (psum ρ (suc i) (coefs ρ b) * z) acc′
-  unfolding psum
-  floor-more z b acc v acc′ i l h g e =
-      lt-eq 𝓥 (lt-add 𝓥 h (lt-scale ρ (cast (getD b i 0)) g))
-      (solve L (var 0 :* var 1 :+ minus (var 2) :+ var 3 :* (var 4 :* var 1 :+ minus (var 5))) ((var 0 :+ var 3 :* var 4) :* var 1 :+ minus (var 2 :+ var 3 :* var 5)) tt
-      (psum ρ i (coefs ρ b) ∷ z ∷ row ρ acc ∷ const (cast (getD b i 0)) ∷ tpow ρ i ∷ row ρ v ∷ [])
-      ∙ ap (λ x. (psum ρ i (coefs ρ b) + const (cast (getD b i 0)) * tpow ρ i) * z + - x) (sym (e ∙ minus-of (getD b i 0) l (row ρ acc) (row ρ v))))
-
-  pub floor-end : (z : L .El) (b acc : List ℕ) (n : ℕ) → Size b n → Floor ρ (psum ρ n (coefs ρ b) * z) acc → Floor ρ (row ρ b * z) acc
-  floor-end z b acc n s h = lt-eq 𝓥 h (ap (λ x. x * z + - row ρ acc) (sym (row-cut ρ b n s)))
-
+  -- ---- sums of polynomial parts
   pub floor-add : {x y : L .El} (u v l : List ℕ) → Floor ρ x u → Floor ρ y v → row ρ l ≡ row ρ u + row ρ v → Floor ρ (x + y) l
   floor-add {x} {y} u v l h g e = lt-eq 𝓥 (lt-add 𝓥 h g) (solve L (var 0 :+ minus (var 2) :+ (var 1 :+ minus (var 3))) (var 0 :+ var 1 :+ minus (var 2 :+ var 3)) tt (x ∷ y ∷ row ρ u ∷ row ρ v ∷ []) ∙ ap (λ a. x + y + - a) (sym e))
 
@@ -189,16 +146,3 @@ module _ {p : ℕ} (ρ : Reading p) where
       (lt-up 𝓥 (N._+_ j 0) (lt-eq 𝓥 (lt-add 𝓥 (lt-up 𝓥 j h (omega arith)) (psum-lt ρ j (λ i. cast (fallAt s (N._+_ (N._+_ d k) j) i))))
       (ap₂ (λ a b. a * z + - b + low) (ap (tpow ρ) q ∙ tpow-add ρ j k) row-is
       ∙ solve L (var 0 :* var 1 :* var 2 :+ minus (var 0 :* var 3 :+ var 4) :+ var 4) (var 0 :* (var 1 :* var 2 :+ minus (var 3))) tt (tpow ρ j ∷ tpow ρ k ∷ z ∷ row ρ (tab 32 (fallAt s (N._+_ d k))) ∷ low ∷ []))) (omega arith))
-
-  -- ---- one more term of a product
-  pub product-more : (x acc y acc′ : List ℕ) (i : ℕ) → getD x i 0 ≤ p → row ρ acc ≡ psum ρ i (coefs ρ x) * row ρ y
-      → row ρ acc′ ≡ comb ρ (cast 1) (cast (N._-_ p (getD x i 0))) i (row ρ acc) (row ρ y) → row ρ acc′ ≡ psum ρ (suc i) (coefs ρ x) * row ρ y
-  unfolding psum
-  product-more x acc y acc′ i l h e =
-      e ∙ plus-of (getD x i 0) i l (row ρ acc) (row ρ y)
-      ∙ ap (λ a. a + const (cast (getD x i 0)) * (tpow ρ i * row ρ y)) h
-      ∙ solve L (var 0 :* var 1 :+ var 2 :* (var 3 :* var 1)) ((var 0 :+ var 2 :* var 3) :* var 1) tt (psum ρ i (coefs ρ x) ∷ row ρ y ∷ const (cast (getD x i 0)) ∷ tpow ρ i ∷ [])
-
-  pub product-start : (x y acc : List ℕ) → row ρ acc ≡ 𝟎 → row ρ acc ≡ psum ρ 0 (coefs ρ x) * row ρ y
-  unfolding psum
-  product-start x y acc e = e ∙ solve L zer (zer :* var 0) tt (row ρ y ∷ [])

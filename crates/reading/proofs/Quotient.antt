@@ -1,27 +1,27 @@
 -- Division of lists from the top. If from place m − 1 on the coefficients of a are those of q b, then a − q b lies below the degree
 -- of b, and q is the quotient where b divides a. One digit more makes them agree at one place more.
-use mathlib.Core.Path.{_≡_, refl, sym, ap, ap₂, _∙_, subst}
+use mathlib.Core.Path.{_≡_, sym, ap, ap₂, _∙_}
 use mathlib.Core.Logic.{_≢_}
 use mathlib.Core.List.{List, [], _∷_}
 use Prim.Native.Nat.{ℕ, zero, suc, _≤_, _<_, _%_}
 use Prim.Native.Nat as N
 use native.Mathlib.Nat.{mod-lt, mul-zero}
 use native.Mathlib.Omega.{arith}
-use native.Mathlib.Decide.{decLe, ℕ-discrete}
+use native.Mathlib.Decide.{ℕ-discrete}
 use lib.ListN.{length, getD, set, List·getD-eq-default}
 use lib.Seq.{getD-set-same, getD-set-other}
 use Rattle.ring.proofs.Laws as r
-use Rattle.ring.specs.Ring.{Ops, CRing}
-use Rattle.ring.proofs.Solve.{var, one, zer, minus, _:+_, _:*_, _:-_, hyp, solve, solve-by}
+use Rattle.ring.specs.Ring.{Ops}
+use Rattle.ring.proofs.Solve.{var, one, zer, minus, _:+_, _:*_, hyp, solve, solve-by}
 use Rattle.valued.specs.Val.{Valued}
 use Rattle.valued.specs.Degree.{Has, Lt}
 use Rattle.valued.proofs.Degree.{lt-eq, lt-up, lt-cancel}
 use Rattle.reading.specs.Reading.{Reading}
-use Rattle.reading.specs.Row.{Row, Size, shiftAt, psum, coefs, row}
+use Rattle.reading.specs.Row.{Size, shiftAt, psum, coefs, row}
 use Rattle.reading.specs.Sum.{sumTo, termAt}
-use Rattle.reading.proofs.Tab.{shift-low, shift-high}
-use Rattle.reading.proofs.Rows.{const-neg, cast-sub, psum-ext, psum-cut, psum-plus, psum-lt, row-32, row-upto, row-poly}
-use Rattle.reading.proofs.Product.{product-law, sum-ext, sum-more}
+use Rattle.reading.proofs.Tab.{shift-high}
+use Rattle.reading.proofs.Rows.{const-neg, cast-sub, psum-cut, psum-plus, psum-lt, row-32, row-upto}
+use Rattle.reading.proofs.Product.{product-law, sum-ext}
 
 -- a sum of which one term, that was 0, is changed
 pub sum-change : (f g : ℕ → ℕ) (k n : ℕ) → k < n → f k ≡ 0 → ((i : ℕ) → i ≢ k → g i ≡ f i) → sumTo g n ≡ N._+_ (sumTo f n) (g k)

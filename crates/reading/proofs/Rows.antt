@@ -153,6 +153,15 @@ module _ {p : ℕ} (ρ : Reading p) where
   pub size-has : {l : List ℕ} {d : ℕ} → Row p l → Size l (suc d) → Has 𝓥 (row ρ l) d
   size-has {l} {d} h s = (cast (getD l d 0), size-top h s, size-lead s)
 
+  -- the same at a trimmed length that is not 0
+  pub size-lead-at : {l : List ℕ} (n : ℕ) → Size l n → 0 < n → Lead (row ρ l) (N._-_ n 1) 0 (cast (getD l (N._-_ n 1) 0))
+  size-lead-at zero s u = absurd (omega arith)
+  size-lead-at {l} (suc d) s u = subst (λ j. Lead (row ρ l) j 0 (cast (getD l j 0))) (let e : d ≡ N._-_ (suc d) 1 = omega arith in e) (size-lead s)
+
+  pub size-has-at : {l : List ℕ} (n : ℕ) → Row p l → Size l n → 0 < n → Has 𝓥 (row ρ l) (N._-_ n 1)
+  size-has-at zero h s u = absurd (omega arith)
+  size-has-at {l} (suc d) h s u = subst (λ j. Has 𝓥 (row ρ l) j) (let e : d ≡ N._-_ (suc d) 1 = omega arith in e) (size-has h s)
+
   -- a bound of the degree bounds the trimmed length
   pub size-le : {l : List ℕ} {n : ℕ} (b : ℕ) → Row p l → Size l n → Lt 𝓥 (row ρ l) b → n ≤ b
   size-le {l} {n} b h s g = go n s

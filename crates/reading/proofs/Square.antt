@@ -4,20 +4,20 @@
 --   square-factor     a gcd g that is not constant gives one: where g′ = 0, g = f^p and f² divides G; else, with e = gcd(g, g′), the
 --                     polynomial k = g / e is not constant and k² divides G
 -- No irreducible polynomial is named.
-use mathlib.Core.Path.{_≡_, refl, sym, ap, ap₂, _∙_, subst}
-use mathlib.Core.Logic.{_≢_, _⊎_, inl, inr}
-use mathlib.Core.List.{List, [], _∷_}
-use Prim.Native.Nat.{ℕ, zero, suc, _≤_, _<_}
+use mathlib.Core.Path.{_≡_, sym, ap, _∙_}
+use mathlib.Core.Logic.{_⊎_, inl, inr}
+use mathlib.Core.List.{[], _∷_}
+use Prim.Native.Nat.{ℕ, zero, suc, _<_}
 use Prim.Native.Nat as N
 use native.Mathlib.Omega.{arith}
 use Rattle.ring.proofs.Laws as r
 use Rattle.ring.specs.Ring.{Ops, CRing}
 use Rattle.ring.specs.Power.{pow}
 use Rattle.ring.proofs.Power.{pow-suc}
-use Rattle.ring.proofs.Solve.{var, one, zer, minus, _:+_, _:*_, _:-_, hyp, solve, solve-by}
+use Rattle.ring.proofs.Solve.{var, one, minus, _:+_, _:*_, hyp, solve, solve-by}
 use Rattle.valued.specs.Val.{Valued}
-use Rattle.valued.specs.Degree.{Has, Lt}
-use Rattle.valued.specs.Polynomial.{polys, Poly, Divides, IsUnit, Squarefree}
+use Rattle.valued.specs.Degree.{Has}
+use Rattle.valued.specs.Polynomial.{polys, Poly, IsUnit, Squarefree}
 use Rattle.valued.specs.Factor.{Nonconstant, SquareFactor}
 use Rattle.valued.specs.Gcd.{IsGcd}
 use Rattle.valued.proofs.Degree.{has-not-zero, has-eq, has-mul, has-up, has-one, has-move, same, above}

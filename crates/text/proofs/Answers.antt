@@ -34,10 +34,11 @@ read-read : (line g h : List ℕ) (l m : Line) (g' h' g₂ h₂ : List ℕ) → 
 read-read line g h l m g' h' g₂ h₂ a b =
     let u = reads-unique (a .reads) (b .reads) in
     let n : l .ng ≡ m .ng = sym (a .count-G) ∙ ap length (u .1) ∙ b .count-G in
-    let k : l .nh ≡ m .nh = sym (a .count-H) ∙ ap length (u .2) ∙ b .count-H in
-    (ap Read (line-same l m (u .0) n k),
-    front-same (a .G) (b .G) g g' g₂ (l .ng) (m .ng) (u .1) n (a .front-G) (b .front-G),
-    front-same (a .H) (b .H) h h' h₂ (l .nh) (m .nh) (u .2) k (a .front-H) (b .front-H))
+    let k : l .nh ≡ m .nh = sym (a .count-H) ∙ ap length (u .2) ∙ b .count-H in (
+      ap Read (line-same l m (u .0) n k),
+      front-same (a .G) (b .G) g g' g₂ (l .ng) (m .ng) (u .1) n (a .front-G) (b .front-G),
+      front-same (a .H) (b .H) h h' h₂ (l .nh) (m .nh) (u .2) k (a .front-H) (b .front-H),
+    )
 
 pub parse-unique : (line g h : List ℕ) (r r₂ : Parsed) (g' h' g₂ h₂ : List ℕ) → ParseTells line g h r g' h' → ParseTells line g h r₂ g₂ h₂
     → (r ≡ r₂) × (g' ≡ g₂) × (h' ≡ h₂)

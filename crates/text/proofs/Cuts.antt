@@ -122,10 +122,12 @@ rest-drop c s at j h = elim (decLe (at + j) (length s)) [ yes p ↦ inside p | n
   where
     long : length (drop at s) ≡ length s - at
     long = length-drop at s
+
     inside : at + j ≤ length s → restAt c (drop at s) j ≡ restAt c s (at + j)
     inside p =
         let l : length (drop at s) ≡ length s - at = long in
         rest-in c (drop at s) j (omega arith) ∙ ap (pieces c) (drop-drop j at s) ∙ sym (rest-in c s (at + j) p)
+
     beyond : ¬ (at + j ≤ length s) → restAt c (drop at s) j ≡ restAt c s (at + j)
     beyond p =
         let l : length (drop at s) ≡ length s - at = long in
@@ -175,11 +177,12 @@ piece-at c s at e h q =
 
 -- ---- passing the pieces one after the other
 head-of : (n : ℕ) (ps : List (List ℕ)) {p : List ℕ} {qs : List (List ℕ)} → drop n ps ≡ p ∷ qs → (n < length ps) × (getD ps n [] ≡ p) × (drop (n + 1) ps ≡ qs)
-head-of n ps {p} {qs} e =
-    (let l : length (drop n ps) ≡ length ps - n = length-drop n ps in
-    let k : length (drop n ps) ≡ suc (length qs) = ap length e in omega arith,
-    ap (λ (j : ℕ). getD ps j []) (sym (add-zero n)) ∙ sym (getD-drop n ps 0 []) ∙ ap (λ (z : List (List ℕ)). getD z 0 []) e,
-    sym (drop-drop 1 n ps) ∙ ap (drop 1) e)
+head-of n ps {p} {qs} e = (
+  let l : length (drop n ps) ≡ length ps - n = length-drop n ps in
+      let k : length (drop n ps) ≡ suc (length qs) = ap length e in omega arith,
+  ap (λ (j : ℕ). getD ps j []) (sym (add-zero n)) ∙ sym (getD-drop n ps 0 []) ∙ ap (λ (z : List (List ℕ)). getD z 0 []) e,
+  sym (drop-drop 1 n ps) ∙ ap (drop 1) e,
+)
 
 pub record Passed (c : ℕ) (s : List ℕ) (n at : ℕ) : Type 0 where
   pub few : n ≤ at

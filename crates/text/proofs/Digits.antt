@@ -37,6 +37,7 @@ same-step f g n ih = elim (decLe 10 n) [ yes p ↦ more p | no p ↦ few p ]
   where
     more : 10 ≤ n → digitsOf (suc f) n ≡ digitsOf (suc g) n
     more p = of-more f n p ∙ ap (λ (z : List ℕ). z ++ (48 + n % 10) ∷ []) (ih p) ∙ sym (of-more g n p)
+
     few : ¬ (10 ≤ n) → digitsOf (suc f) n ≡ digitsOf (suc g) n
     few p = of-small (suc f) n (omega arith) ∙ sym (of-small (suc g) n (omega arith))
 

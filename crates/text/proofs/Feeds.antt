@@ -113,6 +113,7 @@ module _ {input : List ℕ} {lines : List Line} {k : List ℕ} {m : ℕ} (a : Ha
     where
       long : length k ≡ length k'
       long = sym (placed-same c)
+
       then : (J : List ℕ) → lines-of (length k') ((input ++ drop at s) ++ J) ≡ lines ++ lines-of (length k') ((a .x ++ upTo s at) ++ J)
       then J =
           subst (λ (n : ℕ). lines-of n ((input ++ drop at s) ++ J) ≡ lines ++ lines-of n ((a .x ++ upTo s at) ++ J)) long
@@ -128,6 +129,7 @@ module _ {input : List ℕ} {lines : List Line} {k : List ℕ} {m : ℕ} (a : Ha
     where
       long : length k ≡ length k'
       long = sym (placed-same (c .carried))
+
       step : (J : List ℕ) → lines-of (length k) ((input ++ part s at next) ++ J) ≡ (lines ++ l ∷ []) ++ lines-of (length k) J
       step J =
           ap (lines-of (length k)) (append-assoc input (part s at next) J)
@@ -137,6 +139,7 @@ module _ {input : List ℕ} {lines : List Line} {k : List ℕ} {m : ℕ} (a : Ha
           ∙ ap (λ (z : List ℕ). lines ++ lines-of (length k) z) (sym (append-assoc (a .x) (upTo s at) (newline ∷ J)))
           ∙ ap (λ (z : List Line). lines ++ z) (lines-next (length k) (a .x ++ upTo s at) J longer ∙ ap (λ (y : Line). y ∷ lines-of (length k) J) e)
           ∙ sym (append-assoc lines (l ∷ []) (lines-of (length k) J))
+
       then : (J : List ℕ) → lines-of (length k') ((input ++ part s at next) ++ J) ≡ (lines ++ l ∷ []) ++ lines-of (length k') ([] ++ J)
       then J = subst (λ (n : ℕ). lines-of n ((input ++ part s at next) ++ J) ≡ (lines ++ l ∷ []) ++ lines-of n J) long (step J)
 

@@ -33,8 +33,10 @@ more-digits s b ds d k h = elim (decLe (suc k) (length s)) [ yes p ↦ inside p 
   where
     long : length (s ++ b ∷ []) ≡ length s + 1
     long = length-append s (b ∷ [])
+
     inside : k < length s → Digit (getD (s ++ b ∷ []) k 0)
     inside p = subst Digit (sym (List·getD-append s (b ∷ []) 0 k p)) (ds k p)
+
     last : ¬ (k < length s) → Digit (getD (s ++ b ∷ []) k 0)
     last p =
         let l : length (s ++ b ∷ []) ≡ length s + 1 = long in
@@ -69,11 +71,13 @@ text-size (suc k) n h = elim (decLe 10 n) [ yes p ↦ more p (text-size k (n / 1
   where
     small : 10 ≤ n → n / 10 < 10 * 10 ^ k
     small p = let e : 10 ^ suc k ≡ 10 ^ k * 10 = pow-suc 10 k in omega arith
+
     more : 10 ≤ n → length (number-text (n / 10)) ≤ suc k → length (number-text n) ≤ suc (suc k)
     more p q =
         let e : length (number-text n) ≡ length (number-text (n / 10) ++ (48 + n % 10) ∷ []) = ap length (text-more n p) in
         let l : length (number-text (n / 10) ++ (48 + n % 10) ∷ []) ≡ length (number-text (n / 10)) + 1 = length-append (number-text (n / 10)) ((48 + n % 10) ∷ []) in
         omega arith
+
     few : ¬ (10 ≤ n) → length (number-text n) ≤ suc (suc k)
     few p = let e : length (number-text n) ≡ 1 = ap length (text-small n (omega arith)) in omega arith
 

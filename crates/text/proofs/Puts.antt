@@ -57,6 +57,7 @@ module _ (n : ℕ) (d : List ℕ) (at : ℕ) (x : List ℕ) (r : ℕ) (d' : List
           let u : r ≡ max at (min (at + length x) n) = a .next in
           let s : length (sets d at x) ≡ length d = length-sets d at x in
           sets-out (sets d at x) r y (omega arith) ∙ sym (sets-out (sets d at x) (at + length x) y (omega arith))
+
       inside : at + length x ≤ n → sets (sets d at x) r y ≡ sets (sets d at x) (at + length x) y
       inside l =
           let u : r ≡ max at (min (at + length x) n) = a .next in

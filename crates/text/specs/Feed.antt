@@ -13,11 +13,11 @@ use Rattle.text.specs.declared.cut.Step.the-variants.{Whole, Broken, Pen
 pub data Fed : List ℕ → List ℕ → ℕ → List Line → List ℕ → ℕ → Type 0 where
   start : {k : List ℕ} (s : List ℕ) → Fed [] s 0 [] k 0
   line-ends : {earlier s : List ℕ} {at : ℕ} {lines : List Line} {k : List ℕ} {m : ℕ} (m' next : ℕ) (k' : List ℕ)
-    → Fed earlier s at lines k m → CutTells k m s at (Whole m' next) k' → Fed earlier s next (lines ++ whole (take m' k') ∷ []) k' 0
+      → Fed earlier s at lines k m → CutTells k m s at (Whole m' next) k' → Fed earlier s next (lines ++ whole (take m' k') ∷ []) k' 0
   long-line-ends : {earlier s : List ℕ} {at : ℕ} {lines : List Line} {k : List ℕ} {m : ℕ} (next : ℕ) (k' : List ℕ)
-    → Fed earlier s at lines k m → CutTells k m s at (Broken next) k' → Fed earlier s next (lines ++ broken ∷ []) k' 0
+      → Fed earlier s at lines k m → CutTells k m s at (Broken next) k' → Fed earlier s next (lines ++ broken ∷ []) k' 0
   piece-ends : {earlier s : List ℕ} {at : ℕ} {lines : List Line} {k : List ℕ} {m : ℕ} (m' : ℕ) (k' : List ℕ) (t : List ℕ)
-    → Fed earlier s at lines k m → CutTells k m s at (Pending m') k' → Fed (earlier ++ s) t 0 lines k' m'
+      → Fed earlier s at lines k m → CutTells k m s at (Pending m') k' → Fed (earlier ++ s) t 0 lines k' m'
 
 unfoldable pub at-end : ℕ → List Line
 at-end zero = []

@@ -6,8 +6,8 @@
 use mathlib.Core.Path.{_≡_, sym, ap, _∙_}
 use mathlib.Core.List.{[], _∷_}
 use Rattle.ring.proofs.Laws as r
-use Rattle.ring.specs.Ring.{Ops, CRing}
-use Rattle.ring.proofs.Solve.{var, one, _:+_, _:*_, hyp, solve-by}
+use Rattle.ring.specs.Ring.{Ops}
+use Rattle.ring.proofs.Solve.{var, _:+_, _:*_, hyp, solve-by}
 use Rattle.valued.specs.Val.{Valued}
 use Rattle.valued.specs.Polynomial.{polys, Poly, Divides, IsUnit, Coprime}
 use Rattle.valued.specs.Factor.{Nonconstant, SquareFactor, CommonFactor}

@@ -1,4 +1,4 @@
--- 1.5: coprime and squarefree polynomials.
+-- Coprime and squarefree polynomials.
 use mathlib.Core.Path.{_≡_, sym, ap, ap₂, _∙_}
 use mathlib.Core.List.{[], _∷_}
 use Prim.Native.Nat.{ℕ}

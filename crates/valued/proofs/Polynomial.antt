@@ -11,7 +11,7 @@ use mathlib.Core.Logic.{_≢_, _⊎_, inl, inr}
 use Prim.Native.Nat.{ℕ, zero, suc, _+_ as _+ⁿ_}
 use native.Mathlib.Omega.{arith}
 use Rattle.ring.proofs.Laws as r
-use Rattle.ring.specs.Ring.{Ops, CRing}
+use Rattle.ring.specs.Ring.{Ops}
 use Rattle.ring.specs.Subring.{sub-path}
 use Rattle.ring.proofs.Solve.{one, zer, minus, _:+_, _:*_, _:=_, ring₁, ring₂, ring₃, ring₄}
 use Rattle.valued.specs.Val.{Valued}

@@ -2,7 +2,6 @@
 --   IsGcd a b d   d divides a and b, and is a sum of multiples of them; so what divides both divides d
 -- What it decides is in proofs/Coprime.antt.
 use mathlib.Core.Path.{_≡_}
-use Rattle.ring.specs.Ring.{CRing}
 use Rattle.valued.specs.Val.{Valued}
 use Rattle.valued.specs.Polynomial.{polys, Poly, Divides}
 

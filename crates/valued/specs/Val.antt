@@ -1,4 +1,4 @@
--- What the heart asks of the series: a field K of constants, a ring L whose elements may have a leading coefficient, and the polynomials
+-- What the theory asks of the series: a field K of constants, a ring L whose elements may have a leading coefficient, and the polynomials
 -- inside L. `Lead x p q c` says that the coefficient of x at t^(p − q) is c and that all above vanish. So
 --   Lead x p q 𝟎 is deg x < p − q, and Lead x p q c with c ≢ 𝟎 is deg x = p − q with leading coefficient c.
 -- Sums and products of elements are then sums and products of coefficients, and every fact about degrees is one about K.

@@ -1,9 +1,4 @@
 -- `poly::coprime` meets its contract: the trimmed length of the greatest common divisor.
-use mathlib.Core.Path.{_≡_, refl, sym, ap, _∙_}
-use mathlib.Core.List.{List}
-use Prim.Native.Nat.{ℕ, zero, suc, _≤_, _<_, _-_, _*_, _+_, _%_}
-use native.Mathlib.Omega.{arith}
-use lib.ListN.{length, getD}
 use Rattle.poly.proofs.Factors.{coprime-yes, coprime-no}
 use borrow.Author.Needs.{needs}
 use Rattle.poly.proofs.coprime.Statement.{statement}

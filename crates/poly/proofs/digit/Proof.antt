@@ -1,13 +1,11 @@
 -- `poly::digit` meets its contract: the terms left out are 0.
-use mathlib.Core.Path.{_≡_, refl, sym, ap, _∙_}
-use mathlib.Core.List.{List}
-use Prim.Native.Nat.{ℕ, zero, suc, _≤_, _<_, _-_, _*_, _+_, _%_}
+use mathlib.Core.Path.{ap}
+use Prim.Native.Nat.{_≤_, _<_, _-_, _*_, _+_, _%_}
 use native.Mathlib.Omega.{arith}
-use lib.ListN.{length, getD}
+use lib.ListN.{getD}
 use Prim.Native.Nat.{min}
 use mathlib.Core.Logic.{⊎-elim}
 use native.Mathlib.Nat.{mod-lt, mul-le-mul}
-use Rattle.reading.specs.Sum.{sumTo, termAt}
 use Rattle.poly.proofs.Division.{digit-sum}
 use borrow.Author.Needs.{needs}
 use Rattle.poly.proofs.digit.Statement.{statement}

@@ -1,9 +1,4 @@
 -- `poly::divide` meets its contract: r = a - q b.
-use mathlib.Core.Path.{_≡_, refl, sym, ap, _∙_}
-use mathlib.Core.List.{List}
-use Prim.Native.Nat.{ℕ, zero, suc, _≤_, _<_, _-_, _*_, _+_, _%_}
-use native.Mathlib.Omega.{arith}
-use lib.ListN.{length, getD}
 use Rattle.poly.proofs.Division.{divided}
 use borrow.Author.Needs.{needs}
 use Rattle.poly.proofs.divide.Statement.{statement}

@@ -1,9 +1,4 @@
 -- `poly::exact` meets its contract: a quotient with a rest of lower degree is the quotient where there is one.
-use mathlib.Core.Path.{_≡_, refl, sym, ap, _∙_}
-use mathlib.Core.List.{List}
-use Prim.Native.Nat.{ℕ, zero, suc, _≤_, _<_, _-_, _*_, _+_, _%_}
-use native.Mathlib.Omega.{arith}
-use lib.ListN.{length, getD}
 use Rattle.poly.proofs.Division.{exact-made}
 use borrow.Author.Needs.{needs}
 use Rattle.poly.proofs.exact.Statement.{statement}

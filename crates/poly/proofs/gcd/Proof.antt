@@ -1,12 +1,10 @@
 -- `poly::gcd` meets its contract: each turn is `euclid-swap` or `euclid-turn`, and a swap is never followed by a swap.
-use mathlib.Core.Path.{_≡_, refl, sym, ap, _∙_}
-use mathlib.Core.List.{List}
-use Prim.Native.Nat.{ℕ, zero, suc, _≤_, _<_, _-_, _*_, _+_, _%_}
+use mathlib.Core.Path.{_≡_}
+use Prim.Native.Nat.{_≤_, _<_, _-_, _*_, _+_}
 use native.Mathlib.Omega.{arith}
-use lib.ListN.{length, getD}
+use lib.ListN.{length}
 use Prim.Native.Nat.{min}
 use Rattle.poly.proofs.Factors.{Euclid, euclid-start, euclid-swap, euclid-room, euclid-less, euclid-turn, euclid-end}
-use borrow.Author.Needs.{needs}
 use Rattle.poly.proofs.gcd.Statement.{statement}
 use Rattle.poly.proofs.gcd.Tie as tie
 

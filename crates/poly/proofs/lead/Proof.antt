@@ -1,9 +1,8 @@
 -- `poly::lead` meets its contract: a row has one trimmed length.
-use mathlib.Core.Path.{_≡_, refl, sym, ap, _∙_}
-use mathlib.Core.List.{List}
-use Prim.Native.Nat.{ℕ, zero, suc, _≤_, _<_, _-_, _*_, _+_, _%_}
+use mathlib.Core.Path.{_≡_, sym, ap}
+use Prim.Native.Nat.{_-_}
 use native.Mathlib.Omega.{arith}
-use lib.ListN.{length, getD}
+use lib.ListN.{getD}
 use Rattle.poly.proofs.Leaf.{size-one}
 use borrow.Author.Needs.{needs}
 use Rattle.poly.proofs.lead.Statement.{statement}

@@ -1,11 +1,5 @@
 -- `poly::minus` meets its contract: 0 - x.
-use mathlib.Core.Path.{_≡_, refl, sym, ap, _∙_}
-use mathlib.Core.List.{List}
-use Prim.Native.Nat.{ℕ, zero, suc, _≤_, _<_, _-_, _*_, _+_, _%_}
-use native.Mathlib.Omega.{arith}
-use lib.ListN.{length, getD}
 use Rattle.poly.proofs.Leaf.{zeros-row, opposite}
-use borrow.Author.Needs.{needs}
 use Rattle.poly.proofs.minus.Statement.{statement}
 use Rattle.poly.proofs.minus.Tie as tie
 

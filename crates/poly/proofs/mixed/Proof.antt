@@ -1,9 +1,5 @@
 -- `poly::mixed` meets its contract: two products below 2^62.
-use mathlib.Core.Path.{_≡_, refl, sym, ap, _∙_}
-use mathlib.Core.List.{List}
-use Prim.Native.Nat.{ℕ, zero, suc, _≤_, _<_, _-_, _*_, _+_, _%_}
 use native.Mathlib.Omega.{arith}
-use lib.ListN.{length, getD}
 use Rattle.poly.proofs.Leaf.{small-mul}
 use borrow.Author.Needs.{needs}
 use Rattle.poly.proofs.mixed.Statement.{statement}

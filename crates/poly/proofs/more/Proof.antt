@@ -1,9 +1,6 @@
 -- `poly::more` meets its contract: a product below 2^62 and a sum below 2^63.
-use mathlib.Core.Path.{_≡_, refl, sym, ap, _∙_}
-use mathlib.Core.List.{List}
-use Prim.Native.Nat.{ℕ, zero, suc, _≤_, _<_, _-_, _*_, _+_, _%_}
+use Prim.Native.Nat.{_<_, _*_, _+_, _%_}
 use native.Mathlib.Omega.{arith}
-use lib.ListN.{length, getD}
 use native.Mathlib.Nat.{mod-lt, mod-mod}
 use Rattle.poly.proofs.Leaf.{small-mul}
 use borrow.Author.Needs.{needs}

@@ -1,9 +1,6 @@
 -- `poly::mul` meets its contract: a row filled up to the product's length, then `product`.
-use mathlib.Core.Path.{_≡_, refl, sym, ap, _∙_}
-use mathlib.Core.List.{List}
-use Prim.Native.Nat.{ℕ, zero, suc, _≤_, _<_, _-_, _*_, _+_, _%_}
+use Prim.Native.Nat.{_≤_, _-_, _+_, _%_}
 use native.Mathlib.Omega.{arith}
-use lib.ListN.{length, getD}
 use Rattle.reading.specs.Sum.{sumTo, termAt}
 use Rattle.reading.proofs.Tab.{Begun, begun-start, begun-more}
 use Rattle.poly.proofs.Terms.{product}

@@ -1,15 +1,8 @@
-use Prim.Native.Nat.{ℕ, zero, suc, _≤_, _<_, _-_, _*_, _+_, _%_}
-use mathlib.Core.Path.{_≡_, _∙_, sym, ap, refl, subst}
-use mathlib.Core.List.{List, [], _∷_, _++_}
+use mathlib.Core.Path.{_∙_, sym}
 use native.Mathlib.Omega.{arith}
-use native.Mathlib.Numerals.{add-one}
-use lib.ListN.{length, length-set, getD, set, replicate, take, drop}
 use native.Mathlib.Nat.{mod-eq-of-lt, mod-eq-sub-mod}
-use borrow.Author.Needs.{needs}
 use Rattle.poly.proofs.once.Statement.{statement}
 use Rattle.poly.proofs.once.Tie as tie
-use Rattle.poly.proofs.once.Reads as reads
-use Rattle.poly.proofs.once.Lts as lts
 
 returns : tie.Need-returns
 returns c = sym (mod-eq-of-lt (c .if1 .taken))

@@ -1,9 +1,8 @@
 -- `poly::part` meets its contract: each turn is `part-more`.
-use mathlib.Core.Path.{_≡_, refl, sym, ap, _∙_}
-use mathlib.Core.List.{List}
-use Prim.Native.Nat.{ℕ, zero, suc, _≤_, _<_, _-_, _*_, _+_, _%_}
+use mathlib.Core.Path.{_≡_, ap, _∙_}
+use Prim.Native.Nat.{_≤_, _<_, _-_, _*_, _+_, _%_}
 use native.Mathlib.Omega.{arith}
-use lib.ListN.{length, getD}
+use lib.ListN.{getD}
 use Rattle.reading.specs.Sum.{sumTo, termAt}
 use Rattle.poly.proofs.Terms.{part-more, term-is}
 use borrow.Author.Needs.{needs}

@@ -1,9 +1,8 @@
 -- `poly::quotient` meets its contract: each turn is `dividing-turn`.
-use mathlib.Core.Path.{_≡_, refl, sym, ap, _∙_}
-use mathlib.Core.List.{List}
-use Prim.Native.Nat.{ℕ, zero, suc, _≤_, _<_, _-_, _*_, _+_, _%_}
+use mathlib.Core.Path.{_≡_}
+use Prim.Native.Nat.{_≤_, _<_, _-_, _+_}
 use native.Mathlib.Omega.{arith}
-use lib.ListN.{length, getD}
+use lib.ListN.{length}
 use mathlib.Core.Logic.{⊎-elim}
 use Rattle.poly.proofs.Division.{Dividing, dividing-start, dividing-digit, dividing-turn, dividing-end}
 use borrow.Author.Needs.{needs}

@@ -1,9 +1,6 @@
 -- `poly::shifted` meets its contract.
-use mathlib.Core.Path.{_≡_, refl, sym, ap, _∙_}
-use mathlib.Core.List.{List}
-use Prim.Native.Nat.{ℕ, zero, suc, _≤_, _<_, _-_, _*_, _+_, _%_}
+use mathlib.Core.Path.{sym}
 use native.Mathlib.Omega.{arith}
-use lib.ListN.{length, getD}
 use Rattle.reading.proofs.Tab.{shift-low, shift-high}
 use borrow.Author.Needs.{needs}
 use Rattle.poly.proofs.shifted.Statement.{statement}

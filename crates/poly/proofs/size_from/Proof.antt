@@ -1,15 +1,10 @@
-use Prim.Native.Nat.{ℕ, zero, suc, _≤_, _<_, _-_, _*_, _+_, _%_}
-use mathlib.Core.Path.{_≡_, _∙_, sym, ap, refl, subst}
-use mathlib.Core.List.{List, [], _∷_, _++_}
+use Prim.Native.Nat.{ℕ, _≤_, _-_}
+use mathlib.Core.Path.{_≡_, _∙_, ap}
 use native.Mathlib.Omega.{arith}
-use native.Mathlib.Numerals.{add-one}
-use lib.ListN.{length, length-set, getD, set, replicate, take, drop}
+use lib.ListN.{length, getD}
 use native.Mathlib.Decide.{ℕ-discrete}
-use borrow.Author.Needs.{needs}
 use Rattle.poly.proofs.size_from.Statement.{statement}
 use Rattle.poly.proofs.size_from.Tie as tie
-use Rattle.poly.proofs.size_from.Reads as reads
-use Rattle.poly.proofs.size_from.Lts as lts
 
 abbrev Inv-loop : tie.InvT-loop
 Inv-loop x n m₀ m = (m ≤ 32) × ((i : ℕ) → m ≤ i → getD x i 0 ≡ 0)

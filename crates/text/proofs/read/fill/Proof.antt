@@ -54,10 +54,11 @@ loop-less c = let h = c .before .before .find .ensures in omega arith
 
 loop-again : tie.Need-loop-again Inv-loop μ-loop
 loop-again c = let s = c .before .before .before .before .before .before .before .args .s .now in
-    let e = passed-piece comma s (c .before .before .before .before .loop .n) (c .before .before .before .before .loop .at) (c .before .before .find .result) (c .before .before .before .before .loop .inv .0) (omega arith) (c .before .before .find .ensures) in
-    (passed-more comma s (c .before .before .before .before .loop .n) (c .before .before .before .before .loop .at) (c .before .before .find .result) (c .before .before .before .before .loop .inv .0) (omega arith) (c .before .before .find .ensures),
-    filling-more s (c .before .before .before .before .before .before .before .args .out .now) (c .before .before .before .before .loop .out) (c .before .before .before .before .loop .n) (c .value-of .result) (passed-in comma s (c .before .before .before .before .loop .n) (c .before .before .before .before .loop .at) (c .before .before .find .result) (c .before .before .before .before .loop .inv .0) (omega arith) (c .before .before .find .ensures)) (c .before .before .before .before .before .before .before .pre)
-    (λ m r. c .value-of .ensures m (subst (λ z. Number z m) e r)) (c .before .before .before .before .loop .inv .1))
+    let e = passed-piece comma s (c .before .before .before .before .loop .n) (c .before .before .before .before .loop .at) (c .before .before .find .result) (c .before .before .before .before .loop .inv .0) (omega arith) (c .before .before .find .ensures) in (
+      passed-more comma s (c .before .before .before .before .loop .n) (c .before .before .before .before .loop .at) (c .before .before .find .result) (c .before .before .before .before .loop .inv .0) (omega arith) (c .before .before .find .ensures),
+      filling-more s (c .before .before .before .before .before .before .before .args .out .now) (c .before .before .before .before .loop .out) (c .before .before .before .before .loop .n) (c .value-of .result) (passed-in comma s (c .before .before .before .before .loop .n) (c .before .before .before .before .loop .at) (c .before .before .find .result) (c .before .before .before .before .loop .inv .0) (omega arith) (c .before .before .find .ensures)) (c .before .before .before .before .before .before .before .pre)
+          (λ m r. c .value-of .ensures m (subst (λ z. Number z m) e r)) (c .before .before .before .before .loop .inv .1),
+    )
 
 same-length : tie.Need-same-length Inv-loop μ-loop
 same-length c = c .before .loop .inv .1 .same
