@@ -143,7 +143,8 @@ pub fn random(seed: u64, count: usize) -> (usize, usize) {
     for _ in 0..count {
         let p = if n.below(8) == 0 { n.below(70000) } else { PRIMES[n.below(12) as usize] };
         let mut g = some_list(&mut n, p.max(2), 14);
-        let mut h = some_list(&mut n, p.max(2), if n.below(2) == 0 { 3 } else { 14 });
+        let longest = if n.below(2) == 0 { 3 } else { 14 };
+        let mut h = some_list(&mut n, p.max(2), longest);
         if n.below(10) == 0 && !g.is_empty() && g.len() < 6 {
             let d = some_list(&mut n, p.max(2), 4);
             if !d.is_empty() && !h.is_empty() && h.len() < 6 {
