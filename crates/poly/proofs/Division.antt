@@ -20,6 +20,7 @@ use Rattle.reading.proofs.Floors.{sized}
 use Rattle.reading.proofs.Product.{sum-none, sum-skip}
 use Rattle.reading.proofs.Quotient.{Agree, agree-more, agree-end, exact-law}
 use Rattle.poly.specs.Leaf.{Product, Difference}
+use Rattle.poly.specs.Terms.{Ready}
 use Rattle.poly.specs.Division.{DivIn, Quotient, Exact, Divided, DigitIn, Digit}
 use Rattle.poly.proofs.Leaf.{size-one, zeros-row}
 use Rattle.poly.proofs.Terms.{term-past}
@@ -29,9 +30,9 @@ term-zero : (q b : List ℕ) (k i : ℕ) → getD q i 0 ≡ 0 → termAt q b k i
 term-zero q b k i z = ap (λ x. x * shiftAt b i k) z ∙ zero-mul (shiftAt b i k)
 
 -- the run of terms that the code adds is the whole sum
-pub digit-sum : (p : ℕ) (a q b : List ℕ) (m il top k to r : ℕ) → DigitIn p a q b m il top k → to ≤ 32 → min (k + (m - 1) + 1) top ≤ to
+pub digit-sum : (p mul lim : ℕ) (a q b : List ℕ) (m il top k to r : ℕ) → DigitIn p mul lim a q b m il top k → to ≤ 32 → min (k + (m - 1) + 1) top ≤ to
     → (sumTo (termAt q b (k + (m - 1))) (k + 1) + r) % p ≡ sumTo (termAt q b (k + (m - 1))) to % p → r % p ≡ sumTo (termAt q b (k + (m - 1))) 32 % p
-digit-sum p a q b m il top k to r h l u g =
+digit-sum p mul lim a q b m il top k to r h l u g =
     let f = termAt q b (k + (m - 1)) in
     let e : sumTo f (k + 1) ≡ 0 = sum-none f (k + 1) (λ i w. term-zero q b (k + (m - 1)) i (h .low i (omega arith))) in
     ap (λ z. z % p) (let o : r ≡ sumTo f (k + 1) + r = omega arith in o)
@@ -70,9 +71,10 @@ dividing-start p a b il n m top h sa sb l fits =
     }
 
 module _ {p : ℕ} {a b : List ℕ} {il m top : ℕ} {q : List ℕ} {k : ℕ} (h : DivIn p a b il) (d : Dividing p a b il m top q k) (u : 0 < k) where
-  pub dividing-digit : DigitIn p a q b m il top (k - 1)
-  dividing-digit = record {
+  pub dividing-digit : (mul lim : ℕ) → Ready p mul lim → DigitIn p mul lim a q b m il top (k - 1)
+  dividing-digit mul lim ready = record {
     modulus = h .modulus;
+    ready = ready;
     ha = h .ha;
     hq = d .hq;
     hb = h .hb;

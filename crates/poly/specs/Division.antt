@@ -12,6 +12,7 @@ use Rattle.residue.specs.Residue.{Modulus}
 use Rattle.reading.specs.Made.{reading}
 use Rattle.reading.specs.Row.{Row, Size, row}
 use Rattle.reading.specs.Sum.{sumTo, termAt}
+use Rattle.poly.specs.Terms.{Ready}
 
 pub record DivIn (p : ℕ) (a b : List ℕ) (il : ℕ) : Type 0 where
   pub modulus : Modulus p
@@ -37,8 +38,9 @@ pub record Divided (p : ℕ) (a b q r : List ℕ) : Type 0 where
   pub low : (pr : Prime p) (n : ℕ) → let ρ = reading p pr in Has (ρ .𝓥) (row ρ b) n → Lt (ρ .𝓥) (row ρ r) n
 
 -- ---- one coefficient of the quotient, q_k, from those above it; the quotient has no more than top
-pub record DigitIn (p : ℕ) (a q b : List ℕ) (m il top k : ℕ) : Type 0 where
+pub record DigitIn (p mul lim : ℕ) (a q b : List ℕ) (m il top k : ℕ) : Type 0 where
   pub modulus : Modulus p
+  pub ready : Ready p mul lim
   pub ha : Row p a
   pub hq : Row p q
   pub hb : Row p b

@@ -2,18 +2,20 @@
 --   until-here, until-skip, until-past   `until` from a place on, byte by byte
 --   search-here, search-on               a search from place to place
 --   until-take, until-le                 it is the front of the text
+--   pieces-none, pieces-hit, pieces-miss   `pieces` byte by byte
 --   piece-at     the pieces from a place on: the one that ends at the next c, then those behind it
 --   rest-start, rest-none                from the start on, and past the end
 --   Passed c s n at   n pieces of s are passed, and the next begins at `at`; passed-none, passed-more, passed-end
-use mathlib.Core.Path.{_≡_, refl, sym, ap, _∙_, subst}
+use mathlib.Core.Path.{_≡_, refl, sym, ap, _∙_}
+use mathlib.Core.Logic.{_≢_}
 use mathlib.Core.Bool.{Bool, true, false}
-use mathlib.Core.List.{List, [], _∷_, _++_}
+use mathlib.Core.List.{List, [], _∷_}
 use Prim.Native.Nat.{ℕ, zero, suc, _+_, _-_, _≤_, _<_}
 use native.Mathlib.Nat.{add-zero}
 use native.Mathlib.Numerals.{add-one}
 use native.Mathlib.Decide.{decLe}
 use native.Mathlib.Omega.{arith}
-use lib.Dec.{eqb, leb, leb·suc-suc}
+use lib.Dec.{eqb, leb·suc-suc}
 use lib.ListN.{length, getD, take, drop, length-drop, drop-of-length-le}
 use lib.Seq.{drop-cons, drop-drop, getD-drop}
 use borrow.Author.Tests.{eq-eqb, ne-eqb, eqb-true, eqb-false, le-leb, lt-leb}
@@ -135,6 +137,18 @@ rest-drop c s at j h = elim (decLe (at + j) (length s)) [ yes p ↦ inside p | n
 
 piecesIf : ℕ → ℕ → List ℕ → Bool → List (List ℕ)
 piecesIf c x s b = elim b [ true ↦ [] ∷ pieces c s | false ↦ ahead x (pieces c s) ]
+
+pub pieces-hit : (c x : ℕ) (s : List ℕ) → x ≡ c → pieces c (x ∷ s) ≡ [] ∷ pieces c s
+unfolding pieces piecesIf
+pieces-hit c x s h = ap (piecesIf c x s) (eq-eqb x c h)
+
+pub pieces-miss : (c x : ℕ) (s : List ℕ) → x ≢ c → pieces c (x ∷ s) ≡ ahead x (pieces c s)
+unfolding pieces piecesIf
+pieces-miss c x s h = ap (piecesIf c x s) (ne-eqb x c h)
+
+pub pieces-none : (c : ℕ) → pieces c [] ≡ [] ∷ []
+unfolding pieces
+pieces-none c = refl
 
 pub pieces-until : (c : ℕ) (s : List ℕ) → pieces c s ≡ until c s ∷ restAt c s (length (until c s) + 1)
 unfolding pieces until piecesIf untilIf ahead

@@ -5,19 +5,17 @@
 --   value-text              the digits of n stand for n
 --   text-numeral            the digits of a number below 100,000 are a numeral
 --   numeral-text            a numeral is the digits of what it stands for
-use mathlib.Core.Path.{_≡_, refl, sym, ap, _∙_, subst}
-use mathlib.Core.Logic.{_≢_}
+use mathlib.Core.Path.{_≡_, refl, sym, ap, _∙_}
 use mathlib.Core.Bool.{Bool, true, false}
 use mathlib.Core.List.{List, [], _∷_, _++_}
 use Prim.Native.Nat.{ℕ, zero, suc, _+_, _-_, _*_, _/_, _%_, _^_, _≤_, _<_}
-use native.Mathlib.Nat.{add-zero, pow-suc, mul-le-mul-right}
-use native.Mathlib.Decide.{decLe, decLt}
+use native.Mathlib.Nat.{pow-suc, mul-le-mul-right}
+use native.Mathlib.Decide.{decLe}
 use native.Mathlib.Omega.{arith}
-use lib.Dec.{ltb, lit≤}
-use lib.ListN.{length, getD, take, drop, length-append, List·getD-append}
-use lib.Seq.{take-suc, take-length, getD-take, getD-at, length-take-le}
+use lib.Dec.{lit≤}
+use lib.ListN.{length, getD}
 use borrow.Author.Tests.{lt-ltb, le-ltb}
-use Rattle.text.specs.Grammar.{Digit, value, valueFrom, Numeral, Number}
+use Rattle.text.specs.Grammar.{Digit, value, valueFrom}
 use Rattle.text.specs.Print.{digitsOf, number-text}
 
 pick : (f n : ℕ) → Bool → List ℕ

@@ -2,7 +2,7 @@
 --   text-number     the digits of a number below 100,000 read as that number
 --   number-is-text  a text that reads as a number is the digits of that number
 --   number-below    what reads as a number is below 100,000
-use mathlib.Core.Path.{_≡_, refl, sym, ap, _∙_, subst}
+use mathlib.Core.Path.{_≡_, sym, ap, _∙_, subst}
 use mathlib.Core.Logic.{_≢_}
 use mathlib.Core.List.{List, [], _∷_, _++_}
 use Prim.Native.Nat.{ℕ, zero, suc, _+_, _-_, _*_, _/_, _%_, _^_, _≤_, _<_}
@@ -12,7 +12,7 @@ use native.Mathlib.Omega.{arith}
 use lib.ListN.{length, getD, take, length-append, List·getD-append}
 use lib.Seq.{take-suc, take-length, getD-take, getD-at, length-take-le}
 use Rattle.text.specs.Grammar.{Digit, value, valueFrom, Numeral, Number}
-use Rattle.text.specs.Print.{digitsOf, number-text}
+use Rattle.text.specs.Print.{number-text}
 use Rattle.text.proofs.Digits.{text-small, text-more, value-last, value-text, value-bound}
 
 abbrev Digits : List ℕ → Type 0

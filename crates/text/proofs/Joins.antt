@@ -3,35 +3,21 @@
 --   pieces-join    texts without the byte c, at least one, joined by it, have themselves as pieces
 --   Free c t       the byte c is not in t
 --   join-long      how long a joined text is at least; join-free: a byte that is in no piece is not in the joined text
-use mathlib.Core.Path.{_≡_, refl, sym, ap, _∙_, subst}
+use mathlib.Core.Path.{_≡_, refl, sym, ap, _∙_}
 use mathlib.Core.Logic.{_≢_}
 use mathlib.Core.Bool.{Bool, true, false}
-use mathlib.Core.List.{List, [], _∷_, _++_, map}
+use mathlib.Core.List.{List, [], _∷_, _++_}
 use Prim.Native.Nat.{ℕ, zero, suc, _+_, _*_, _≤_, _<_}
 use native.Mathlib.Omega.{arith}
 use lib.Dec.{eqb}
 use lib.ListN.{length, getD, length-append}
-use borrow.Author.Tests.{eq-eqb, ne-eqb, eqb-true, eqb-false}
+use borrow.Author.Tests.{eqb-true, eqb-false}
 use Rattle.text.specs.Pieces.{ahead, pieces}
 use Rattle.text.specs.Print.{join}
+use Rattle.text.proofs.Cuts.{pieces-none, pieces-hit, pieces-miss}
 
 abbrev pub Free : ℕ → List ℕ → Type 0
 Free c t = (k : ℕ) → k < length t → getD t k 0 ≢ c
-
-piecesIf : ℕ → ℕ → List ℕ → Bool → List (List ℕ)
-piecesIf c x s b = elim b [ true ↦ [] ∷ pieces c s | false ↦ ahead x (pieces c s) ]
-
-pub pieces-hit : (c x : ℕ) (s : List ℕ) → x ≡ c → pieces c (x ∷ s) ≡ [] ∷ pieces c s
-unfolding pieces piecesIf
-pieces-hit c x s h = ap (piecesIf c x s) (eq-eqb x c h)
-
-pub pieces-miss : (c x : ℕ) (s : List ℕ) → x ≢ c → pieces c (x ∷ s) ≡ ahead x (pieces c s)
-unfolding pieces piecesIf
-pieces-miss c x s h = ap (piecesIf c x s) (ne-eqb x c h)
-
-pub pieces-none : (c : ℕ) → pieces c [] ≡ [] ∷ []
-unfolding pieces
-pieces-none c = refl
 
 -- ---- a text of which the first piece is known
 pub pieces-free : (c : ℕ) (t : List ℕ) → Free c t → pieces c t ≡ t ∷ []

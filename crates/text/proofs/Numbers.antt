@@ -4,14 +4,14 @@
 --   Not-…         what rules a number out
 use mathlib.Core.Path.{_≡_, refl, sym, ap, _∙_, subst}
 use mathlib.Core.Logic.{_≢_}
-use mathlib.Core.List.{List, [], _∷_, _++_}
-use Prim.Native.Nat.{ℕ, zero, suc, _+_, _-_, _*_, _≤_, _<_}
+use mathlib.Core.List.{List, [], _∷_}
+use Prim.Native.Nat.{ℕ, _+_, _-_, _*_, _≤_, _<_}
 use native.Mathlib.Numerals.{add-one}
 use native.Mathlib.Omega.{arith}
 use lib.ListN.{length, getD, take}
 use lib.Seq.{take-suc, take-all, getD-take, length-take-le}
 use borrow.Author.Count.{below-more}
-use Rattle.text.specs.Grammar.{Digit, value, valueFrom, Numeral, Number}
+use Rattle.text.specs.Grammar.{Digit, value, valueFrom, Number}
 use Rattle.text.proofs.Digits.{value-last, value-small}
 
 pub record Sofar (s : List ℕ) (v i : ℕ) : Type 0 where

@@ -1,9 +1,10 @@
 -- One step of `cut`, in the terms of its contract.
 --   carried-upTo    what is carried up to the newline, or to the end
 --   cut-nothing     past the end nothing is carried
+--   whole-step, broken-step   what a caller of `cut` learns of places
 --   cut-unique      two outcomes are equal
-use mathlib.Core.Path.{_≡_, refl, sym, ap, _∙_, subst}
-use mathlib.Core.List.{List, [], _∷_}
+use mathlib.Core.Path.{_≡_, sym, ap, _∙_, subst}
+use mathlib.Core.List.{List}
 use Prim.Native.Nat.{ℕ, _+_, _-_, _≤_, _<_}
 use native.Mathlib.Omega.{arith}
 use lib.ListN.{length, take, drop}
@@ -12,7 +13,7 @@ use Rattle.text.specs.Tells.{Carried, upTo, CutAt, CutTells}
 use Rattle.text.specs.declared.cut.Step.{Step}
 use Rattle.text.specs.declared.cut.Step.the-variants.{Whole, Broken, Pending}
 use Rattle.text.proofs.Cuts.{piece, until-past}
-use Rattle.text.proofs.Puts.{placed-none, placed-unique}
+use Rattle.text.proofs.Puts.{placed-none, placed-same, placed-unique}
 
 pub carried-upTo : (k : List ℕ) (n : ℕ) (s : List ℕ) (at e m : ℕ) (k' : List ℕ) → e ≡ at + length (upTo s at)
     → Carried k n (take (e - at) (drop at s)) m k' → Carried k n (upTo s at) m k'
@@ -25,6 +26,23 @@ cut-nothing k n s at h =
 pub cut-at : (k : List ℕ) (n : ℕ) (s : List ℕ) (at e m : ℕ) (k' : List ℕ) → e ≡ at + length (upTo s at)
     → Carried k n (take (e - at) (drop at s)) m k' → CutAt k n s at m (e + 1) k'
 cut-at k n s at e m k' q a = record { carried = carried-upTo k n s at e m k' q a; place = ap (λ (z : ℕ). z + 1) q }
+
+-- ---- what a caller learns: a whole line is within the slice, and a step that ends a line goes forward
+pub whole-step : (k : List ℕ) (n : ℕ) (s : List ℕ) (at : ℕ) (k' : List ℕ) {r : Step} {m next : ℕ} → r ≡ Whole m next → CutTells k n s at r k'
+    → (m ≤ length k') × (at < next) × (next ≤ length s)
+whole-step k n s at k' {m = m} {next} e t =
+    let q : CutTells k n s at (Whole m next) k' = subst (λ (z : Step). CutTells k n s at z k') e t in
+    let l : length k' ≡ length k = placed-same (q .0 .carried) in
+    let p : next ≡ at + length (upTo s at) + 1 = q .0 .place in
+    let b : m ≤ length k = q .2 in
+    (omega arith, omega arith, q .1)
+
+pub broken-step : (k : List ℕ) (n : ℕ) (s : List ℕ) (at : ℕ) (k' : List ℕ) {r : Step} {next : ℕ} → r ≡ Broken next → CutTells k n s at r k'
+    → (at < next) × (next ≤ length s)
+broken-step k n s at k' {next = next} e t =
+    let q : CutTells k n s at (Broken next) k' = subst (λ (z : Step). CutTells k n s at z k') e t in
+    let p : next ≡ at + length (upTo s at) + 1 = q .1 .place in
+    (omega arith, q .2)
 
 -- ---- one outcome
 same-place : {k : List ℕ} {n : ℕ} {s : List ℕ} {at m next : ℕ} {k' : List ℕ} {m₂ next₂ : ℕ} {k₂ : List ℕ}

@@ -7,13 +7,12 @@
 --   reads-room        the lists of a line have at most 126 numbers
 --   reads-below       each number of a line is below 100,000
 use mathlib.Core.Path.{_≡_, refl, sym, ap, _∙_, subst}
-use mathlib.Core.Logic.{_≢_}
 use mathlib.Core.List.{List, [], _∷_, _++_, map, map-map}
 use Prim.Native.Nat.{ℕ, zero, suc, _+_, _*_, _≤_, _<_}
 use native.Mathlib.Omega.{arith}
-use lib.ListN.{length, getD, length-append, length-map}
+use lib.ListN.{length, getD, length-append}
 use Rattle.text.specs.Pieces.{pieces}
-use Rattle.text.specs.Grammar.{comma, semicolon, field, value, valueFrom, Digit, Numeral, Number, Listed, Reads}
+use Rattle.text.specs.Grammar.{comma, semicolon, field, value, Numeral, Number, Listed, Reads}
 use Rattle.text.specs.Print.{number-text, join, list-text, line-text}
 use Rattle.text.proofs.Digits.{value-text}
 use Rattle.text.proofs.Inverse.{text-numeral, text-number, numeral-text, number-is-text, number-below}

@@ -1,6 +1,6 @@
 -- `text::read::fill` meets its contract. The invariant: n pieces are passed, and their numbers stand in front of the slice.
-use Prim.Native.Nat.{ℕ, _+_, _-_, _≤_, _<_}
-use mathlib.Core.Path.{_≡_, subst}
+use Prim.Native.Nat.{_+_, _-_, _≤_}
+use mathlib.Core.Path.{subst}
 use native.Mathlib.Omega.{arith}
 use lib.ListN.{length}
 use Rattle.text.specs.Grammar.{comma, Number}

@@ -1,5 +1,5 @@
 -- `text::read::number` meets its contract.
-use Prim.Native.Nat.{_-_, _≤_, _<_}
+use Prim.Native.Nat.{_-_, _≤_}
 use native.Mathlib.Omega.{arith}
 use lib.ListN.{length, getD}
 use Rattle.text.proofs.Numbers.{Sofar, sofar-none, sofar-more, sofar-small, sofar-all, one-zero}
