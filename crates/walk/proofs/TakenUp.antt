@@ -11,8 +11,8 @@ use Rattle.ideals.specs.Ideal.{Basis}
 use Rattle.ideals.specs.Basis.{Good}
 use Rattle.chain.specs.Chain.{Chain, Closing, Open}
 use Rattle.chain.proofs.Walk.{same-chain, chain-then, prefix}
-use Rattle.record.specs.Roots.{Roots, setting}
-use Rattle.record.specs.Record.{basisOf, IsRecord}
+use Rattle.field.specs.Refusal.{Accepted}
+use Rattle.record.specs.Record.{setting, basisOf, IsRecord}
 use Rattle.walk.specs.declared.Walked.{Walked}
 use Rattle.walk.specs.Walk.{Reaches, Closes, StaysOpen, Closed, Spent}
 
@@ -57,7 +57,7 @@ module _ (p : ℕ) (G H : List ℕ) (n m : ℕ) (B : List ℕ) (is : IsRecord p 
     number = refl;
     closes = record {
       is-record = k .closes .is-record;
-      closing = λ σ. closing-then (setting σ) (basisOf σ B) (basisOf σ (v .basis)) (is .good σ) (first .reaches .chain σ) (first .none σ) (k .closes .closing σ);
+      closing = λ A. closing-then (setting A) (basisOf A B) (basisOf A (v .basis)) (is .good A) (first .reaches .chain A) (first .none A) (k .closes .closing A);
     };
   }
 
@@ -66,9 +66,9 @@ module _ (p : ℕ) (G H : List ℕ) (n m : ℕ) (B : List ℕ) (is : IsRecord p 
   spent-later w k = record {
     number = refl;
     all = refl;
-    none = λ σ. open-then (setting σ) (basisOf σ B) (basisOf σ (v .basis)) (is .good σ) (first .reaches .chain σ) (first .none σ) (k .reaches .chain σ) (k .none σ);
+    none = λ A. open-then (setting A) (basisOf A B) (basisOf A (v .basis)) (is .good A) (first .reaches .chain A) (first .none A) (k .reaches .chain A) (k .none A);
     reaches = record {
       is-record = k .reaches .is-record;
-      chain = λ σ. chain-then (setting σ) (first .reaches .chain σ) (k .reaches .chain σ);
+      chain = λ A. chain-then (setting A) (first .reaches .chain A) (k .reaches .chain A);
     };
   }

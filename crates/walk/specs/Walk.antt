@@ -12,10 +12,9 @@ use mathlib.Core.Logic.{_≢_}
 use mathlib.Core.List.{List}
 use Prim.Native.Nat.{ℕ, _≤_, _<_}
 use lib.ListN.{replicate}
-use Rattle.field.specs.Refusal.{Refusal}
+use Rattle.field.specs.Refusal.{Refusal, Accepted}
 use Rattle.chain.specs.Chain.{Chain, Closing, Open}
-use Rattle.record.specs.Roots.{Roots, setting}
-use Rattle.record.specs.Record.{basisOf, IsRecord}
+use Rattle.record.specs.Record.{setting, basisOf, IsRecord}
 use Rattle.walk.specs.declared.Walked.{Walked}
 
 -- "B is 0 to 1,000,000"
@@ -25,15 +24,15 @@ most = 1000000
 module _ (p : ℕ) (G H B : List ℕ) where
   pub record Reaches (s d : ℕ) (B′ : List ℕ) : Type 0 where
     pub is-record : IsRecord p G H B′
-    pub chain : (σ : Roots p G H) → Chain (setting σ) (basisOf σ B) s d (basisOf σ B′)
+    pub chain : (A : Accepted p G H) → Chain (setting A) (basisOf A B) s d (basisOf A B′)
 
   -- "until U = 1 after at least one step"
   pub record Closes (s d : ℕ) (B′ : List ℕ) : Type 0 where
     pub is-record : IsRecord p G H B′
-    pub closing : (σ : Roots p G H) → Closing (setting σ) (basisOf σ B) s d (basisOf σ B′)
+    pub closing : (A : Accepted p G H) → Closing (setting A) (basisOf A B) s d (basisOf A B′)
 
   abbrev pub StaysOpen : ℕ → Type 0
-  StaysOpen n = (σ : Roots p G H) → Open (setting σ) (basisOf σ B) n
+  StaysOpen n = (A : Accepted p G H) → Open (setting A) (basisOf A B) n
 
 abbrev pub blank : List ℕ
 blank = replicate 119 0
