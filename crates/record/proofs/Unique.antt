@@ -18,8 +18,8 @@ use Rattle.ideals.specs.Setting.{P}
 use Rattle.ideals.specs.Ideal.{Basis}
 use Rattle.ideals.specs.Next.{Same}
 use Rattle.ideals.proofs.Unique.{good-unique}
-use Rattle.record.specs.Roots.{Roots, setting}
-use Rattle.record.specs.Record.{part, polyOf, basisOf, IsRecord}
+use Rattle.field.specs.Refusal.{Accepted}
+use Rattle.record.specs.Record.{part, setting, polyOf, basisOf, IsRecord}
 
 pub part-below : {p : ℕ} (B : List ℕ) → ((i : ℕ) → getD B i 0 < p) → (i j : ℕ) → getD (part i B) j 0 < p
 part-below {p} B h i j = elim (decLt j 17) [
@@ -27,9 +27,9 @@ part-below {p} B h i j = elim (decLt j 17) [
   | no l ↦ subst (λ x. x < p) (sym (past-tab 17 (λ j. getD B (17 * i + j) 0) j (omega arith))) (omega (arith, h 0))
 ]
 
-module _ {p : ℕ} {G H : List ℕ} (σ : Roots p G H) where
+module _ {p : ℕ} {G H : List ℕ} (A : Accepted p G H) where
   -- the i-th of the seven
-  piece : Basis (setting σ) → ℕ → P (setting σ)
+  piece : Basis (setting A) → ℕ → P (setting A)
   piece B zero = B .M .a
   piece B (suc zero) = B .M .b
   piece B (suc (suc zero)) = B .M .c
@@ -38,7 +38,7 @@ module _ {p : ℕ} {G H : List ℕ} (σ : Roots p G H) where
   piece B (suc (suc (suc (suc (suc zero))))) = B .N .c
   piece B (suc (suc (suc (suc (suc (suc i)))))) = B .U
 
-  piece-is : (B : List ℕ) (i : ℕ) → i < 7 → piece (basisOf σ B) i ≡ polyOf σ (part i B)
+  piece-is : (B : List ℕ) (i : ℕ) → i < 7 → piece (basisOf A B) i ≡ polyOf A (part i B)
   unfolding piece
   piece-is B zero l = refl
   piece-is B (suc zero) l = refl
@@ -49,11 +49,11 @@ module _ {p : ℕ} {G H : List ℕ} (σ : Roots p G H) where
   piece-is B (suc (suc (suc (suc (suc (suc zero)))))) l = refl
   piece-is B (suc (suc (suc (suc (suc (suc (suc i))))))) l = absurd (omega arith)
 
-  pub basis-unique : (B B′ : List ℕ) → IsRecord p G H B → IsRecord p G H B′ → basisOf σ B ≡ basisOf σ B′ → B ≡ B′
+  pub basis-unique : (B B′ : List ℕ) → IsRecord p G H B → IsRecord p G H B′ → basisOf A B ≡ basisOf A B′ → B ≡ B′
   basis-unique B B′ h h′ e = ext-getD 0 B B′ (h .size ∙ sym (h′ .size)) at
     where
       rows : (i : ℕ) → i < 7 → part i B ≡ part i B′
-      rows i l = list-unique (reading p (σ .acc .prime)) (part i B) (part i B′)
+      rows i l = list-unique (reading p (A .prime)) (part i B) (part i B′)
           (length-tab 17 (λ j. getD B (17 * i + j) 0) ∙ sym (length-tab 17 (λ j. getD B′ (17 * i + j) 0)))
           (part-below B (h .each) i) (part-below B′ (h′ .each) i) (ap (λ z. z .0) (sym (piece-is B i l) ∙ ap (λ z. piece z i) e ∙ piece-is B′ i l))
 
@@ -67,5 +67,5 @@ module _ {p : ℕ} {G H : List ℕ} (σ : Roots p G H) where
           let il : i < 7 = omega arith in
           ap (λ n. getD B n 0) e₀ ∙ sym (at-tab 17 (λ j. getD B (17 * i + j) 0) j jl) ∙ ap (λ x. getD x j 0) (rows i il) ∙ at-tab 17 (λ j. getD B′ (17 * i + j) 0) j jl ∙ ap (λ n. getD B′ n 0) (sym e₀)
 
-  pub record-unique : (B B′ : List ℕ) → IsRecord p G H B → IsRecord p G H B′ → Same (setting σ) (basisOf σ B) (basisOf σ B′) → B ≡ B′
-  record-unique B B′ h h′ s = basis-unique B B′ h h′ (good-unique (setting σ) (basisOf σ B) (basisOf σ B′) (h .good σ) (h′ .good σ) s)
+  pub record-unique : (B B′ : List ℕ) → IsRecord p G H B → IsRecord p G H B′ → Same (setting A) (basisOf A B) (basisOf A B′) → B ≡ B′
+  record-unique B B′ h h′ s = basis-unique B B′ h h′ (good-unique (setting A) (basisOf A B) (basisOf A B′) (h .good A) (h′ .good A) s)

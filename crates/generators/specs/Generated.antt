@@ -1,0 +1,56 @@
+-- The generators of the next ideal (MATH.md 4.1): from the seven rows of a good basis, x1, y1, the pairs (−y2, x2)/g, (y0, −x0)/g and
+-- their denominator d/g.
+--   Given σ ..       the rows hold the field and a good basis of it; ie is 1/lead(e) = −lead(GH)
+--   GeneratorsIn     there are G, H and their series for which it is so
+--   Generated σ b o  o holds the parts of r m and w m and the pairs without their common factor (crate chain)
+use mathlib.Core.Path.{_≡_}
+use mathlib.Core.List.{List}
+use Prim.Native.Nat.{ℕ, _-_}
+use lib.ListN.{getD}
+use Rattle.ring.specs.Ring.{Ops, CRing}
+use Rattle.valued.specs.Val.{Valued}
+use Rattle.valued.specs.Degree.{Has}
+use Rattle.reading.specs.Reading.{Reading}
+use Rattle.reading.specs.Made.{reading}
+use Rattle.reading.specs.Row.{Row, Size, row}
+use Rattle.ideals.specs.Basis.{Good}
+use Rattle.chain.proofs.Parts.{Parts, Cut, x1, y1, base}
+use Rattle.field.specs.Refusal.{Accepted}
+use Rattle.record.specs.Record.{setting, polyOf}
+use Rattle.generators.specs.Rows.{Seven, AreRows, rowsOf, Holds}
+use Rattle.generators.specs.declared.Generators.{Generators}
+
+pub record GeneratorsIn (p : ℕ) (g h gh : List ℕ) (ie : ℕ) (b : Seven) : Type 0 where
+  pub hg : Row p g
+  pub hh : Row p h
+  pub hgh : Row p gh
+  pub rows : AreRows p b
+  pub inverse : (n : ℕ) → Size gh n → ie ≡ p - getD gh (n - 1) 0
+  pub G : List ℕ
+  pub H : List ℕ
+  pub σ : Accepted p G H
+  pub holds : Holds σ g h gh
+  pub good : Good (setting σ) (rowsOf σ b)
+
+module _ {p : ℕ} {G H : List ℕ} (σ : Accepted p G H) where
+  pub record Generated (b : Seven) (o : Generators) : Type 0 where
+    pub k : Parts (setting σ) (rowsOf σ b)
+    pub c : Cut (setting σ) (rowsOf σ b) k
+    pub x-is : polyOf σ (o .x) ≡ x1 (setting σ) (rowsOf σ b) k
+    pub y-is : polyOf σ (o .y) ≡ y1 (setting σ) (rowsOf σ b) k
+    pub mb-is : polyOf σ (o .mb) ≡ base (setting σ) (rowsOf σ b) k c .M .b
+    pub mc-is : polyOf σ (o .mc) ≡ base (setting σ) (rowsOf σ b) k c .M .c
+    pub nb-is : polyOf σ (o .nb) ≡ base (setting σ) (rowsOf σ b) k c .N .b
+    pub nc-is : polyOf σ (o .nc) ≡ base (setting σ) (rowsOf σ b) k c .N .c
+    pub u-is : polyOf σ (o .u) ≡ base (setting σ) (rowsOf σ b) k c .U
+    pub g-has : Has (setting σ .𝓥) (c .g .0) (o .cut)
+
+pub record AreGenerators (p : ℕ) (g h gh : List ℕ) (b : Seven) (o : Generators) : Type 0 where
+  pub hx : Row p (o .x)
+  pub hy : Row p (o .y)
+  pub hmb : Row p (o .mb)
+  pub hmc : Row p (o .mc)
+  pub hnb : Row p (o .nb)
+  pub hnc : Row p (o .nc)
+  pub hu : Row p (o .u)
+  pub each : {G H : List ℕ} (σ : Accepted p G H) → Holds σ g h gh → Good (setting σ) (rowsOf σ b) → Generated σ b o

@@ -1,0 +1,200 @@
+// The generators of the next ideal, on rows: r m and w m in coordinates by exact quotients, and what they have in common taken off.
+ghost use mathlib.Core.Path.{_≡_};
+ghost use Rattle.generators.specs.Rows.{seven};
+ghost use Rattle.generators.specs.Quotients.{DetIn, Det, CoordsIn, Coordinates, FourRows, Content, CutIn, CutOff, PairsIn, Paired};
+ghost use Rattle.generators.specs.Generated.{GeneratorsIn, AreGenerators};
+
+// x y - z v
+pub fn det(p: u64, x: &[u64; 32], y: &[u64; 32], z: &[u64; 32], v: &[u64; 32]) -> [u64; 32]
+    requires { ⌜ DetIn p (now x) (now y) (now z) (now v) ⌝ }
+    ensures { λ r. ⌜ Det p (now (x .entry)) (now (y .entry)) (now (z .entry)) (now (v .entry)) r ⌝ }
+{
+    let a = poly::mul(p, x, y);
+    let b = poly::mul(p, z, v);
+    poly::sub(p, &a, &b)
+}
+
+// Coordinates α, β, γ in a basis.
+pub struct Three {
+    pub a: [u64; 32],
+    pub b: [u64; 32],
+    pub c: [u64; 32],
+}
+
+// The coordinates of va + vb r + vc w. ie is the inverse of the leading coefficient of e = M1 N2 - M2 N1.
+pub fn coords(
+    p: u64,
+    va: &[u64; 32],
+    vb: &[u64; 32],
+    vc: &[u64; 32],
+    m0: &[u64; 32],
+    m1: &[u64; 32],
+    m2: &[u64; 32],
+    n0: &[u64; 32],
+    n1: &[u64; 32],
+    n2: &[u64; 32],
+    u: &[u64; 32],
+    e: &[u64; 32],
+    ie: u64,
+) -> Three
+    requires { ⌜ CoordsIn p (now va) (now vb) (now vc) (seven (now m0) (now m1) (now m2) (now n0) (now n1) (now n2) (now u)) (now e) ie ⌝ }
+    ensures { λ o. ⌜ Coordinates p (now (va .entry)) (now (vb .entry)) (now (vc .entry)) (seven (now (m0 .entry)) (now (m1 .entry)) (now (m2 .entry)) (now (n0 .entry)) (now (n1 .entry)) (now (n2 .entry)) (now (u .entry))) (now (e .entry)) o ⌝ }
+{
+    let s = det(p, vb, n2, vc, n1);
+    let b = poly::exact(p, &s, e, ie);
+    let t = det(p, vc, m1, vb, m2);
+    let c = poly::exact(p, &t, e, ie);
+    let x = poly::mul(p, &b, m0);
+    let y = poly::mul(p, &c, n0);
+    let z = poly::add(p, &x, &y);
+    let h = poly::sub(p, va, &z);
+    let a = poly::exact(p, &h, u, 1);
+    Three { a, b, c }
+}
+
+// A greatest common divisor of four. Usually the first two have none, and it ends there.
+fn content(p: u64, x0: &[u64; 32], x2: &[u64; 32], y0: &[u64; 32], y2: &[u64; 32]) -> [u64; 32]
+    requires { ⌜ FourRows p (now x0) (now x2) (now y0) (now y2) ⌝ }
+    ensures { λ r. ⌜ Content p (now (x0 .entry)) (now (x2 .entry)) (now (y0 .entry)) (now (y2 .entry)) r ⌝ }
+{
+    let g = poly::gcd(p, x2, y2);
+    let n = poly::size(&g);
+    if n == 1 {
+        g
+    } else {
+        let h = poly::gcd(p, &g, y0);
+        poly::gcd(p, &h, x0)
+    }
+}
+
+// Four polynomials and their determinant without their common factor, whose degree is cut.
+pub struct Four {
+    pub a0: [u64; 32],
+    pub a2: [u64; 32],
+    pub b0: [u64; 32],
+    pub b2: [u64; 32],
+    pub d: [u64; 32],
+    pub cut: usize,
+}
+
+fn cut(p: u64, x0: &[u64; 32], x2: &[u64; 32], y0: &[u64; 32], y2: &[u64; 32]) -> Four
+    requires { ⌜ CutIn p (now x0) (now x2) (now y0) (now y2) ⌝ }
+    ensures { λ o. ⌜ CutOff p (now (x0 .entry)) (now (x2 .entry)) (now (y0 .entry)) (now (y2 .entry)) o ⌝ }
+{
+    let k = content(p, x0, x2, y0, y2);
+    let f = det(p, x2, y0, x0, y2);
+    let n = poly::size(&k);
+    if n == 1 {
+        let a0 = *x0;
+        let a2 = *x2;
+        let b0 = *y0;
+        let b2 = *y2;
+        Four {
+            a0,
+            a2,
+            b0,
+            b2,
+            d: f,
+            cut: 0,
+        }
+    } else {
+        let l = k[n - 1];
+        let il = residue::inverse(p, l);
+        let a0 = poly::exact(p, x0, &k, il);
+        let a2 = poly::exact(p, x2, &k, il);
+        let b0 = poly::exact(p, y0, &k, il);
+        let b2 = poly::exact(p, y2, &k, il);
+        let d = poly::exact(p, &f, &k, il);
+        Four {
+            a0,
+            a2,
+            b0,
+            b2,
+            d,
+            cut: n - 1,
+        }
+    }
+}
+
+// x and y are x1 and y1, the pairs (mb, mc) and (nb, nc) the generators P and Q, u their denominator;
+// cut is the degree of what was taken off.
+pub struct Generators {
+    pub x: [u64; 32],
+    pub y: [u64; 32],
+    pub mb: [u64; 32],
+    pub mc: [u64; 32],
+    pub nb: [u64; 32],
+    pub nc: [u64; 32],
+    pub u: [u64; 32],
+    pub cut: usize,
+}
+
+// The pairs and their denominator from x0 + x1 m + x2 n and y0 + y1 m + y2 n.
+fn pairs(
+    p: u64,
+    x0: &[u64; 32],
+    x1: &[u64; 32],
+    x2: &[u64; 32],
+    y0: &[u64; 32],
+    y1: &[u64; 32],
+    y2: &[u64; 32],
+) -> Generators
+    requires { ⌜ PairsIn p (now x0) (now x1) (now x2) (now y0) (now y1) (now y2) ⌝ }
+    ensures { λ o. ⌜ Paired p (now (x0 .entry)) (now (x1 .entry)) (now (x2 .entry)) (now (y0 .entry)) (now (y1 .entry)) (now (y2 .entry)) o ⌝ }
+{
+    let f = cut(p, x0, x2, y0, y2);
+    let a0 = f.a0;
+    let mc = f.a2;
+    let nb = f.b0;
+    let b2 = f.b2;
+    let d = f.d;
+    let k = f.cut;
+    let mb = poly::minus(p, &b2);
+    let nc = poly::minus(p, &a0);
+    let x = *x1;
+    let y = *y1;
+    Generators {
+        x,
+        y,
+        mb,
+        mc,
+        nb,
+        nc,
+        u: d,
+        cut: k,
+    }
+}
+
+// r m = x0 + x1 m + x2 n and w m = y0 + y1 m + y2 n; ie = -lead(G H) is the inverse of the leading coefficient of e.
+pub fn divided(
+    p: u64,
+    g: &[u64; 32],
+    h: &[u64; 32],
+    gh: &[u64; 32],
+    ie: u64,
+    m0: &[u64; 32],
+    m1: &[u64; 32],
+    m2: &[u64; 32],
+    n0: &[u64; 32],
+    n1: &[u64; 32],
+    n2: &[u64; 32],
+    u: &[u64; 32],
+) -> Generators
+    requires { ⌜ GeneratorsIn p (now g) (now h) (now gh) ie (seven (now m0) (now m1) (now m2) (now n0) (now n1) (now n2) (now u)) ⌝ }
+    ensures { λ o. ⌜ AreGenerators p (now (g .entry)) (now (h .entry)) (now (gh .entry)) (seven (now (m0 .entry)) (now (m1 .entry)) (now (m2 .entry)) (now (n0 .entry)) (now (n1 .entry)) (now (n2 .entry)) (now (u .entry))) o ⌝ }
+{
+    let e = det(p, m1, n2, m2, n1);
+    let m1h = poly::mul(p, m1, h);
+    let m2g = poly::mul(p, m2, g);
+    let m1gh = poly::mul(p, m1, gh);
+    let m2gh = poly::mul(p, m2, gh);
+    let x = coords(p, &m2gh, m0, &m1h, m0, m1, m2, n0, n1, n2, u, &e, ie);
+    let y = coords(p, &m1gh, &m2g, m0, m0, m1, m2, n0, n1, n2, u, &e, ie);
+    let xa = x.a;
+    let xb = x.b;
+    let xc = x.c;
+    let ya = y.a;
+    let yb = y.b;
+    let yc = y.c;
+    pairs(p, &xa, &xb, &xc, &ya, &yb, &yc)
+}
