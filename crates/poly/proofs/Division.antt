@@ -1,4 +1,5 @@
--- The loop of the quotient, from the top: `Dividing` holds before each turn, and each turn adds one coefficient.
+-- The loop of the quotient, from the top: `Dividing` holds before each turn, and each turn adds one coefficient. Then what the
+-- quotient gives: exact division, division with remainder, and that its answer is the only one (`divided-unique`).
 use mathlib.Core.Path.{_≡_, sym, ap, _∙_, subst}
 use mathlib.Core.List.{List, [], _∷_}
 use Prim.Native.Nat.{ℕ, zero, suc, _+_, _*_, _-_, _%_, _<_, _≤_, min}
@@ -18,7 +19,8 @@ use Rattle.reading.proofs.Tab.{zeros-at}
 use Rattle.reading.proofs.Rows.{size-has-at, row-poly}
 use Rattle.reading.proofs.Floors.{sized}
 use Rattle.reading.proofs.Product.{sum-none, sum-skip}
-use Rattle.reading.proofs.Quotient.{Agree, agree-more, agree-end, exact-law}
+use Rattle.reading.proofs.Quotient.{Agree, agree-more, agree-end, exact-law, division-unique}
+use Rattle.reading.proofs.Unique.{row-unique}
 use Rattle.poly.specs.Leaf.{Product, Difference}
 use Rattle.poly.specs.Terms.{Ready}
 use Rattle.poly.specs.Division.{DivIn, Quotient, Exact, Divided, DigitIn, Digit}
@@ -142,3 +144,12 @@ divided p a b q s r g f d = record {
   low = λ pr n hn. let R = reading p pr in let L = R .𝓥 .L in
       lt-eq (R .𝓥) (g .law pr n hn) (ap (λ x. L .ops .add (row R a) (L .ops .neg x)) (sym (f .law pr)) ∙ sym (d .law pr));
 }
+
+-- two answers of `divide` are one
+pub divided-unique : (p : ℕ) (pr : Prime p) (a b : List ℕ) (il : ℕ) (q r q′ r′ : List ℕ) → DivIn p a b il → Divided p a b q r → Divided p a b q′ r′ → (q ≡ q′) × (r ≡ r′)
+divided-unique p pr a b il q r q′ r′ h d e =
+    let R = reading p pr in
+    let (m, s) = sized b in
+    let g = size-has-at R m (h .hb) s (div-pos p a b il m h s) in
+    let (x, y) = division-unique R (row R a) (row R b) (row R q) (row R r) (row R q′) (row R r′) (m - 1) g (row-poly R q) (row-poly R q′) (d .law pr) (e .law pr) (d .low pr (m - 1) g) (e .low pr (m - 1) g) in
+    (row-unique R (d .q-row) (e .q-row) x, row-unique R (d .r-row) (e .r-row) y)

@@ -1,9 +1,9 @@
 -- One coefficient of a product: the inner contracts of `mul` and of the quotient.
---   rapid_of   Ready: below lim, a remainder by one multiplication with m
---   rest    the remainder
---   more    More: s + x y up to a multiple of p, below 2^63
---   part, plain, folded   Part: a run of the terms of coefficient k, up to a multiple of p
---   place   the remainder of the sum of the terms of coefficient k
+--   rapid_of              Ready: below lim, a remainder is found by one multiplication with m
+--   rest                  the remainder
+--   more                  More: s + x y up to a multiple of p, below 2^63
+--   plain, folded, part   Part: a run of the terms of coefficient k, up to a multiple of p
+--   place                 the remainder of the sum of the terms of coefficient k
 use mathlib.Core.Path.{_≡_}
 use mathlib.Core.List.{List}
 use Prim.Native.Nat.{ℕ, _+_, _*_, _%_, _<_, _≤_}

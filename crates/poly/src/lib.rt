@@ -47,10 +47,10 @@ pub fn lead(x: &[u64; 32]) -> u64
     if n == 0 { 0 } else { x[n - 1] }
 }
 
-// What `rest` needs of p: below lim one multiplication by m finds a remainder.
-pub struct Rapid {
-    pub m: u64,
-    pub lim: u64,
+// What `rest` needs of p: below lim, one multiplication by m finds a remainder.
+struct Rapid {
+    m: u64,
+    lim: u64,
 }
 
 fn rapid_of(p: u64) -> Rapid
@@ -213,6 +213,7 @@ fn plain(p: u64, x: &[u64; 32], y: &[u64; 32], from: usize, to: usize, k: usize)
     s
 }
 
+// The one or the other.
 fn part(p: u64, x: &[u64; 32], y: &[u64; 32], from: usize, to: usize, k: usize) -> u64
     requires { ⌜ PartIn p (now x) (now y) from to k ⌝ }
     ensures { λ r. ⌜ Part p (now (x .entry)) (now (y .entry)) from to k r ⌝ }
