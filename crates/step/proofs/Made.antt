@@ -197,7 +197,7 @@ module _ {p : ℕ} {g h gh : List ℕ} {n dr dw : ℕ} {r w B : List ℕ} (i : A
   advanced-of {o} ho lm lu sm su a hb e = λ G H kp rec.
       let goodAt : (A : Accepted p G H) → Good (setting A) (rowsOf A b) = λ A. rows-good A l (rec .good A) in
       let step : (A : Accepted p G H) → Good (setting A) (basisOf A (a .basis)) × Next (setting A) (rowsOf A b) (basisOf A (a .basis)) =
-          λ A. made A (kp .known A) b (goodAt A) (ho .each A (kp .known A .holds) (goodAt A)) (a .basis) (hb .meant (meaning A (kp .known A))) in
+      λ A. made A (kp .known A) b (goodAt A) (ho .each A (kp .known A .holds) (goodAt A)) (a .basis) (hb .meant (meaning A (kp .known A))) in
       record {
         is-record = record { size = hb .size; each = hb .each; good = λ A. step A .0 };
         next = λ A. subst (λ z. Next (setting A) z (basisOf A (a .basis))) (rows-path A l) (step A .1);

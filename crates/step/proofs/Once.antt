@@ -28,5 +28,5 @@ pub steps-one : {p : ℕ} {G H B : List ℕ} {o o′ : Advance} → Accepted p G
 steps-one {p} {G} {H} {B} {o} {o′} A r h k =
     let e : o .degree ≡ o′ .degree = degree-one (setting A) (basisOf A B) (h .degree A) (k .degree A) in
     let f : o .basis ≡ o′ .basis = basis-unique A (o .basis) (o′ .basis) (h .is-record) (k .is-record)
-        (next-unique (setting A) (basisOf A B) (basisOf A (o .basis)) (basisOf A (o′ .basis)) (r .good A) (h .is-record .good A) (k .is-record .good A) (h .next A) (k .next A)) in
+    (next-unique (setting A) (basisOf A B) (basisOf A (o .basis)) (basisOf A (o′ .basis)) (r .good A) (h .is-record .good A) (k .is-record .good A) (h .next A) (k .next A)) in
     λ i. record { degree = e i; basis = f i }

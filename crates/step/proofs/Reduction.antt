@@ -116,9 +116,9 @@ module _ {p : ℕ} {G H : List ℕ} (A : Accepted p G H) {g h gh : List ℕ} {n 
       elim (factor-low (m .c .g) (m .k .of-r .α) (m .c .a0) (rm .g-has) (m .c .x0-eq) (nr .α-lt)) [
         | inr l ↦ l
         | inl z ↦ elim (factor-low (m .c .g) (m .k .of-r .γ) (m .c .a2) (rm .g-has) (m .c .x2-eq) (nr .γ-lt)) [
-            | inr l ↦ l
-            | inl y ↦ absurd (not-zero (ρ .𝓥) (rm .d-has) (ap (λ t. ρ .𝓥 .L .ops .mul (m .c .g .0) t) (not-both (m .c .a2 .0) (m .c .a0 .0) (m .c .b0 .0) (m .c .b2 .0) y z) ∙ rg.mul-zero (ρ .𝓥 .L) (m .c .g .0)))
-          ]
+          | inr l ↦ l
+          | inl y ↦ absurd (not-zero (ρ .𝓥) (rm .d-has) (ap (λ t. ρ .𝓥 .L .ops .mul (m .c .g .0) t) (not-both (m .c .a2 .0) (m .c .a0 .0) (m .c .b0 .0) (m .c .b2 .0) y z) ∙ rg.mul-zero (ρ .𝓥 .L) (m .c .g .0)))
+        ]
       ]
 
   γ-dw : rm .γ < setting A .dw
@@ -128,10 +128,10 @@ module _ {p : ℕ} {G H : List ℕ} (A : Accepted p G H) {g h gh : List ℕ} {n 
       elim (factor-low (m .c .g) (m .k .of-w .α) (m .c .b0) (rm .g-has) (m .c .y0-eq) (nr .α-lt)) [
         | inr l ↦ l
         | inl z ↦ elim (factor-low (m .c .g) (m .k .of-w .γ) (m .c .b2) (rm .g-has) (m .c .y2-eq) (nr .γ-lt)) [
-            | inr l ↦ l
-            | inl y ↦ absurd (not-zero (ρ .𝓥) (rm .d-has) (ap (λ t. q .mul (m .c .g .0) t)
-                (ap₂ (λ s t. q .add s (q .neg t)) (ρ .𝓥 .L .laws .mul-comm _ _) (ρ .𝓥 .L .laws .mul-comm _ _) ∙ not-both (m .c .b0 .0) (m .c .b2 .0) (m .c .a2 .0) (m .c .a0 .0) z y) ∙ rg.mul-zero (ρ .𝓥 .L) (m .c .g .0)))
-          ]
+          | inr l ↦ l
+          | inl y ↦ absurd (not-zero (ρ .𝓥) (rm .d-has) (ap (λ t. q .mul (m .c .g .0) t)
+              (ap₂ (λ s t. q .add s (q .neg t)) (ρ .𝓥 .L .laws .mul-comm _ _) (ρ .𝓥 .L .laws .mul-comm _ _) ∙ not-both (m .c .b0 .0) (m .c .b2 .0) (m .c .a2 .0) (m .c .a0 .0) z y) ∙ rg.mul-zero (ρ .𝓥 .L) (m .c .g .0)))
+        ]
       ]
 
   abbrev μ : Meaning (frame p r w dr dw)

@@ -1,8 +1,11 @@
 // The step: from the record of a reduced ideal to that of the ideal divided by m, with the degree of m.
-use basis::{load, reduced_basis};
+use basis::load;
+use basis::reduced_basis;
 use generators::divided;
-use poly::{lead, size};
-use reduce::{Bounds, Pair};
+use poly::lead;
+use poly::size;
+use reduce::Bounds;
+use reduce::Pair;
 ghost use Rattle.step.specs.Steps.{AdvanceIn, Advanced};
 
 // The degree of the m divided by, and the next record.
@@ -46,8 +49,16 @@ pub fn advanced(
     let nc = d.nc;
     let v = d.u;
     let cut = d.cut;
-    let f = Bounds { p, dr, dw, top: n + 1 - cut };
+    let f = Bounds {
+        p,
+        dr,
+        dw,
+        top: n + 1 - cut,
+    };
     let q = Pair { mb, mc, nb, nc };
     let o = reduced_basis(f, r, w, q, &v, &x, &y);
-    Advance { degree: (lm - lu) as u64, basis: o }
+    Advance {
+        degree: (lm - lu) as u64,
+        basis: o,
+    }
 }
