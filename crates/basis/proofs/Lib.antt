@@ -3,3 +3,5 @@ pub mod Levels
 pub mod Place
 pub mod Scales
 pub mod Based
+pub mod First
+pub mod Start

@@ -3,3 +3,4 @@ pub mod Levels
 pub mod Place
 pub mod Scales
 pub mod Based
+pub mod First

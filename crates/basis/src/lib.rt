@@ -15,6 +15,7 @@ ghost use mathlib.Core.Path.{_≡_};
 ghost use Prim.Native.Nat.{_+_, _*_, _-_, _%_, _<_, _≤_};
 ghost use Rattle.reduce.specs.Given.{given};
 ghost use Rattle.basis.specs.Based.{BasisIn, Based};
+ghost use Rattle.basis.specs.First.{OrderIn, units, unit, nothing};
 ghost use Rattle.basis.specs.Levels.{LevelIn, Leveled};
 ghost use Rattle.basis.specs.Place.{PlaceIn, Placed};
 ghost use Rattle.basis.specs.Scales.{ScalesIn, Scaling};
@@ -149,4 +150,21 @@ pub fn reduced_basis(
     let b1 = placed(b0, 0, p, k.m, &mb, &mc, &mx, x1, y1, &u);
     let b2 = placed(b1, 3, p, k.n, &nb, &nc, &nx, x1, y1, &u);
     stored(b2, 6, &u)
+}
+
+// The basis of the order: from the elements r and w, with the denominator 1
+pub fn order(f: Bounds, r: &[u64; 32], w: &[u64; 32]) -> [u16; 119]
+    requires { ⌜ OrderIn (given f (now r) (now w)) (f .top) ⌝ }
+    ensures { λ o. ⌜ Based (given f (now (r .entry)) (now (w .entry))) units unit nothing nothing o ⌝ }
+{
+    let z: [u64; 32] = [0; 32];
+    let mut one: [u64; 32] = [0; 32];
+    one[0] = 1;
+    let q = Pair {
+        mb: one,
+        mc: z,
+        nb: z,
+        nc: one,
+    };
+    reduced_basis(f, r, w, q, &one, &z, &z)
 }

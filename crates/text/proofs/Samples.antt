@@ -1,14 +1,14 @@
 -- Lines and numbers of the rule book and its edges, computed.
 use mathlib.Core.Path.{_≡_, refl}
 use mathlib.Core.List.{List, [], _∷_}
-use Prim.Native.Nat.{ℕ, zero, suc, _≤_, _<_}
+use Prim.Native.Nat.{ℕ, zero, suc, _≤_}
 use native.Mathlib.Omega.{arith}
 use lib.Dec.{lit≤, lit<}
-use lib.ListN.{length, getD}
+use lib.ListN.{length}
 use Rattle.text.specs.Pieces.{pieces, ahead}
 use Rattle.text.specs.Grammar.{Numeral, Reads}
 use Rattle.text.specs.Print.{digitsOf, number-text, join, list-text, line-text, refused-text}
-use Rattle.text.specs.Lines.{Line, whole, broken, ended, left, linesIn, lines-of}
+use Rattle.text.specs.Lines.{whole, broken, ended, left, linesIn, lines-of}
 use Rattle.text.proofs.Inverse.{text-numeral}
 use Rattle.text.proofs.Writings.{Small, text-reads}
 

@@ -4,7 +4,7 @@
 --   served-broken    a line that is too long ended, and is refused
 --   served-pending   the piece ended
 --   served-then      one step after another
-use mathlib.Core.Path.{_≡_, sym, subst}
+use mathlib.Core.Path.{sym, subst}
 use mathlib.Core.List.{List, [], _∷_, _++_, append-assoc, append-nil}
 use Prim.Native.Nat.{ℕ}
 use lib.ListN.{length, take}
