@@ -1,0 +1,5 @@
+pub mod Facts
+pub mod One
+pub mod Value
+pub mod Written
+pub mod Asking

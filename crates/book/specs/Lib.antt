@@ -1,0 +1,4 @@
+pub mod Book
+pub mod Value
+pub mod Answer
+pub mod Code

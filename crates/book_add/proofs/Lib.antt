@@ -1,0 +1,7 @@
+pub mod Sets
+pub mod Lines
+pub mod May
+pub mod New
+pub mod Put
+pub mod Adding
+pub mod One

@@ -1,0 +1,103 @@
+-- `book_add::add` meets its contract.
+use mathlib.Core.Logic.{inl, inr}
+use lib.Seq.{length-take-le}
+use Rattle.book_add.specs.Add.{length-out}
+use Rattle.book_add.proofs.Adding.{no-of, known-of, short-of, room-of, added-of}
+use mathlib.Core.Path.{sym, refl}
+use native.Mathlib.Omega.{arith}
+use borrow.Author.Needs.{needs}
+use Rattle.book_add.proofs.add.Statement.{statement}
+use Rattle.book_add.proofs.add.Tie as tie
+
+returns : tie.Need-returns
+returns c = length-out (omega arith) refl refl
+
+slice-reshare-prefix-may-add : tie.Need-slice-reshare-prefix-may-add
+slice-reshare-prefix-may-add c = search needs
+
+slice-aggregate-may-add : tie.Need-slice-aggregate-may-add
+slice-aggregate-may-add c = sym (length-take-le _ _ (omega arith))
+
+may-add-requires : tie.Need-may-add-requires
+may-add-requires c κs = search needs
+
+enum-known-v : tie.Need-enum-known-v
+enum-known-v c = search needs
+
+same-length : tie.Need-same-length
+same-length c = search needs
+
+returns-2 : tie.Need-returns-2
+returns-2 c = let a = c .before .before .before .before .before .before .before .before .before .args in short-of (a .out .now) (a .n) (a .b .now) _ (omega arith) (c .before .before .before .before .may-add .ensures) _ (c .before .before .v .given .1) (inr (omega arith))
+
+add-size : tie.Need-add-size
+add-size c = search needs
+
+add-size-2 : tie.Need-add-size-2
+add-size-2 c = search needs
+
+same-length-2 : tie.Need-same-length-2
+same-length-2 c = search needs
+
+returns-3 : tie.Need-returns-3
+returns-3 c = let a = c .before .before .before .before .before .before .before .before .before .before .args in short-of (a .out .now) (a .n) (a .b .now) _ (omega arith) (c .before .before .before .before .before .may-add .ensures) _ (c .before .before .before .v .given .1) (inl (omega arith))
+
+same-length-3 : tie.Need-same-length-3
+same-length-3 c = search needs
+
+returns-4 : tie.Need-returns-4
+returns-4 c = let a = c .before .before .before .before .before .before .before .before .before .before .before .args in short-of (a .out .now) (a .n) (a .b .now) _ (omega arith) (c .before .before .before .before .before .before .may-add .ensures) _ (c .before .before .before .before .v .given .1) (inr (omega arith))
+
+put-body-requires : tie.Need-put-body-requires
+put-body-requires c κs = let a = c .before .before .before .before .before .before .before .before .before .before .before .before .args in room-of (a .out .now) (a .n) (a .b .now) _ (omega arith) (c .before .before .before .before .before .before .before .may-add .ensures) _ (c .before .before .before .before .before .v .given .1) (λ i. omega (arith, c .before .before .before .before .before .before .before .before .before .before .before .slice-known .given i)) (λ i. omega (arith, c .before .before .before .before .before .before .before .before .before .before .shared-slice-known .given i)) (omega arith) (omega arith)
+
+enum-known-v-2 : tie.Need-enum-known-v-2
+enum-known-v-2 c = search needs
+
+enum-told : tie.Need-enum-told
+enum-told c = search needs
+
+same-length-4 : tie.Need-same-length-4
+same-length-4 c = search needs
+
+returns-5 : tie.Need-returns-5
+returns-5 c = let a = c .before .before .before .before .before .before .before .before .before .before .before .before .before .before .before .args in added-of (a .out .now) (a .n) (a .b .now) _ (omega arith) (c .before .before .before .before .before .before .before .before .before .before .may-add .ensures) _ (c .before .before .before .before .before .before .before .before .v .given .1) (λ i. omega (arith, c .before .before .before .before .before .before .before .before .before .before .before .before .before .before .slice-known .given i)) (λ i. omega (arith, c .before .before .before .before .before .before .before .before .before .before .before .before .before .shared-slice-known .given i)) (omega arith) (omega arith) _ _ (c .before .before .put-body .ensures .0) (c .before .before .put-body .ensures .1)
+
+same-length-5 : tie.Need-same-length-5
+same-length-5 c = search needs
+
+returns-6 : tie.Need-returns-6
+returns-6 c = let a = c .before .before .before .before .before .before .before .before .args in no-of (a .out .now) (a .n) (a .b .now) _ (omega arith) (c .before .before .before .may-add .ensures) (c .before .v2 .given .0 .0) (c .before .v2 .given .1)
+
+same-length-6 : tie.Need-same-length-6
+same-length-6 c = search needs
+
+returns-7 : tie.Need-returns-7
+returns-7 c = let a = c .before .before .before .before .before .before .before .args in known-of (a .out .now) (a .n) (a .b .now) _ (omega arith) (c .before .before .may-add .ensures) (c .enum-told .given .1)
+
+pub add-spec : {M : Type 1} → statement M
+add-spec =
+    tie.close
+    (tie.spec
+    returns
+    slice-reshare-prefix-may-add
+    slice-aggregate-may-add
+    may-add-requires
+    enum-known-v
+    same-length
+    returns-2
+    add-size
+    add-size-2
+    same-length-2
+    returns-3
+    same-length-3
+    returns-4
+    put-body-requires
+    enum-known-v-2
+    enum-told
+    same-length-4
+    returns-5
+    same-length-5
+    returns-6
+    same-length-6
+    returns-7)

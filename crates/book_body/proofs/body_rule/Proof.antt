@@ -1,0 +1,70 @@
+-- `book_body::body_rule` meets its contract.
+use borrow.Author.Tests.{not-true, not-false}
+use Rattle.book_bytes.proofs.Tests.{answer-yes, answer-no}
+use Rattle.book_body.proofs.Facts.{body-from, body-to, body-row0, body-row1, body-row2, body-first, body-yes}
+use mathlib.Core.Path.{_∙_, sym}
+use native.Mathlib.Omega.{arith}
+use borrow.Author.Needs.{needs}
+use Rattle.book_body.proofs.body_rule.Statement.{statement}
+use Rattle.book_body.proofs.body_rule.Tie as tie
+
+start-requires : tie.Need-start-requires
+start-requires c κs = search needs
+
+returns : tie.Need-returns
+returns c = answer-no (λ b. c .if1 .taken (b .size ∙ sym (c .before .start .ensures .0)))
+
+four-requires : tie.Need-four-requires
+four-requires c κs = search needs
+
+returns-2 : tie.Need-returns-2
+returns-2 c = answer-no (body-from (c .before .before .before .before .before .args .s .now) _ (c .before .four .ensures .0) (c .if2 .taken))
+
+returns-3 : tie.Need-returns-3
+returns-3 c = answer-no (body-to (c .before .before .before .before .before .before .args .s .now) _ (c .before .before .four .ensures .0) (c .if3 .taken))
+
+unit-list-requires : tie.Need-unit-list-requires
+unit-list-requires c κs = search needs
+
+returns-4 : tie.Need-returns-4
+returns-4 c = answer-no (body-row0 (c .before .before .before .before .before .before .before .before .args .s .now) (c .before .unit-list .ensures .no! (not-true _ (c .if4 .taken))))
+
+unit-list-requires-2 : tie.Need-unit-list-requires-2
+unit-list-requires-2 c κs = search needs
+
+returns-5 : tie.Need-returns-5
+returns-5 c = answer-no (body-row1 (c .before .before .before .before .before .before .before .before .before .before .args .s .now) (c .before .unit-list2 .ensures .no! (not-true _ (c .if5 .taken))))
+
+unit-list-requires-3 : tie.Need-unit-list-requires-3
+unit-list-requires-3 c κs = search needs
+
+returns-6 : tie.Need-returns-6
+returns-6 c = answer-no (body-row2 (c .before .before .before .before .before .before .before .before .before .before .before .before .args .s .now) (c .before .unit-list3 .ensures .no! (not-true _ (c .if6 .taken))))
+
+first-list-requires : tie.Need-first-list-requires
+first-list-requires c κs = search needs
+
+returns-7 : tie.Need-returns-7
+returns-7 c = answer-no (body-first (c .before .before .before .before .before .before .before .before .before .before .before .before .before .before .args .s .now) (c .before .first-list .ensures .no! (not-true _ (c .if7 .taken))))
+
+returns-8 : tie.Need-returns-8
+returns-8 c = answer-yes (body-yes (c .before .before .before .before .before .before .before .before .before .before .before .before .before .before .args .s .now) _ _ (c .before .before .before .before .before .before .before .before .before .before .before .before .start .ensures .0) (c .before .before .before .before .before .before .before .before .before .before .before .if1 .left) (c .before .before .before .before .before .before .before .before .before .before .four .ensures .0) (omega arith) (omega arith) (c .before .before .before .before .before .before .before .unit-list .ensures .yes! (not-false _ (c .before .before .before .before .before .before .if4 .left))) (c .before .before .before .before .before .unit-list2 .ensures .yes! (not-false _ (c .before .before .before .before .if5 .left))) (c .before .before .before .unit-list3 .ensures .yes! (not-false _ (c .before .before .if6 .left))) (c .before .first-list .ensures .yes! (not-false _ (c .if7 .left))))
+
+pub body-rule-spec : {M : Type 1} → statement M
+body-rule-spec =
+    tie.close
+    (tie.spec
+    start-requires
+    returns
+    four-requires
+    returns-2
+    returns-3
+    unit-list-requires
+    returns-4
+    unit-list-requires-2
+    returns-5
+    unit-list-requires-3
+    returns-6
+    first-list-requires
+    returns-7
+    returns-8)

@@ -1,0 +1,4 @@
+pub mod Tests
+pub mod Read
+pub mod Lists
+pub mod Write

@@ -1,0 +1,129 @@
+-- Head and lists, one piece after another, are the body; what the code knows on the way.
+use mathlib.Core.Path.{_≡_, refl, sym, ap, _∙_, subst}
+use mathlib.Core.List.{List, [], _++_, append-assoc, append-nil}
+use Prim.Native.Nat.{ℕ, _+_, _*_, _≤_}
+use native.Mathlib.Omega.{arith}
+use lib.ListN.{length, drop, length-append}
+use lib.Seq.{sets-eq}
+use Rattle.field.specs.Refusal.{Refusal}
+use Rattle.book_bytes.specs.Bytes.{le, words, Put}
+use Rattle.book_bytes.proofs.Read.{length-words}
+use Rattle.book_bytes.proofs.Write.{andThen}
+use Rattle.book_body.specs.Said.{passed}
+use Rattle.book_body.specs.Body.{Body, Rule, FieldSays, bodyBytes}
+use Rattle.book_body.proofs.Field.{Fits, fits}
+use Rattle.book_write.specs.Write.{bodyFrom, WriteTells, done}
+use Rattle.book_write.specs.Code.{Head, headBytes, Lists, listBytes, listLong}
+
+-- ---- the numbers of a body
+pub head-put : (d0 d1 d2 d3 d4 d5 d6 d7 : List ℕ) (p g h a b c t x0 x1 x2 x3 x4 x5 r : ℕ)
+    → Put d0 0 (le 2 p) 2 x0 d1 → Put d1 x0 (le 2 g) 2 x1 d2 → Put d2 x1 (le 2 h) 2 x2 d3 → Put d3 x2 (le 2 a) 2 x3 d4 → Put d4 x3 (le 2 b) 2 x4 d5
+    → Put d5 x4 (le 2 c) 2 x5 d6 → Put d6 x5 (le 4 t) 4 r d7 → Put d0 0 (headBytes p g h a b c t) 16 r d7
+unfolding headBytes
+head-put d0 d1 d2 d3 d4 d5 d6 d7 p g h a b c t x0 x1 x2 x3 x4 x5 r q0 q1 q2 q3 q4 q5 q6 =
+    let s1 = andThen d0 0 _ 2 x0 d1 (le 2 g) 2 x1 d2 q0 q1 in
+    let s2 = andThen d0 0 _ 4 x1 d2 (le 2 h) 2 x2 d3 s1 q2 in
+    let s3 = andThen d0 0 _ 6 x2 d3 (le 2 a) 2 x3 d4 s2 q3 in
+    let s4 = andThen d0 0 _ 8 x3 d4 (le 2 b) 2 x4 d5 s3 q4 in
+    let s5 = andThen d0 0 _ 10 x4 d5 (le 2 c) 2 x5 d6 s4 q5 in
+    andThen d0 0 _ 12 x5 d6 (le 4 t) 4 r d7 s5 q6
+
+-- ---- the lists of a body
+abbrev PutLists : List ℕ → ℕ → List ℕ → List ℕ → List ℕ → List ℕ → List ℕ → ℕ → List ℕ → Type 0
+PutLists d at g h a b c r d' = Put d at (listBytes g h a b c) (listLong g h a b c) r d'
+
+pub lists-put : (d0 d1 d2 d3 d4 d5 : List ℕ) (at : ℕ) (g h a b c : List ℕ) (x0 x1 x2 x3 r : ℕ)
+    → Put d0 at (words g) (2 * length g) x0 d1 → Put d1 x0 (words h) (2 * length h) x1 d2 → Put d2 x1 (words a) (2 * length a) x2 d3
+    → Put d3 x2 (words b) (2 * length b) x3 d4 → Put d4 x3 (words c) (2 * length c) r d5 → PutLists d0 at g h a b c r d5
+unfolding listBytes
+lists-put d0 d1 d2 d3 d4 d5 at g h a b c x0 x1 x2 x3 r q0 q1 q2 q3 q4 =
+    let s1 = andThen d0 at _ _ x0 d1 (words h) _ x1 d2 q0 q1 in
+    let s2 = andThen d0 at _ _ x1 d2 (words a) _ x2 d3 s1 q2 in
+    let s3 = andThen d0 at _ _ x2 d3 (words b) _ x3 d4 s2 q3 in
+    andThen d0 at _ _ x3 d4 (words c) _ r d5 s3 q4
+
+-- numbers and lists are the body's bytes
+pub body-bytes : (b : Body)
+    → headBytes (b .p) (length (b .G)) (length (b .H)) (length (b .E0)) (length (b .E1)) (length (b .E2)) (b .period)
+    ++ listBytes (b .G) (b .H) (b .E0) (b .E1) (b .E2)
+    ≡ bodyBytes b
+unfolding headBytes listBytes bodyBytes
+body-bytes b = simp (append-assoc, append-nil)
+
+pub long-head : (p g h a b c t : ℕ) → length (headBytes p g h a b c t) ≡ 16
+unfolding headBytes le
+long-head p g h a b c t = refl
+
+pub long-lists : (g h a b c : List ℕ) → length (listBytes g h a b c) ≡ listLong g h a b c
+unfolding listBytes
+long-lists g h a b c = simp (length-append, length-words)
+
+-- the rule does not look at G and H
+pub rule-any : (p : ℕ) (G H G' H' : List ℕ) (t : ℕ) (a b c : List ℕ) → Rule (bodyFrom p G H t a b c) → Rule (bodyFrom p G' H' t a b c)
+rule-any p G H G' H' t a b c r =
+    record { from = r .from; to = r .to; row0 = r .row0; row1 = r .row1; row2 = r .row2; first = r .first }
+
+-- head and lists, one after the other, are the body
+pub body-put : (b : Body) (d d1 d2 : List ℕ) (x r : ℕ)
+    → Put d 0 (headBytes (b .p) (length (b .G)) (length (b .H)) (length (b .E0)) (length (b .E1)) (length (b .E2)) (b .period)) 16 x d1
+    → PutLists d1 x (b .G) (b .H) (b .E0) (b .E1) (b .E2) r d2
+    → Put d 0 (bodyBytes b) (16 + listLong (b .G) (b .H) (b .E0) (b .E1) (b .E2)) r d2
+body-put b d d1 d2 x r q u =
+    subst (λ (z : List ℕ). Put d 0 z (16 + listLong (b .G) (b .H) (b .E0) (b .E1) (b .E2)) r d2) (body-bytes b)
+    (andThen d 0 _ 16 x d1 (listBytes (b .G) (b .H) (b .E0) (b .E1) (b .E2)) _ r d2 q u)
+
+pub done-of : (b : Body) (d d1 d2 : List ℕ) (x r : ℕ) → FieldSays b 0 → Rule b
+    → 16 + listLong (b .G) (b .H) (b .E0) (b .E1) (b .E2) ≤ length d
+    → Put d 0 (headBytes (b .p) (length (b .G)) (length (b .H)) (length (b .E0)) (length (b .E1)) (length (b .E2)) (b .period)) 16 x d1
+    → PutLists d1 x (b .G) (b .H) (b .E0) (b .E1) (b .E2) r d2
+    → WriteTells b d (passed r) d2
+done-of b d d1 d2 x r o ru m q u =
+    let w : Put d 0 (bodyBytes b) (16 + listLong (b .G) (b .H) (b .E0) (b .E1) (b .E2)) r d2 = body-put b d d1 d2 x r q u in
+    let k : ℕ = 16 + listLong (b .G) (b .H) (b .E0) (b .E1) (b .E2) in
+    let n : r ≡ 0 + k = w .next in
+    let s : length (bodyBytes b) ≡ k = w .size in
+    let e : r ≡ length (bodyBytes b) = omega arith in
+    let f : 0 + length (bodyBytes b) ≡ length (bodyBytes b) = omega arith in
+    done o ru (omega arith) (ap passed e) (w .done ∙ sets-eq (bodyBytes b) d 0 (omega arith) ∙ ap (λ (z : ℕ). bodyBytes b ++ drop z d) f)
+
+-- ---- what the code knows once the field and the rule are passed
+pub record Known (b : Body) : Type 0 where
+  pub field : FieldSays b 0
+  pub rule : Rule b
+
+pub says-none : (b : Body) (x : ℕ) → x ≡ 0 → FieldSays b x → FieldSays b 0
+says-none b x = subst (FieldSays b)
+
+pub known : (p : ℕ) (G H : List ℕ) (t : ℕ) (a b c : List ℕ) (x : ℕ) → x ≡ 0 → Refusal p G H x → Rule (bodyFrom p [] [] t a b c) → Known (bodyFrom p G H t a b c)
+known p G H t a b c x e o r =
+    record { field = says-none (bodyFrom p G H t a b c) x e o; rule = rule-any p [] [] G H t a b c r }
+
+pub head-of : (b : Body) (d : List ℕ) → Known b → 16 + listLong (b .G) (b .H) (b .E0) (b .E1) (b .E2) ≤ length d
+    → Head d (b .p) (length (b .G)) (length (b .H)) (length (b .E0)) (length (b .E1)) (length (b .E2)) (b .period)
+head-of b d k h =
+    let f : Fits b = fits b (k .rule) (k .field) in
+    record {
+      room = omega arith;
+      p-fits = f .p;
+      g-fits = f .nG;
+      h-fits = f .nH;
+      a-fits = f .n0;
+      b-fits = f .n1;
+      c-fits = f .n2;
+      t-fits = f .period;
+    }
+
+pub lists-of : (b : Body) (d d1 y : List ℕ) (x : ℕ) → Known b → 16 + listLong (b .G) (b .H) (b .E0) (b .E1) (b .E2) ≤ length d
+    → Put d 0 y 16 x d1 → Lists d1 x (b .G) (b .H) (b .E0) (b .E1) (b .E2)
+lists-of b d d1 y x k h q =
+    let f : Fits b = fits b (k .rule) (k .field) in
+    let n : x ≡ 0 + 16 = q .next in
+    let s : length d1 ≡ length d = q .same in
+    record { room = omega arith; g-small = f .G; h-small = f .H; a-small = f .E0; b-small = f .E1; c-small = f .E2 }
+
+pub long-body : (b : Body) → length (bodyBytes b) ≡ 16 + listLong (b .G) (b .H) (b .E0) (b .E1) (b .E2)
+long-body b =
+    let e : length (listBytes (b .G) (b .H) (b .E0) (b .E1) (b .E2)) ≡ listLong (b .G) (b .H) (b .E0) (b .E1) (b .E2) = long-lists (b .G) (b .H) (b .E0) (b .E1) (b .E2) in
+    ap length (sym (body-bytes b)) ∙ length-append (headBytes (b .p) (length (b .G)) (length (b .H)) (length (b .E0)) (length (b .E1)) (length (b .E2)) (b .period)) (listBytes (b .G) (b .H) (b .E0) (b .E1) (b .E2))
+    ∙ ap (λ (z : ℕ). z + length (listBytes (b .G) (b .H) (b .E0) (b .E1) (b .E2))) (long-head (b .p) (length (b .G)) (length (b .H)) (length (b .E0)) (length (b .E1)) (length (b .E2)) (b .period))
+    ∙ ap (λ (z : ℕ). 16 + z) e

@@ -1,0 +1,172 @@
+// Writing a body of the book into a lent slice.
+ghost use mathlib.Core.List.{[]};
+ghost use Prim.Native.Nat.{_+_, _*_, _<_};
+ghost use Rattle.book_bytes.specs.Bytes.{Put};
+ghost use Rattle.book_bytes.specs.Decides.{Decides};
+ghost use Rattle.book_body.specs.Body.{UnitList, FirstList, Rule};
+ghost use Rattle.book_write.specs.Code.{Head, headBytes, Lists, listBytes, listLong};
+ghost use Rattle.book_write.specs.Write.{bodyFrom, wroteSays, WriteTells};
+
+// The answer to writing a body: its length; a refusal 1 to 8 of the field; 13 (body rule, entry 0); 11.
+pub enum Wrote {
+    Length(usize),
+    FieldRefused(u32),
+    RuleBroken,
+    Short,
+}
+
+// The numbers of a body: p, the lengths, the period.
+fn put_head(out: &mut [u8], p: u64, g: u64, h: u64, a: u64, b: u64, c: u64, t: u64) -> usize
+    requires { ⌜ Head (now out) p g h a b c t ⌝ }
+    ensures { λ r. ⌜ Put (now (out .entry)) 0 (headBytes p g h a b c t) 16 r (now (out .exit)) ⌝ }
+{
+    let x0 = book_bytes::put_two(out, 0, p);
+    let x1 = book_bytes::put_two(out, x0, g);
+    let x2 = book_bytes::put_two(out, x1, h);
+    let x3 = book_bytes::put_two(out, x2, a);
+    let x4 = book_bytes::put_two(out, x3, b);
+    let x5 = book_bytes::put_two(out, x4, c);
+    book_bytes::put_four(out, x5, t)
+}
+
+// The five lists of a body, from `at` on.
+fn put_lists(
+    out: &mut [u8],
+    at: usize,
+    g: &[u64],
+    h: &[u64],
+    a: &[u64],
+    b: &[u64],
+    c: &[u64],
+) -> usize
+    requires { ⌜ Lists (now out) at (now g) (now h) (now a) (now b) (now c) ⌝ }
+    ensures { λ r.
+        ⌜ Put (now (out .entry)) at (listBytes (now (g .entry)) (now (h .entry)) (now (a .entry)) (now (b .entry)) (now (c .entry)))
+        (listLong (now (g .entry)) (now (h .entry)) (now (a .entry)) (now (b .entry)) (now (c .entry))) r (now (out .exit)) ⌝ }
+{
+    let x0 = book_bytes::put_list(out, at, g);
+    let x1 = book_bytes::put_list(out, x0, h);
+    let x2 = book_bytes::put_list(out, x1, a);
+    let x3 = book_bytes::put_list(out, x2, b);
+    book_bytes::put_list(out, x3, c)
+}
+
+// A list of a unit that the caller hands over: its rule.
+fn unit_list(p: u64, l: &[u64]) -> bool
+    ensures { λ r. ⌜ Decides r (UnitList p (now (l .entry))) ⌝ }
+{
+    let n = l.len();
+    if n == 0 {
+        return false;
+    }
+    if n > 4096 {
+        return false;
+    }
+    let top = l[n - 1];
+    if top == 0 {
+        return false;
+    }
+    let mut i: usize = 0;
+    while i < n {
+        let v = l[i];
+        if v >= p {
+            return false;
+        }
+        i += 1;
+    }
+    true
+}
+
+// Of E0 alone: an odd length of 3 or more, and monic.
+fn first_list(l: &[u64]) -> bool
+    ensures { λ r. ⌜ Decides r (FirstList (now (l .entry))) ⌝ }
+{
+    let n = l.len();
+    if n < 3 {
+        return false;
+    }
+    if n % 2 != 1 {
+        return false;
+    }
+    let top = l[n - 1];
+    if top != 1 {
+        return false;
+    }
+    true
+}
+
+// The body rule of values that the caller hands over. It does not look at G and H.
+fn rule_of(p: u64, t: u64, a: &[u64], b: &[u64], c: &[u64]) -> bool
+    ensures { λ r. ⌜ Decides r (Rule (bodyFrom p [] [] t (now (a .entry)) (now (b .entry)) (now (c .entry)))) ⌝ }
+{
+    if t < 1 {
+        return false;
+    }
+    if t > 1000000 {
+        return false;
+    }
+    let r0 = unit_list(p, a);
+    if !r0 {
+        return false;
+    }
+    let r1 = unit_list(p, b);
+    if !r1 {
+        return false;
+    }
+    let r2 = unit_list(p, c);
+    if !r2 {
+        return false;
+    }
+    let first = first_list(a);
+    if !first {
+        return false;
+    }
+    true
+}
+
+// Writes a body: p, G, H, the period and the rows E0, E1, E2.
+pub fn write_body(
+    p: u64,
+    g: &[u64],
+    h: &[u64],
+    period: counts::Period,
+    a: &[u64],
+    b: &[u64],
+    c: &[u64],
+    out: &mut [u8],
+) -> Wrote
+    ensures { λ r.
+        ⌜ WriteTells (bodyFrom p (now (g .entry)) (now (h .entry)) (period .0) (now (a .entry)) (now (b .entry)) (now (c .entry)))
+        (now (out .entry)) (wroteSays r) (now (out .exit)) ⌝ }
+{
+    let x = field::refusal(p, g, h);
+    if x != 0 {
+        return Wrote::FieldRefused(x);
+    }
+    let t = period.0;
+    let ok = rule_of(p, t, a, b, c);
+    if !ok {
+        return Wrote::RuleBroken;
+    }
+    let ng = g.len();
+    let nh = h.len();
+    let na = a.len();
+    let nb = b.len();
+    let nc = c.len();
+    let size = 16 + ((((2 * ng + 2 * nh) + 2 * na) + 2 * nb) + 2 * nc);
+    if size > out.len() {
+        return Wrote::Short;
+    }
+    let at = put_head(
+        out,
+        p,
+        ng as u64,
+        nh as u64,
+        na as u64,
+        nb as u64,
+        nc as u64,
+        t,
+    );
+    let end = put_lists(out, at, g, h, a, b, c);
+    Wrote::Length(end)
+}
