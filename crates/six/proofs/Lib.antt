@@ -3,3 +3,4 @@ pub mod Rows
 pub mod Multiply
 pub mod InPlace
 pub mod Cofactors
+pub mod Inverting

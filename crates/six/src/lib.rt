@@ -3,7 +3,7 @@ use long::{clear, copy, mix, quotient, scale, size};
 use residue::inverse;
 ghost use mathlib.Core.Path.{_≡_};
 ghost use Rattle.six.specs.Six.{ByIn, By, CoordinateIn, Coordinate, TimesIn, Times, TurnIn, Turn, MonicIn, MonicMade};
-ghost use Rattle.six.specs.Inverse.{PairIn, Pair, CofactorIn, Cofactor, NormIn, Norm};
+ghost use Rattle.six.specs.Inverse.{PairIn, Pair, CofactorIn, Cofactor, NormIn, Norm, InvertIn, Inverted};
 ghost use lib.ListN.{length, replicate};
 
 // x y, for two short ones
@@ -174,4 +174,35 @@ fn norm(p: u64, c: usize, gh: &[u16], rows: &[u16]) -> u64
     let mut b: [u16; 1] = [0; 1];
     mix(p, gh, &a, &rows[z..c], &rows[c3..c4], &mut b);
     wide(b[0])
+}
+
+// F = cof(E)/N(E) after the rows of E, from the low k coefficients of the cofactor. ngh is - G H. The scratch is blank after.
+pub fn invert(
+    p: u64,
+    c: usize,
+    k: usize,
+    g: &[u16],
+    h: &[u16],
+    gh: &[u16],
+    ngh: &[u16],
+    rows: &mut [u16],
+    s: &mut [u16],
+)
+    requires { ⌜ InvertIn p c k (now g) (now h) (now gh) (now ngh) (now rows) (now s) ⌝ }
+    ensures { λ _. ⌜ Inverted p c (now (g .entry)) (now (h .entry)) (now (rows .entry)) (now (s .entry)) (now (rows .exit)) (now (s .exit)) ⌝ }
+{
+    let one: [u16; 1] = [1; 1];
+    let v = (p - 1) as u16;
+    let less: [u16; 1] = [v; 1];
+    let c2 = c + c;
+    let c3 = c2 + c;
+    let c4 = c3 + c;
+    let c5 = c4 + c;
+    let c6 = c5 + c;
+    cofactor(p, c, k, c, c2, 0, 0, ngh, &one, c3, rows, s);
+    cofactor(p, c, k, c2, c2, 0, c, g, &less, c4, rows, s);
+    cofactor(p, c, k, c, c, 0, c2, h, &less, c5, rows, s);
+    let q = inverse(p, norm(p, c, gh, rows));
+    scale(p, q, &mut rows[c3..c6]);
+    clear(s);
 }
