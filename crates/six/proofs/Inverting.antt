@@ -37,8 +37,8 @@ row-scaled : {p : ℕ} (ρ : Reading p) (s at c : ℕ) (l z : List ℕ) → ((i 
 row-scaled {p} ρ s at c l z h =
     ap (row ρ) (ext-getD 0 (cut at c z) (tab (length (cut at c l)) (λ i. (getD (cut at c l) i 0 * s) % p)) (length-tab c (λ i. getD z (at + i) 0) ∙ sym (length-tab (length (cut at c l)) (λ i. (getD (cut at c l) i 0 * s) % p) ∙ length-tab c (λ i. getD l (at + i) 0)))
     (λ i u. let e : length (cut at c z) ≡ c = length-tab c (λ i. getD z (at + i) 0) in let f : length (cut at c l) ≡ c = length-tab c (λ i. getD l (at + i) 0) in let v : i < c = omega arith in
-        at-tab c (λ i. getD z (at + i) 0) i v ∙ h i v ∙ ap (λ x. (x * s) % p) (sym (at-tab c (λ i. getD l (at + i) 0) i v))
-        ∙ sym (at-tab (length (cut at c l)) (λ i. (getD (cut at c l) i 0 * s) % p) i (omega arith))))
+    at-tab c (λ i. getD z (at + i) 0) i v ∙ h i v ∙ ap (λ x. (x * s) % p) (sym (at-tab c (λ i. getD l (at + i) 0) i v))
+    ∙ sym (at-tab (length (cut at c l)) (λ i. (getD (cut at c l) i 0 * s) % p) i (omega arith))))
     ∙ scale-law ρ s (cut at c l)
 
 module _ (p c k : ℕ) (g h gh ngh rows s : List ℕ) (t : InvertIn p c k g h gh ngh rows s) where
@@ -160,11 +160,11 @@ module _ (p c k : ℕ) (g h gh ngh rows s : List ℕ) (t : InvertIn p c k g h gh
       norm-is v N =
           let (κ, κ≢, e) = t .constant pr in
           let whole : row ρ gh ⊗ (row ρ (cut c c r₃) ⊗ row ρ (cut (c + c + c + c + c) c r₃) ⊕ row ρ (cut (c + c) c r₃) ⊗ row ρ (cut (c + c + c + c) c r₃)) ⊕ row ρ (cut 0 c r₃) ⊗ row ρ (cut (c + c + c) c r₃) ≡ normT (ρ .𝓥 .L .ops) (row ρ g) (row ρ h) E =
-              ap₂ _⊕_ (ap₂ _⊗_ (t .gh-is pr) (ap₂ _⊕_ (ap₂ _⊗_ (same c r₃ (omega arith) kept₃ ∙ Eb) F-c) (ap₂ _⊗_ (same (c + c) r₃ (omega arith) kept₃ ∙ Ec) F-b))) (ap₂ _⊗_ (same 0 r₃ (omega arith) kept₃) F-a)
-              ∙ solve (ρ .𝓥 .L)
-              (var 0 :* var 1 :* (var 3 :* (var 3 :* var 3 :* var 1 :+ minus (var 2 :* var 4)) :+ var 4 :* (var 4 :* var 4 :* var 0 :+ minus (var 2 :* var 3))) :+ var 2 :* (var 2 :* var 2 :+ minus (var 3 :* var 4 :* (var 0 :* var 1))))
-              (var 2 :* var 2 :* var 2 :+ var 3 :* var 3 :* var 3 :* (var 0 :* (var 1 :* var 1)) :+ var 4 :* var 4 :* var 4 :* (var 0 :* var 0 :* var 1) :+ minus (var 2 :* var 3 :* var 4 :* (var 0 :* var 1) :+ var 2 :* var 3 :* var 4 :* (var 0 :* var 1) :+ var 2 :* var 3 :* var 4 :* (var 0 :* var 1)))
-              tt (row ρ g ∷ row ρ h ∷ E .a ∷ E .b ∷ E .c ∷ []) in
+          ap₂ _⊕_ (ap₂ _⊗_ (t .gh-is pr) (ap₂ _⊕_ (ap₂ _⊗_ (same c r₃ (omega arith) kept₃ ∙ Eb) F-c) (ap₂ _⊗_ (same (c + c) r₃ (omega arith) kept₃ ∙ Ec) F-b))) (ap₂ _⊗_ (same 0 r₃ (omega arith) kept₃) F-a)
+          ∙ solve (ρ .𝓥 .L)
+          (var 0 :* var 1 :* (var 3 :* (var 3 :* var 3 :* var 1 :+ minus (var 2 :* var 4)) :+ var 4 :* (var 4 :* var 4 :* var 0 :+ minus (var 2 :* var 3))) :+ var 2 :* (var 2 :* var 2 :+ minus (var 3 :* var 4 :* (var 0 :* var 1))))
+          (var 2 :* var 2 :* var 2 :+ var 3 :* var 3 :* var 3 :* (var 0 :* (var 1 :* var 1)) :+ var 4 :* var 4 :* var 4 :* (var 0 :* var 0 :* var 1) :+ minus (var 2 :* var 3 :* var 4 :* (var 0 :* var 1) :+ var 2 :* var 3 :* var 4 :* (var 0 :* var 1) :+ var 2 :* var 3 :* var 4 :* (var 0 :* var 1)))
+          tt (row ρ g ∷ row ρ h ∷ E .a ∷ E .b ∷ E .c ∷ []) in
           sym (row-one ρ v) ∙ low-unique ρ (N .law pr) (lt-eq (ρ .𝓥) (ρ .𝓥 .lead-up 1 0 (ρ .𝓥 .const-lead κ) (omega arith)) (sym (whole ∙ e))) ∙ whole
 
     pub norm-asks : NormIn p c gh r₃
@@ -183,7 +183,7 @@ module _ (p c k : ℕ) (g h gh ngh rows s : List ℕ) (t : InvertIn p c k g h gh
     }
 
     below₃ : (i : ℕ) → getD r₃ i 0 < p
-    below₃ i = step D (step B (step A (t .each)))  i
+    below₃ i = step D (step B (step A (t .each))) i
       where
         step : {x y v w : ℕ} {u f : List ℕ} {at : ℕ} {r z r′ z′ : List ℕ} → Cofactor p c k x y v w u f at r z r′ z′ → ((j : ℕ) → getD r j 0 < p) → (j : ℕ) → getD r′ j 0 < p
         step {at = at} {r′ = r′} M e j = elim (decLt j at) [
@@ -202,11 +202,11 @@ module _ (p c k : ℕ) (g h gh ngh rows s : List ℕ) (t : InvertIn p c k g h gh
         let part : length (mid (c + c + c) (c + c + c + c + c + c) r₃) ≡ c + c + c = mid-length (c + c + c) (c + c + c + c + c + c) r₃ (omega arith) (omega arith) ∙ (let o : c + c + c + c + c + c - (c + c + c) ≡ c + c + c = omega arith in o) in
         let put : Put (c + c + c) (c + c + c) r₃ d z = subst (λ j. Put (c + c + c) (c + c + c) r₃ d (take (c + c + c) r₃ ++ (d ++ drop j (drop (c + c + c) r₃)))) (sym em) (put-back (c + c + c) (c + c + c) r₃ d (omega arith) (S .size ∙ part)) in
         let at : (i : ℕ) → i < c + c + c → getD z (c + c + c + i) 0 ≡ (getD r₃ (c + c + c + i) 0 * q) % p = (λ i u. put .inside i u ∙ S .at i (omega arith)
-            ∙ ap (λ x. (x * q) % p) (getD-take (c + c + c + c + c + c - (c + c + c)) (drop (c + c + c) r₃) i 0 (omega arith) ∙ getD-drop (c + c + c) r₃ i 0)) in
+        ∙ ap (λ x. (x * q) % p) (getD-take (c + c + c + c + c + c - (c + c + c)) (drop (c + c + c) r₃) i 0 (omega arith) ∙ getD-drop (c + c + c) r₃ i 0)) in
         let at₁ : (i : ℕ) → i < c → getD z (c + c + c + c + i) 0 ≡ (getD r₃ (c + c + c + c + i) 0 * q) % p = (λ i u. let o : c + c + c + c + i ≡ c + c + c + (c + i) = omega arith in
-            ap (λ j. getD z j 0) o ∙ at (c + i) (omega arith) ∙ ap (λ j. (getD r₃ j 0 * q) % p) (sym o)) in
+        ap (λ j. getD z j 0) o ∙ at (c + i) (omega arith) ∙ ap (λ j. (getD r₃ j 0 * q) % p) (sym o)) in
         let at₂ : (i : ℕ) → i < c → getD z (c + c + c + c + c + i) 0 ≡ (getD r₃ (c + c + c + c + c + i) 0 * q) % p = (λ i u. let o : c + c + c + c + c + i ≡ c + c + c + (c + c + i) = omega arith in
-            ap (λ j. getD z j 0) o ∙ at (c + c + i) (omega arith) ∙ ap (λ j. (getD r₃ j 0 * q) % p) (sym o)) in
+        ap (λ j. getD z j 0) o ∙ at (c + c + i) (omega arith) ∙ ap (λ j. (getD r₃ j 0 * q) % p) (sym o)) in
         record {
           size = put .size ∙ D .size ∙ B .size ∙ A .size;
           each = λ i. elim (decLt i (c + c + c)) [

@@ -21,7 +21,7 @@ use Rattle.six.proofs.Parts.{mid, mid-length, mid-cut}
 pub cut-same : (at n : ℕ) (s z : List ℕ) → ((i : ℕ) → i < n → getD s (at + i) 0 ≡ getD z (at + i) 0) → cut at n s ≡ cut at n z
 cut-same at n s z h = ext-getD 0 (cut at n s) (cut at n z) (length-tab n (λ i. getD s (at + i) 0) ∙ sym (length-tab n (λ i. getD z (at + i) 0)))
     (λ i u. let e : length (cut at n s) ≡ n = length-tab n (λ i. getD s (at + i) 0) in let v : i < n = omega arith in
-        at-tab n (λ i. getD s (at + i) 0) i v ∙ h i v ∙ sym (at-tab n (λ i. getD z (at + i) 0) i v))
+    at-tab n (λ i. getD s (at + i) 0) i v ∙ h i v ∙ sym (at-tab n (λ i. getD z (at + i) 0) i v))
 
 -- zeros above n do not count
 pub row-grow : {p : ℕ} (ρ : Reading p) (at n c : ℕ) (s : List ℕ) → n ≤ c → ((i : ℕ) → n ≤ i → i < c → getD s (at + i) 0 ≡ 0) → row ρ (cut at c s) ≡ row ρ (cut at n s)
@@ -117,8 +117,7 @@ module _ (p c n : ℕ) (g h gh b e s : List ℕ) (t : TimesIn p c n g h gh b e s
           let m₂ : row ρ (mid 34 51 b) ≡ row ρ (cut 34 17 b) = ap (row ρ) (piece-cut 34 51 (omega arith) (omega arith)) in
           let w : row ρ (mid 102 119 b) ≡ row ρ (cut 102 17 b) = ap (row ρ) (piece-cut 102 119 (omega arith) (omega arith)) in
           let E = row ρ (cut 0 c e) in let F = row ρ (cut c c e) in let K = row ρ (cut (c + c) c e) in
-          let A = row ρ (cut 0 17 b) in let B = row ρ (cut 17 17 b) in let D = row ρ (cut 34 17 b) in
-          (
+          let A = row ρ (cut 0 17 b) in let B = row ρ (cut 17 17 b) in let D = row ρ (cut 34 17 b) in (
             lay-row C₁ s₃ upto pos keep₁ (λ j u v. t .blank (0 + j)) pr
                 ∙ C₁ .law pr x hx lx (ap (λ v. o .mul v x) w ∙ ex
                 ∙ solve L (var 0 :* var 3 :+ (var 1 :* var 5 :+ var 2 :* var 4) :* var 6) (var 3 :* var 0 :+ var 5 :* var 6 :* var 1 :+ var 4 :* var 6 :* var 2) tt (E ∷ F ∷ K ∷ A ∷ B ∷ D ∷ row ρ gh ∷ [])

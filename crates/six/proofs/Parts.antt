@@ -24,7 +24,7 @@ mid-length f t l a b = length-take-le (t - f) (drop f l) (let e : length (drop f
 pub mid-cut : (f t : ℕ) (l : List ℕ) → f ≤ t → t ≤ length l → mid f t l ≡ cut f (t - f) l
 mid-cut f t l a b = ext-getD 0 (mid f t l) (cut f (t - f) l) (mid-length f t l a b ∙ sym (length-tab (t - f) (λ i. getD l (f + i) 0)))
     (λ i u. let s : length (mid f t l) ≡ t - f = mid-length f t l a b in let v : i < t - f = omega arith in
-        getD-take (t - f) (drop f l) i 0 v ∙ getD-drop f l i 0 ∙ sym (at-tab (t - f) (λ i. getD l (f + i) 0) i v))
+    getD-take (t - f) (drop f l) i 0 v ∙ getD-drop f l i 0 ∙ sym (at-tab (t - f) (λ i. getD l (f + i) 0) i v))
 
 pub record Put (a k : ℕ) (xs ys z : List ℕ) : Type 0 where
   pub size : length z ≡ length xs

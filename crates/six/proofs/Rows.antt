@@ -35,7 +35,7 @@ by-made p x y d r g s m = record {
   each = m .each;
   law = λ pr. let ρ = reading p pr in let L = ρ .𝓥 .L in let o = L .ops in
       let e : o .add (o .mul (row ρ x) (row ρ y)) (o .mul (row ρ (0 ∷ [])) (row ρ (0 ∷ []))) ≡ o .mul (row ρ x) (row ρ y) =
-          ap (λ z. o .add (o .mul (row ρ x) (row ρ y)) (o .mul z z)) (none ρ) ∙ solve L (var 0 :* var 1 :+ zer :* zer) (var 0 :* var 1) tt (row ρ x ∷ row ρ y ∷ []) in
+      ap (λ z. o .add (o .mul (row ρ x) (row ρ y)) (o .mul z z)) (none ρ) ∙ solve L (var 0 :* var 1 :+ zer :* zer) (var 0 :* var 1) tt (row ρ x ∷ row ρ y ∷ []) in
       low-unique ρ (m .law pr) (lt-up (ρ .𝓥) (length d) (lt-eq (ρ .𝓥) (lt-mul (ρ .𝓥) (row-lt ρ x) (row-lt ρ y)) (sym e)) (let l : length x + length y ≤ 50 = g .room in omega arith)) ∙ e;
 }
 

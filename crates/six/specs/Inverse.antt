@@ -92,5 +92,5 @@ pub record Inverted (p c : ℕ) (g h rows s rows′ s′ : List ℕ) : Type 0 wh
   pub law : (pr : Prime p) → let ρ = reading p pr in let o = ρ .𝓥 .L .ops in (ν : ρ .𝓥 .L .El)
       → o .mul (normT o (row ρ g) (row ρ h) (element ρ 0 c rows)) ν ≡ o .𝟏
       → let C = cofT o (row ρ g) (row ρ h) (element ρ 0 c rows) in let F = element ρ (c + c + c) c rows′ in
-        (F .a ≡ o .mul ν (C .a)) × (F .b ≡ o .mul ν (C .b)) × (F .c ≡ o .mul ν (C .c))
+      (F .a ≡ o .mul ν (C .a)) × (F .b ≡ o .mul ν (C .b)) × (F .c ≡ o .mul ν (C .c))
   pub blank : s′ ≡ replicate (length s) 0

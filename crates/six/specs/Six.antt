@@ -69,8 +69,8 @@ pub record Times (p c n : ℕ) (g h gh b e s s′ : List ℕ) : Type 0 where
   pub law : (pr : Prime p) → let ρ = reading p pr in let o = ρ .𝓥 .L .ops in (x y z : ρ .𝓥 .L .El)
       → ρ .𝓥 .IsPoly x → ρ .𝓥 .IsPoly y → ρ .𝓥 .IsPoly z → Lt (ρ .𝓥) x n → Lt (ρ .𝓥) y n → Lt (ρ .𝓥) z n
       → let E0 = row ρ (cut 0 c e) in let E1 = row ρ (cut c c e) in let E2 = row ρ (cut (c + c) c e) in
-        let M0 = row ρ (cut 0 17 b) in let M1 = row ρ (cut 17 17 b) in let M2 = row ρ (cut 34 17 b) in let U = row ρ (cut 102 17 b) in
-        o .mul U x ≡ o .add (o .mul E0 M0) (o .mul (o .add (o .mul E1 M2) (o .mul E2 M1)) (row ρ gh))
+      let M0 = row ρ (cut 0 17 b) in let M1 = row ρ (cut 17 17 b) in let M2 = row ρ (cut 34 17 b) in let U = row ρ (cut 102 17 b) in
+      o .mul U x ≡ o .add (o .mul E0 M0) (o .mul (o .add (o .mul E1 M2) (o .mul E2 M1)) (row ρ gh))
       → o .mul U y ≡ o .add (o .add (o .mul E0 M1) (o .mul E1 M0)) (o .mul (o .mul E2 M2) (row ρ g))
       → o .mul U z ≡ o .add (o .add (o .mul E0 M2) (o .mul E2 M0)) (o .mul (o .mul E1 M1) (row ρ h))
       → (row ρ (cut 0 c s′) ≡ x) × (row ρ (cut c c s′) ≡ y) × (row ρ (cut (c + c) c s′) ≡ z)
@@ -86,8 +86,8 @@ pub record Turn (p c n : ℕ) (g h gh b rows s rows′ s′ : List ℕ) : Type 0
   pub law : (pr : Prime p) → let ρ = reading p pr in let o = ρ .𝓥 .L .ops in (x y z : ρ .𝓥 .L .El)
       → ρ .𝓥 .IsPoly x → ρ .𝓥 .IsPoly y → ρ .𝓥 .IsPoly z → Lt (ρ .𝓥) x n → Lt (ρ .𝓥) y n → Lt (ρ .𝓥) z n
       → let E0 = row ρ (cut 0 c rows) in let E1 = row ρ (cut c c rows) in let E2 = row ρ (cut (c + c) c rows) in
-        let M0 = row ρ (cut 0 17 b) in let M1 = row ρ (cut 17 17 b) in let M2 = row ρ (cut 34 17 b) in let U = row ρ (cut 102 17 b) in
-        o .mul U x ≡ o .add (o .mul E0 M0) (o .mul (o .add (o .mul E1 M2) (o .mul E2 M1)) (row ρ gh))
+      let M0 = row ρ (cut 0 17 b) in let M1 = row ρ (cut 17 17 b) in let M2 = row ρ (cut 34 17 b) in let U = row ρ (cut 102 17 b) in
+      o .mul U x ≡ o .add (o .mul E0 M0) (o .mul (o .add (o .mul E1 M2) (o .mul E2 M1)) (row ρ gh))
       → o .mul U y ≡ o .add (o .add (o .mul E0 M1) (o .mul E1 M0)) (o .mul (o .mul E2 M2) (row ρ g))
       → o .mul U z ≡ o .add (o .add (o .mul E0 M2) (o .mul E2 M0)) (o .mul (o .mul E1 M1) (row ρ h))
       → (row ρ (cut 0 c rows′) ≡ x) × (row ρ (cut c c rows′) ≡ y) × (row ρ (cut (c + c) c rows′) ≡ z)

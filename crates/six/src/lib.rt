@@ -1,5 +1,10 @@
 // The six rows of a unit and its inverse, in one lent slice: E0, E1, E2, F0, F1, F2 of c coefficients each.
-use long::{clear, copy, mix, quotient, scale, size};
+use long::clear;
+use long::copy;
+use long::mix;
+use long::quotient;
+use long::scale;
+use long::size;
 use residue::inverse;
 ghost use mathlib.Core.Path.{_≡_};
 ghost use Rattle.six.specs.Six.{ByIn, By, CoordinateIn, Coordinate, TimesIn, Times, TurnIn, Turn, MonicIn, MonicMade};
@@ -55,7 +60,17 @@ fn coordinate(
 }
 
 // E times m, n coefficients of each row, into the blank s. b is the basis record of m; gh is G H.
-fn times(p: u64, c: usize, n: usize, g: &[u16], h: &[u16], gh: &[u16], b: &[u16], e: &[u16], s: &mut [u16])
+fn times(
+    p: u64,
+    c: usize,
+    n: usize,
+    g: &[u16],
+    h: &[u16],
+    gh: &[u16],
+    b: &[u16],
+    e: &[u16],
+    s: &mut [u16],
+)
     requires { ⌜ TimesIn p c n (now g) (now h) (now gh) (now b) (now e) (now s) ⌝ }
     ensures { λ _. ⌜ Times p c n (now (g .entry)) (now (h .entry)) (now (gh .entry)) (now (b .entry)) (now (e .entry)) (now (s .entry)) (now (s .exit)) ⌝ }
 {
@@ -118,7 +133,17 @@ pub fn monic(p: u64, c: usize, n: usize, rows: &mut [u16])
 }
 
 // The low k coefficients of the products of the rows at x and y and of those at v and w, one after the other.
-fn pair(p: u64, c: usize, k: usize, x: usize, y: usize, v: usize, w: usize, rows: &[u16], s: &mut [u16])
+fn pair(
+    p: u64,
+    c: usize,
+    k: usize,
+    x: usize,
+    y: usize,
+    v: usize,
+    w: usize,
+    rows: &[u16],
+    s: &mut [u16],
+)
     requires { ⌜ PairIn p c k x y v w (now rows) (now s) ⌝ }
     ensures { λ _. ⌜ Pair p c k x y v w (now (rows .entry)) (now (s .entry)) (now (s .exit)) ⌝ }
 {
@@ -170,7 +195,14 @@ fn norm(p: u64, c: usize, gh: &[u16], rows: &[u16]) -> u64
     let c5 = c4 + c;
     let c6 = c5 + c;
     let mut a: [u16; 1] = [0; 1];
-    mix(p, &rows[c..c2], &rows[c5..c6], &rows[c2..c3], &rows[c4..c5], &mut a);
+    mix(
+        p,
+        &rows[c..c2],
+        &rows[c5..c6],
+        &rows[c2..c3],
+        &rows[c4..c5],
+        &mut a,
+    );
     let mut b: [u16; 1] = [0; 1];
     mix(p, gh, &a, &rows[z..c], &rows[c3..c4], &mut b);
     wide(b[0])

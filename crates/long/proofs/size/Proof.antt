@@ -41,9 +41,8 @@ loop-less : tie.Need-loop-less Inv-loop μ-loop
 loop-less c = search needs
 
 loop-again : tie.Need-loop-again Inv-loop μ-loop
-loop-again c =     let l = c .before .before .before .loop in
-    let x = c .before .before .before .before .args .x .now in
-    (
+loop-again c = let l = c .before .before .before .loop in
+    let x = c .before .before .before .before .args .x .now in (
       omega (arith, l .inv .0),
       λ i h. elim (ℕ-discrete i (l .m - 1)) [ yes e ↦ ap (λ k. getD x k 0) e ∙ c .if1 .left | no f ↦ l .inv .1 i (omega arith) ],
     )

@@ -69,7 +69,7 @@ same-length-2 : tie.Need-same-length-2
 same-length-2 c = search needs
 
 returns : tie.Need-returns
-returns c =     let s = c .before .before .before .before .before .before .before .before .before .before .before .before .before .before .before .before in
+returns c = let s = c .before .before .before .before .before .before .before .before .before .before .before .before .before .before .before .before in
     cofactor-made (s .args .p) (s .args .c) (s .args .k) (s .args .x) (s .args .y) (s .args .v) (s .args .w) (s .args .g .now) (s .args .f .now) (s .args .at) (s .args .rows .now) (s .args .s .now) _ (s .pre) (c .before .before .before .before .before .before .before .before .before .pair .ensures) _ (s .args .at + s .args .k - s .args .at) (omega arith) (c .before .before .mix .ensures)
 
 pub cofactor-spec : {M : Type 1} → statement M

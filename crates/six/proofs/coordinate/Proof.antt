@@ -132,7 +132,7 @@ part-quotient-end-8 : tie.Need-part-quotient-end-8
 part-quotient-end-8 c = search needs
 
 quotient-requires : tie.Need-quotient-requires
-quotient-requires c κs =     let s = c .before .before .before .before .before .before .before .before .before .before .before .before .before .before .before .before .before .before in
+quotient-requires c κs = let s = c .before .before .before .before .before .before .before .before .before .before .before .before .before .before .before .before .before .before in
     coordinate-asks (s .args .p) (s .args .c) (s .args .n) (s .args .a .now) (s .args .b .now) (s .args .d .now) (s .args .u .now) (s .args .e .now) (s .args .at) (s .args .s .now) _ _ _ _ (s .pre)
     (c .before .before .before .before .before .before .before .before .before .before .before .size .ensures) (c .before .before .before .before .before .before .before .before .before .before .size2 .ensures) (c .before .before .before .before .before .before .before .before .before .size3 .ensures) (c .before .before .before .before .before .before .before .before .size4 .ensures)
 
@@ -140,7 +140,7 @@ same-length : tie.Need-same-length
 same-length c = search needs
 
 returns : tie.Need-returns
-returns c =     let s = c .before .before .before .before .before .before .before .before .before .before .before .before .before .before .before .before .before .before .before .before .before in
+returns c = let s = c .before .before .before .before .before .before .before .before .before .before .before .before .before .before .before .before .before .before .before .before .before in
     coordinate-made (s .args .p) (s .args .c) (s .args .n) (s .args .a .now) (s .args .b .now) (s .args .d .now) (s .args .u .now) (s .args .e .now) (s .args .at) (s .args .s .now) _ _ _ _ (s .pre)
     (c .before .before .before .before .before .before .before .before .before .before .before .before .before .before .size .ensures) (c .before .before .before .before .before .before .before .before .before .before .before .before .before .size2 .ensures) (c .before .before .before .before .before .before .before .before .before .before .before .before .size3 .ensures) (c .before .before .before .before .before .before .before .before .before .before .before .size4 .ensures) _ (c .before .before .quotient .ensures) (s .args .at + s .args .n - s .args .at) (omega arith)
 

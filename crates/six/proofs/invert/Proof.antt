@@ -64,7 +64,7 @@ inverse-requires : tie.Need-inverse-requires
 inverse-requires c κs = let s = c .before .before .before .before .before .before .before .before .before .before .before .before .before .before .before .before .before .before .before .before .before .before .before .before .before .before .before .before .before .before .before .before in inverse-asks (s .args .p) (s .args .c) (s .args .k) (s .args .g .now) (s .args .h .now) (s .args .gh .now) (s .args .ngh .now) (s .args .rows .now) (s .args .s .now) (s .pre) _ _ _ _ _ _ (c .before .before .before .before .before .before .before .before .before .before .before .before .before .before .before .before .before .before .before .before .before .before .cofactor .ensures) (c .before .before .before .before .before .before .before .before .before .before .before .before .before .before .cofactor2 .ensures) (c .before .before .before .before .before .before .cofactor3 .ensures) _ (c .norm .ensures)
 
 mul-scale : tie.Need-mul-scale
-mul-scale c = search needs
+mul-scale c = let s = c .before .before .before .before .before .before .before .before .before .before .before .before .before .before .before .before .before .before .before .before .before .before .before .before .before .before .before .before .before .before .before .before .before in omega (arith, s .pre .most)
 
 sub-scale : tie.Need-sub-scale
 sub-scale c = search needs
@@ -82,17 +82,17 @@ clear-requires : tie.Need-clear-requires
 clear-requires c κs = search needs
 
 same-length : tie.Need-same-length
-same-length c =     let s = c .before .before .before .before .before .before .before .before .before .before .before .before .before .before .before .before .before .before .before .before .before .before .before .before .before .before .before .before .before .before .before .before .before .before .before .before .before .before .before .before .before in
+same-length c = let s = c .before .before .before .before .before .before .before .before .before .before .before .before .before .before .before .before .before .before .before .before .before .before .before .before .before .before .before .before .before .before .before .before .before .before .before .before .before .before .before .before .before in
     (inverted (s .args .p) (s .args .c) (s .args .k) (s .args .g .now) (s .args .h .now) (s .args .gh .now) (s .args .ngh .now) (s .args .rows .now) (s .args .s .now) (s .pre) _ _ _ _ _ _ (c .before .before .before .before .before .before .before .before .before .before .before .before .before .before .before .before .before .before .before .before .before .before .before .before .before .before .before .before .before .before .before .cofactor .ensures) (c .before .before .before .before .before .before .before .before .before .before .before .before .before .before .before .before .before .before .before .before .before .before .before .cofactor2 .ensures) (c .before .before .before .before .before .before .before .before .before .before .before .before .before .before .before .cofactor3 .ensures) _ _ _ _ (s .args .c + s .args .c + s .args .c + s .args .c + s .args .c + s .args .c - (s .args .c + s .args .c + s .args .c)) (omega arith)
     (c .before .before .before .before .before .before .before .before .before .norm .ensures) (c .before .before .before .before .before .before .before .before .inverse .ensures) (c .before .before .before .before .before .before .scale .ensures) (c .before .before .clear .ensures)) .size
 
 same-length-2 : tie.Need-same-length-2
-same-length-2 c =     let s = c .before .before .before .before .before .before .before .before .before .before .before .before .before .before .before .before .before .before .before .before .before .before .before .before .before .before .before .before .before .before .before .before .before .before .before .before .before .before .before .before .before in
+same-length-2 c = let s = c .before .before .before .before .before .before .before .before .before .before .before .before .before .before .before .before .before .before .before .before .before .before .before .before .before .before .before .before .before .before .before .before .before .before .before .before .before .before .before .before .before in
     ap length ((inverted (s .args .p) (s .args .c) (s .args .k) (s .args .g .now) (s .args .h .now) (s .args .gh .now) (s .args .ngh .now) (s .args .rows .now) (s .args .s .now) (s .pre) _ _ _ _ _ _ (c .before .before .before .before .before .before .before .before .before .before .before .before .before .before .before .before .before .before .before .before .before .before .before .before .before .before .before .before .before .before .before .cofactor .ensures) (c .before .before .before .before .before .before .before .before .before .before .before .before .before .before .before .before .before .before .before .before .before .before .before .cofactor2 .ensures) (c .before .before .before .before .before .before .before .before .before .before .before .before .before .before .before .cofactor3 .ensures) _ _ _ _ (s .args .c + s .args .c + s .args .c + s .args .c + s .args .c + s .args .c - (s .args .c + s .args .c + s .args .c)) (omega arith)
     (c .before .before .before .before .before .before .before .before .before .norm .ensures) (c .before .before .before .before .before .before .before .before .inverse .ensures) (c .before .before .before .before .before .before .scale .ensures) (c .before .before .clear .ensures)) .blank) ∙ length-replicate (length (s .args .s .now)) 0
 
 returns : tie.Need-returns
-returns c =     let s = c .before .before .before .before .before .before .before .before .before .before .before .before .before .before .before .before .before .before .before .before .before .before .before .before .before .before .before .before .before .before .before .before .before .before .before .before .before .before .before .before .before in
+returns c = let s = c .before .before .before .before .before .before .before .before .before .before .before .before .before .before .before .before .before .before .before .before .before .before .before .before .before .before .before .before .before .before .before .before .before .before .before .before .before .before .before .before .before in
     inverted (s .args .p) (s .args .c) (s .args .k) (s .args .g .now) (s .args .h .now) (s .args .gh .now) (s .args .ngh .now) (s .args .rows .now) (s .args .s .now) (s .pre) _ _ _ _ _ _ (c .before .before .before .before .before .before .before .before .before .before .before .before .before .before .before .before .before .before .before .before .before .before .before .before .before .before .before .before .before .before .before .cofactor .ensures) (c .before .before .before .before .before .before .before .before .before .before .before .before .before .before .before .before .before .before .before .before .before .before .before .cofactor2 .ensures) (c .before .before .before .before .before .before .before .before .before .before .before .before .before .before .before .cofactor3 .ensures) _ _ _ _ (s .args .c + s .args .c + s .args .c + s .args .c + s .args .c + s .args .c - (s .args .c + s .args .c + s .args .c)) (omega arith)
     (c .before .before .before .before .before .before .before .before .before .norm .ensures) (c .before .before .before .before .before .before .before .before .inverse .ensures) (c .before .before .before .before .before .before .scale .ensures) (c .before .before .clear .ensures)
 

@@ -55,7 +55,7 @@ same-length : tie.Need-same-length
 same-length c = search needs
 
 returns : tie.Need-returns
-returns c =     let s = c .before .before .before .before .before .before .before .before in
+returns c = let s = c .before .before .before .before .before .before .before .before in
     monic-made (s .args .p) (s .args .c) (s .args .n) (s .args .rows .now) (s .pre) _ (c .before .before .before .before .before .wide .ensures) _ _ (s .args .c + s .args .c + s .args .c - 0) (omega arith) (c .before .before .before .before .inverse .ensures) (c .before .before .scale .ensures)
 
 pub monic-spec : {M : Type 1} → statement M

@@ -64,28 +64,28 @@ part-u-end : tie.Need-part-u-end
 part-u-end c = search needs
 
 by-requires : tie.Need-by-requires
-by-requires c κs =     let s = c .before .before .before .before .before .before .before .before .before .before in
+by-requires c κs = let s = c .before .before .before .before .before .before .before .before .before .before in
     record {
       modulus = s .pre .modulus;
       room = let l : length (mid 17 34 (s .args .b .now)) ≡ 17 = piece-length (s .args .p) (s .args .c) (s .args .n) (s .args .g .now) (s .args .h .now) (s .args .gh .now) (s .args .b .now) (s .args .e .now) (s .args .s .now) (s .pre) 17 34 (omega arith) (omega arith) in let k : length (s .args .gh .now) ≤ 33 = s .pre .gh-most in omega arith;
     }
 
 by-requires-2 : tie.Need-by-requires-2
-by-requires-2 c κs =     let s = c .before .before .before .before .before .before .before .before .before .before .before in
+by-requires-2 c κs = let s = c .before .before .before .before .before .before .before .before .before .before .before in
     record {
       modulus = s .pre .modulus;
       room = let l : length (mid 34 51 (s .args .b .now)) ≡ 17 = piece-length (s .args .p) (s .args .c) (s .args .n) (s .args .g .now) (s .args .h .now) (s .args .gh .now) (s .args .b .now) (s .args .e .now) (s .args .s .now) (s .pre) 34 51 (omega arith) (omega arith) in let k : length (s .args .gh .now) ≤ 33 = s .pre .gh-most in omega arith;
     }
 
 by-requires-3 : tie.Need-by-requires-3
-by-requires-3 c κs =     let s = c .before .before .before .before .before .before .before .before .before .before .before .before in
+by-requires-3 c κs = let s = c .before .before .before .before .before .before .before .before .before .before .before .before in
     record {
       modulus = s .pre .modulus;
       room = let l : length (mid 34 51 (s .args .b .now)) ≡ 17 = piece-length (s .args .p) (s .args .c) (s .args .n) (s .args .g .now) (s .args .h .now) (s .args .gh .now) (s .args .b .now) (s .args .e .now) (s .args .s .now) (s .pre) 34 51 (omega arith) (omega arith) in let k : length (s .args .g .now) ≤ 33 = s .pre .g-most in omega arith;
     }
 
 by-requires-4 : tie.Need-by-requires-4
-by-requires-4 c κs =     let s = c .before .before .before .before .before .before .before .before .before .before .before .before .before in
+by-requires-4 c κs = let s = c .before .before .before .before .before .before .before .before .before .before .before .before .before in
     record {
       modulus = s .pre .modulus;
       room = let l : length (mid 17 34 (s .args .b .now)) ≡ 17 = piece-length (s .args .p) (s .args .c) (s .args .n) (s .args .g .now) (s .args .h .now) (s .args .gh .now) (s .args .b .now) (s .args .e .now) (s .args .s .now) (s .pre) 17 34 (omega arith) (omega arith) in let k : length (s .args .h .now) ≤ 33 = s .pre .h-most in omega arith;
@@ -98,7 +98,7 @@ slice-aggregate-coordinate-2 : tie.Need-slice-aggregate-coordinate-2
 slice-aggregate-coordinate-2 c = search needs
 
 coordinate-requires : tie.Need-coordinate-requires
-coordinate-requires c κs =     let s = c .before .before .before .before .before .before .before .before .before .before .before .before .before .before .before .before .before in
+coordinate-requires c κs = let s = c .before .before .before .before .before .before .before .before .before .before .before .before .before .before .before .before .before in
     let l₀ : length (mid 0 17 (s .args .b .now)) ≡ 17 = piece-length (s .args .p) (s .args .c) (s .args .n) (s .args .g .now) (s .args .h .now) (s .args .gh .now) (s .args .b .now) (s .args .e .now) (s .args .s .now) (s .pre) 0 17 (omega arith) (omega arith) in
     let l₁ : length (mid 17 34 (s .args .b .now)) ≡ 17 = piece-length (s .args .p) (s .args .c) (s .args .n) (s .args .g .now) (s .args .h .now) (s .args .gh .now) (s .args .b .now) (s .args .e .now) (s .args .s .now) (s .pre) 17 34 (omega arith) (omega arith) in
     let l₂ : length (mid 34 51 (s .args .b .now)) ≡ 17 = piece-length (s .args .p) (s .args .c) (s .args .n) (s .args .g .now) (s .args .h .now) (s .args .gh .now) (s .args .b .now) (s .args .e .now) (s .args .s .now) (s .pre) 34 51 (omega arith) (omega arith) in
@@ -109,7 +109,7 @@ slice-aggregate-coordinate-3 : tie.Need-slice-aggregate-coordinate-3
 slice-aggregate-coordinate-3 c = search needs
 
 coordinate-requires-2 : tie.Need-coordinate-requires-2
-coordinate-requires-2 c κs =     let s = c .before .before .before .before .before .before .before .before .before .before .before .before .before .before .before .before .before .before .before .before .before .before in
+coordinate-requires-2 c κs = let s = c .before .before .before .before .before .before .before .before .before .before .before .before .before .before .before .before .before .before .before .before .before .before in
     let l₀ : length (mid 0 17 (s .args .b .now)) ≡ 17 = piece-length (s .args .p) (s .args .c) (s .args .n) (s .args .g .now) (s .args .h .now) (s .args .gh .now) (s .args .b .now) (s .args .e .now) (s .args .s .now) (s .pre) 0 17 (omega arith) (omega arith) in
     let l₁ : length (mid 17 34 (s .args .b .now)) ≡ 17 = piece-length (s .args .p) (s .args .c) (s .args .n) (s .args .g .now) (s .args .h .now) (s .args .gh .now) (s .args .b .now) (s .args .e .now) (s .args .s .now) (s .pre) 17 34 (omega arith) (omega arith) in
     let l₂ : length (mid 34 51 (s .args .b .now)) ≡ 17 = piece-length (s .args .p) (s .args .c) (s .args .n) (s .args .g .now) (s .args .h .now) (s .args .gh .now) (s .args .b .now) (s .args .e .now) (s .args .s .now) (s .pre) 34 51 (omega arith) (omega arith) in
@@ -123,7 +123,7 @@ add-coordinate : tie.Need-add-coordinate
 add-coordinate c = let m : c .before .before .before .before .before .before .before .before .before .before .before .before .before .before .before .before .before .before .before .before .before .before .before .before .before .before .args .c ≤ 4096 = c .before .before .before .before .before .before .before .before .before .before .before .before .before .before .before .before .before .before .before .before .before .before .before .before .before .before .pre .most in omega arith
 
 coordinate-requires-3 : tie.Need-coordinate-requires-3
-coordinate-requires-3 c κs =     let s = c .before .before .before .before .before .before .before .before .before .before .before .before .before .before .before .before .before .before .before .before .before .before .before .before .before .before .before in
+coordinate-requires-3 c κs = let s = c .before .before .before .before .before .before .before .before .before .before .before .before .before .before .before .before .before .before .before .before .before .before .before .before .before .before .before in
     let l₀ : length (mid 0 17 (s .args .b .now)) ≡ 17 = piece-length (s .args .p) (s .args .c) (s .args .n) (s .args .g .now) (s .args .h .now) (s .args .gh .now) (s .args .b .now) (s .args .e .now) (s .args .s .now) (s .pre) 0 17 (omega arith) (omega arith) in
     let l₁ : length (mid 17 34 (s .args .b .now)) ≡ 17 = piece-length (s .args .p) (s .args .c) (s .args .n) (s .args .g .now) (s .args .h .now) (s .args .gh .now) (s .args .b .now) (s .args .e .now) (s .args .s .now) (s .pre) 17 34 (omega arith) (omega arith) in
     let l₂ : length (mid 34 51 (s .args .b .now)) ≡ 17 = piece-length (s .args .p) (s .args .c) (s .args .n) (s .args .g .now) (s .args .h .now) (s .args .gh .now) (s .args .b .now) (s .args .e .now) (s .args .s .now) (s .pre) 34 51 (omega arith) (omega arith) in
@@ -134,7 +134,7 @@ same-length : tie.Need-same-length
 same-length c = search needs
 
 returns : tie.Need-returns
-returns c =     let s = c .before .before .before .before .before .before .before .before .before .before .before .before .before .before .before .before .before .before .before .before .before .before .before .before .before .before .before .before .before .before in
+returns c = let s = c .before .before .before .before .before .before .before .before .before .before .before .before .before .before .before .before .before .before .before .before .before .before .before .before .before .before .before .before .before .before in
     times-made (s .args .p) (s .args .c) (s .args .n) (s .args .g .now) (s .args .h .now) (s .args .gh .now) (s .args .b .now) (s .args .e .now) (s .args .s .now) (s .pre) _ _ _ _ _ _ _
     (c .before .before .before .before .before .before .before .before .before .before .before .before .before .before .before .before .before .before .before .by .ensures) (c .before .before .before .before .before .before .before .before .before .before .before .before .before .before .before .before .before .before .by2 .ensures) (c .before .before .before .before .before .before .before .before .before .before .before .before .before .before .before .before .before .by3 .ensures) (c .before .before .before .before .before .before .before .before .before .before .before .before .before .before .before .before .by4 .ensures)
     (c .before .before .before .before .before .before .before .before .before .before .before .before .coordinate .ensures) (c .before .before .before .before .before .before .before .coordinate2 .ensures) (c .before .before .coordinate3 .ensures)

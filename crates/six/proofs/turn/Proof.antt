@@ -61,7 +61,7 @@ same-length-2 : tie.Need-same-length-2
 same-length-2 c = search needs
 
 returns : tie.Need-returns
-returns c =     let s = c .before .before .before .before .before .before .before .before .before .before .before .before .before .before .before .before .before .before .before .before .before in
+returns c = let s = c .before .before .before .before .before .before .before .before .before .before .before .before .before .before .before .before .before .before .before .before .before in
     turn-made (s .args .p) (s .args .c) (s .args .n) (s .args .g .now) (s .args .h .now) (s .args .gh .now) (s .args .b .now) (s .args .rows .now) (s .args .s .now) _ (s .pre) (c .before .before .before .before .before .before .before .before .before .before .before .before .times .ensures) _ _ (s .args .c + s .args .c + s .args .c - 0) (omega arith) (c .before .before .before .before .before .before .copy .ensures) (c .before .before .clear .ensures)
 
 pub turn-spec : {M : Type 1} → statement M
