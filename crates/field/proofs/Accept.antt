@@ -1,6 +1,9 @@
 -- The number is 0 exactly for the accepted fields.
---   accepted        number 0: accepted
---   accepted-none   accepted: number 0
+--   accepted                            number 0: accepted
+--   accepted-none                       accepted: number 0
+--   degree-size, degree-has             the trimmed length of a list of coefficients, and the degree of its polynomial
+--   stop-p, stop-lists, pass-lists      the rows put together
+--   shaped                              what rows 1 to 6 leave to rows 7 and 8
 -- What is not at fault is good, since the faults 1 and 3 are of things that are decided, and the others are negations themselves.
 use mathlib.Core.Path.{_≡_, refl, sym, ap, _∙_, subst}
 use mathlib.Core.Logic.{_≢_, inl, inr}

@@ -11,7 +11,6 @@ use Prim.Native.Nat.{ℕ, _≤_}
 use native.Mathlib.Omega.{arith}
 use Rattle.fp.specs.Fp.{Prime}
 use Rattle.valued.specs.Val.{Valued}
-use Rattle.valued.specs.Polynomial.{Poly}
 use Rattle.valued.specs.Factor.{SquareFactor, CommonFactor}
 use Rattle.valued.proofs.Polynomial.{P-path}
 use Rattle.valued.proofs.Factor.{free-no-square, apart-no-common}
@@ -20,7 +19,7 @@ use Rattle.reading.specs.Made.{reading}
 use Rattle.prime.specs.Table.{largest}
 use Rattle.poly.specs.Leaf.{Listed}
 use Rattle.poly.specs.Factors.{polynomial, OverBoth, SquareTest, CoprimeTest}
-use Rattle.field.specs.Refusal.{Degree, Fault7, Fault8, Rows78}
+use Rattle.field.specs.Refusal.{Fault7, Fault8, Rows78}
 use Rattle.field.specs.Parts.{Shaped, FreeTest, factorNumber}
 use Rattle.field.proofs.Rows.{row-of}
 

@@ -4,4 +4,5 @@ pub mod Parts
 pub mod Rows
 pub mod Factors
 pub mod Opening
+pub mod Held
 pub mod Examples

@@ -5,7 +5,7 @@
 --   Held p G H f        the same, at the degrees of the lists
 --   nothing             the field of zeros
 --   Opens p G H o       the whole answer: the table's number; beside a refusal nothing but zeros; beside 0 the field
--- `opens-one` in proofs/Opening.antt: two answers that meet it are equal.
+-- In proofs/: Opening (`opens-one`: two answers that meet it are equal), Held (what follows of the rows, degrees and leading coefficients).
 use mathlib.Core.Path.{_≡_}
 use mathlib.Core.Logic.{_≢_}
 use mathlib.Core.List.{List}

@@ -49,7 +49,7 @@ module _ {p : ℕ} (ρ : Reading p) (a x b y c z u : List ℕ) (n : ℕ) (l : Li
       let w : ℕ = sumTo (termAt u q (k + m)) m in
       let g : w % p < p = mod-lt w (ρ .pos) in
       let alike : w ≡ sumTo (termAt u l (k + m)) m = sum-ext (termAt u q (k + m)) (termAt u l (k + m)) m (λ i o. ap (λ d. getD u i 0 * d)
-          (shift-high q i (k + m) (omega arith) ∙ same (k + m - i) (omega arith) ∙ sym (shift-high l i (k + m) (omega arith)))) in
+      (shift-high q i (k + m) (omega arith) ∙ same (k + m - i) (omega arith) ∙ sym (shift-high l i (k + m) (omega arith)))) in
       let top : termAt u l (k + m) m ≡ getD l k 0 = ap₂ _*_ monic (shift-high l m (k + m) (omega arith) ∙ ap (λ i. getD l i 0) (let o : k + m - m ≡ k = omega arith in o)) ∙ (let o : 1 * getD l k 0 ≡ getD l k 0 = omega arith in o) in
       let whole : sumTo (termAt u l (k + m)) (length u) ≡ w + getD l k 0 = ap (sumTo (termAt u l (k + m))) s ∙ sum-more (termAt u l (k + m)) m ∙ ap₂ _+_ (sym alike) top in
       cast-inj ρ v (getD l k 0) (subst (λ i. i < p) (sym e) (mod-lt (t + (p - w % p)) (ρ .pos))) (h .each k)

@@ -56,7 +56,7 @@ module _ {p : ℕ} (ρ : Reading p) where
   low-unique {n} {z} {l} h b =
       let e : L .El = h .rest in
       let q : Lt 𝓥 (tpow ρ n * e) n = lt-eq 𝓥 (lt-add 𝓥 b (lt-neg 𝓥 (lt-up 𝓥 n (row-lt l) (let s : length l ≡ n = h .size in omega arith))))
-          (ap (λ a. a + - row ρ l) (h .law) ∙ solve L (var 0 :+ var 1 :+ minus (var 0)) (var 1) tt (row ρ l ∷ tpow ρ n * e ∷ [])) in
+      (ap (λ a. a + - row ρ l) (h .law) ∙ solve L (var 0 :+ var 1 :+ minus (var 0)) (var 1) tt (row ρ l ∷ tpow ρ n * e ∷ [])) in
       let none : e ≡ 𝟎 = 𝓥 .poly-small e (h .is-poly) (lt-cancel 𝓥 0 (1ᵏ, 𝓥 .one≢zero, tpow-lead ρ n) (lt-up 𝓥 (N._+_ n 0) q (omega arith))) in
       sym (h .law ∙ ap (λ a. row ρ l + tpow ρ n * a) none ∙ solve L (var 0 :+ var 1 :* zer) (var 0) tt (row ρ l ∷ tpow ρ n ∷ []))
 

@@ -1,4 +1,69 @@
-// Fields opened and refused: the answers are compared with stdout.
+// Fields opened and refused. The first line of stdin has the number of cases, and of those whose refusal alone is written; each line after it
+// has p, the number of coefficients of G, G, that of H, H. What is written is compared with stdout.
+ghost use Prim.Native.Nat.{_+_, _<_, _≤_};
+
+// v with the digit b after it, or v where b is no digit.
+fn with_digit(v: u64, b: u8) -> u64 {
+    let d = b as u64;
+    if d < 48 {
+        return v;
+    }
+    if d > 57 {
+        return v;
+    }
+    if v < 1000000000 { v * 10 + (d - 48) } else { v }
+}
+
+// The place of the number after b: a blank or a line end goes on to the next.
+fn place_after(n: usize, b: u8) -> usize
+    requires { ⌜ n < 512 ⌝ }
+    ensures { λ r. ⌜ r < 512 ⌝ }
+{
+    if b > 32 {
+        return n;
+    }
+    if n < 511 { n + 1 } else { n }
+}
+
+// The numbers of a text that has one byte between two of them.
+fn numbers(text: &[u8]) -> [u64; 512] {
+    let mut r: [u64; 512] = [0; 512];
+    let mut n: usize = 0;
+    let mut i: usize = 0;
+    while i < text.len() {
+        let b = text[i];
+        let v = with_digit(r[n], b);
+        r[n] = v;
+        n = place_after(n, b);
+        i += 1;
+    }
+    r
+}
+
+fn at(t: &[u64], i: usize) -> u64 {
+    if i < t.len() { t[i] } else { 0 }
+}
+
+fn count_at(t: &[u64], i: usize) -> usize
+    ensures { λ n. ⌜ n < 15 ⌝ }
+{
+    let n = at(t, i);
+    if n < 15 { n as usize } else { 0 }
+}
+
+fn list_at(t: &[u64], i: usize) -> [u64; 14]
+    requires { ⌜ i < 4096 ⌝ }
+{
+    let mut r: [u64; 14] = [0; 14];
+    let mut k: usize = 0;
+    while k < 14 {
+        let v = at(t, i + k);
+        r[k] = v;
+        k += 1;
+    }
+    r
+}
+
 fn line_end() {
     let end = [b'\n'];
     io::write_all(1, &end);
@@ -28,11 +93,10 @@ fn show(p: u64, g: &[u64], h: &[u64]) {
     line_end();
 }
 
-// The whole answer.
-fn show_all(p: u64, g: &[u64], h: &[u64]) {
+// The field, or the zeros beside a refusal.
+fn show_field(p: u64, g: &[u64], h: &[u64]) {
     let o = field::open(p, g, h);
     let f = o.field;
-    number(o.refusal as u64);
     number(f.p);
     number(f.lg as u64);
     number(f.lh as u64);
@@ -49,114 +113,41 @@ fn show_all(p: u64, g: &[u64], h: &[u64]) {
     row(z);
 }
 
-// What is said of p: 1 and 2.
-fn refused_p() {
-    let none: [u64; 1] = [0];
-    let x0: [u64; 2] = [0, 1];
-    let x1: [u64; 2] = [1, 1];
-    show(65537, &x0, &x1);
-    show(3, &x0, &x1);
-    show(0, &none[0..0], &x1);
-    show(4, &x0, &x1);
-    show(65535, &x0, &x1);
-    show(65521, &x0, &x1);
-    show(7, &none[0..0], &x1);
-    show(7, &x0, &x1);
-    show(65519, &x0, &x1);
-    show(5, &x0, &x1);
-}
-
-// What is said of the lists: 3.
-fn refused_lists() {
-    let none: [u64; 1] = [0];
-    let x0: [u64; 2] = [1, 1];
-    show(5, &none[0..0], &x0);
-    let x1: [u64; 2] = [0, 1];
-    show(5, &x1, &none[0..0]);
-    let x2: [u64; 2] = [65541, 1];
-    show(5, &x2, &x0);
-    let x3: [u64; 2] = [1, 5];
-    show(5, &x1, &x3);
-    let x4: [u64; 3] = [1, 1, 0];
-    show(5, &x4, &x0);
-    let x5: [u64; 1] = [0];
-    show(5, &x5, &x1);
-    let x6: [u64; 14] = [0, 1, 0, 0, 0, 0, 0, 0, 0, 0, 0, 0, 0, 1];
-    show(5, &x6, &x0);
-    let x7: [u64; 13] = [6, 0, 8, 6, 5, 6, 9, 0, 7, 0, 2, 9, 4];
-    let x8: [u64; 4] = [1, 3, 7, 6];
-    show(11, &x7, &x8);
-}
-
-// What is said of the degrees: 4, 5 and 6.
-fn refused_degrees() {
-    let x0: [u64; 1] = [2];
-    let x1: [u64; 1] = [3];
-    show(5, &x0, &x1);
-    let x2: [u64; 9] = [4, 2, 2, 4, 0, 3, 1, 0, 2];
-    let x3: [u64; 9] = [0, 1, 3, 2, 1, 3, 1, 0, 2];
-    show(5, &x2, &x3);
-    let x4: [u64; 11] = [2, 2, 1, 4, 1, 1, 1, 3, 2, 0, 3];
-    let x5: [u64; 8] = [1, 3, 3, 1, 0, 2, 0, 3];
-    show(5, &x4, &x5);
-    let x6: [u64; 4] = [4, 0, 0, 1];
-    let x7: [u64; 1] = [1];
-    show(5, &x6, &x7);
-    let x8: [u64; 3] = [0, 1, 1];
-    let x9: [u64; 2] = [1, 1];
-    show(5, &x8, &x9);
-    let x10: [u64; 2] = [0, 1];
-    show(5, &x7, &x10);
-}
-
-// What is said of the factors: 7 and 8.
-fn refused_factors() {
-    let x0: [u64; 6] = [1, 0, 0, 0, 0, 1];
-    let x1: [u64; 3] = [2, 0, 1];
-    show(5, &x0, &x1);
-    let x2: [u64; 3] = [1, 2, 1];
-    let x3: [u64; 6] = [1, 1, 0, 0, 0, 1];
-    show(5, &x2, &x3);
-    show(5, &x3, &x2);
-    let x4: [u64; 4] = [0, 1, 1, 1];
-    let x5: [u64; 1] = [1];
-    show(5, &x4, &x5);
-    let x6: [u64; 4] = [0, 0, 1, 1];
-    show(5, &x6, &x5);
-    let x7: [u64; 1] = [3];
-    let x8: [u64; 7] = [2, 0, 1, 1, 0, 0, 1];
-    show(5, &x7, &x8);
-    let x9: [u64; 3] = [0, 1, 1];
-    let x10: [u64; 3] = [0, 2, 1];
-    show(5, &x9, &x10);
-    let x11: [u64; 2] = [0, 1];
-    show(5, &x11, &x11);
-    let x12: [u64; 3] = [0, 0, 1];
-    show(5, &x12, &x9);
-    let x13: [u64; 4] = [0, 1, 0, 1];
-    show(5, &x13, &x5);
-}
-
-// A field in full, and the zeros beside a refusal.
-fn fields() {
-    let g0: [u64; 4] = [0, 1, 0, 1];
-    let h0: [u64; 1] = [1];
-    show_all(5, &g0, &h0);
-    let g1: [u64; 2] = [65518, 1];
-    let h1: [u64; 2] = [3, 2];
-    show_all(65519, &g1, &h1);
-    let g2: [u64; 9] = [4, 2, 2, 4, 0, 3, 1, 0, 2];
-    let h2: [u64; 9] = [0, 1, 3, 2, 1, 3, 1, 0, 2];
-    show_all(5, &g2, &h2);
-    let g3: [u64; 3] = [0, 0, 1];
-    let h3: [u64; 3] = [0, 1, 1];
-    show_all(5, &g3, &h3);
+// The case at i; the next one begins at the answer.
+fn show_case(t: &[u64], i: usize, whole: bool) -> usize
+    requires { ⌜ i < 4000 ⌝ }
+    ensures { λ r. ⌜ r < i + 32 ⌝ }
+{
+    let p = at(t, i);
+    let n = count_at(t, i + 1);
+    let m = count_at(t, i + 2 + n);
+    let g = list_at(t, i + 2);
+    let h = list_at(t, i + 3 + n);
+    show(p, &g[0..n], &h[0..m]);
+    if whole {
+        show_field(p, &g[0..n], &h[0..m]);
+    }
+    i + 3 + n + m
 }
 
 fn main() {
-    refused_p();
-    refused_lists();
-    refused_degrees();
-    refused_factors();
-    fields();
+    let mut text = io::buffer();
+    io::read_full(0, &mut text);
+    let t = numbers(&text);
+    let last = count_to(t[0]);
+    let short = count_to(t[1]);
+    let mut i: usize = 2;
+    let mut k: usize = 0;
+    while k < last {
+        let j = show_case(&t, i, short <= k);
+        i = j;
+        k += 1;
+    }
+}
+
+// At most 100 cases.
+fn count_to(n: u64) -> usize
+    ensures { λ r. ⌜ r < 100 ⌝ }
+{
+    if n < 100 { n as usize } else { 0 }
 }

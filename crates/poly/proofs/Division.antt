@@ -1,4 +1,5 @@
--- The loop of the quotient, from the top: `Dividing` holds before each turn, and each turn adds one coefficient.
+-- The loop of the quotient, from the top: `Dividing` holds before each turn, and each turn adds one coefficient. Then what the
+-- quotient gives: exact division, division with remainder, and that its answer is the only one (`divided-unique`).
 use mathlib.Core.Path.{_≡_, sym, ap, _∙_, subst}
 use mathlib.Core.List.{List, [], _∷_}
 use Prim.Native.Nat.{ℕ, zero, suc, _+_, _*_, _-_, _%_, _<_, _≤_, min}
@@ -18,8 +19,10 @@ use Rattle.reading.proofs.Tab.{zeros-at}
 use Rattle.reading.proofs.Rows.{size-has-at, row-poly}
 use Rattle.reading.proofs.Floors.{sized}
 use Rattle.reading.proofs.Product.{sum-none, sum-skip}
-use Rattle.reading.proofs.Quotient.{Agree, agree-more, agree-end, exact-law}
+use Rattle.reading.proofs.Quotient.{Agree, agree-more, agree-end, exact-law, division-unique}
+use Rattle.reading.proofs.Unique.{row-unique}
 use Rattle.poly.specs.Leaf.{Product, Difference}
+use Rattle.poly.specs.Terms.{Ready}
 use Rattle.poly.specs.Division.{DivIn, Quotient, Exact, Divided, DigitIn, Digit}
 use Rattle.poly.proofs.Leaf.{size-one, zeros-row}
 use Rattle.poly.proofs.Terms.{term-past}
@@ -29,9 +32,9 @@ term-zero : (q b : List ℕ) (k i : ℕ) → getD q i 0 ≡ 0 → termAt q b k i
 term-zero q b k i z = ap (λ x. x * shiftAt b i k) z ∙ zero-mul (shiftAt b i k)
 
 -- the run of terms that the code adds is the whole sum
-pub digit-sum : (p : ℕ) (a q b : List ℕ) (m il top k to r : ℕ) → DigitIn p a q b m il top k → to ≤ 32 → min (k + (m - 1) + 1) top ≤ to
+pub digit-sum : (p mul lim : ℕ) (a q b : List ℕ) (m il top k to r : ℕ) → DigitIn p mul lim a q b m il top k → to ≤ 32 → min (k + (m - 1) + 1) top ≤ to
     → (sumTo (termAt q b (k + (m - 1))) (k + 1) + r) % p ≡ sumTo (termAt q b (k + (m - 1))) to % p → r % p ≡ sumTo (termAt q b (k + (m - 1))) 32 % p
-digit-sum p a q b m il top k to r h l u g =
+digit-sum p mul lim a q b m il top k to r h l u g =
     let f = termAt q b (k + (m - 1)) in
     let e : sumTo f (k + 1) ≡ 0 = sum-none f (k + 1) (λ i w. term-zero q b (k + (m - 1)) i (h .low i (omega arith))) in
     ap (λ z. z % p) (let o : r ≡ sumTo f (k + 1) + r = omega arith in o)
@@ -70,9 +73,10 @@ dividing-start p a b il n m top h sa sb l fits =
     }
 
 module _ {p : ℕ} {a b : List ℕ} {il m top : ℕ} {q : List ℕ} {k : ℕ} (h : DivIn p a b il) (d : Dividing p a b il m top q k) (u : 0 < k) where
-  pub dividing-digit : DigitIn p a q b m il top (k - 1)
-  dividing-digit = record {
+  pub dividing-digit : (mul lim : ℕ) → Ready p mul lim → DigitIn p mul lim a q b m il top (k - 1)
+  dividing-digit mul lim ready = record {
     modulus = h .modulus;
+    ready = ready;
     ha = h .ha;
     hq = d .hq;
     hb = h .hb;
@@ -140,3 +144,12 @@ divided p a b q s r g f d = record {
   low = λ pr n hn. let R = reading p pr in let L = R .𝓥 .L in
       lt-eq (R .𝓥) (g .law pr n hn) (ap (λ x. L .ops .add (row R a) (L .ops .neg x)) (sym (f .law pr)) ∙ sym (d .law pr));
 }
+
+-- two answers of `divide` are one
+pub divided-unique : (p : ℕ) (pr : Prime p) (a b : List ℕ) (il : ℕ) (q r q′ r′ : List ℕ) → DivIn p a b il → Divided p a b q r → Divided p a b q′ r′ → (q ≡ q′) × (r ≡ r′)
+divided-unique p pr a b il q r q′ r′ h d e =
+    let R = reading p pr in
+    let (m, s) = sized b in
+    let g = size-has-at R m (h .hb) s (div-pos p a b il m h s) in
+    let (x, y) = division-unique R (row R a) (row R b) (row R q) (row R r) (row R q′) (row R r′) (m - 1) g (row-poly R q) (row-poly R q′) (d .law pr) (e .law pr) (d .low pr (m - 1) g) (e .low pr (m - 1) g) in
+    (row-unique R (d .q-row) (e .q-row) x, row-unique R (d .r-row) (e .r-row) y)

@@ -1,7 +1,7 @@
 -- The sums behind one coefficient of a product, and the product.
 use mathlib.Core.Path.{_≡_, sym, ap, _∙_, subst}
 use mathlib.Core.List.{List}
-use Prim.Native.Nat.{ℕ, _+_, _*_, _-_, _%_, _<_, _≤_, min}
+use Prim.Native.Nat.{ℕ, suc, _+_, _*_, _-_, _%_, _<_, _≤_, min}
 use native.Mathlib.Nat.{mod-lt, mod-add-mod, add-mod-mod, add-assoc, mul-zero, zero-mod}
 use native.Mathlib.Numerals.{add-one}
 use native.Mathlib.Omega.{arith}
@@ -55,3 +55,7 @@ product p x y n m k r h sx sy l b =
       is-row = subst (λ u. Row p u) (sym e) (tab-row p _ (omega arith) (λ i. mod-lt (sumTo (termAt x y i) n) (omega arith)));
       law = λ pr. ap (row (reading p pr)) e ∙ mul-law (reading p pr) n m x y sx sy (h .room n m sx sy);
     }
+
+-- one more term of a sum that is kept as it is
+pub plain-more : (f : ℕ → ℕ) (from i s t : ℕ) → sumTo f from + s ≡ sumTo f i → t ≡ f i → sumTo f from + (s + t) ≡ sumTo f (i + 1)
+plain-more f from i s t h e = let m : sumTo f (suc i) ≡ sumTo f i + f i = sum-more f i in let q : sumTo f from + (s + t) ≡ sumTo f (suc i) = omega arith in q ∙ ap (sumTo f) (sym (add-one i))

@@ -1,7 +1,7 @@
 -- Division of rows. il is the inverse of the leading coefficient of b, so that b is not 0.
 --   quotient   Quotient: q, with a − q b of lower degree than b
 --   exact      Exact: the polynomial w with b w = a, if there is one
---   divide     Divided: a = q b + r, with r of lower degree than b
+--   divide     Divided: a = q b + r, with r of lower degree than b; there is one such pair: `divided-unique` in proofs/Division.antt
 use mathlib.Core.Path.{_≡_}
 use mathlib.Core.List.{List}
 use Prim.Native.Nat.{ℕ, _+_, _-_, _*_, _%_, _<_, _≤_}
@@ -12,6 +12,7 @@ use Rattle.residue.specs.Residue.{Modulus}
 use Rattle.reading.specs.Made.{reading}
 use Rattle.reading.specs.Row.{Row, Size, row}
 use Rattle.reading.specs.Sum.{sumTo, termAt}
+use Rattle.poly.specs.Terms.{Ready}
 
 pub record DivIn (p : ℕ) (a b : List ℕ) (il : ℕ) : Type 0 where
   pub modulus : Modulus p
@@ -37,8 +38,9 @@ pub record Divided (p : ℕ) (a b q r : List ℕ) : Type 0 where
   pub low : (pr : Prime p) (n : ℕ) → let ρ = reading p pr in Has (ρ .𝓥) (row ρ b) n → Lt (ρ .𝓥) (row ρ r) n
 
 -- ---- one coefficient of the quotient, q_k, from those above it; the quotient has no more than top
-pub record DigitIn (p : ℕ) (a q b : List ℕ) (m il top k : ℕ) : Type 0 where
+pub record DigitIn (p mul lim : ℕ) (a q b : List ℕ) (m il top k : ℕ) : Type 0 where
   pub modulus : Modulus p
+  pub ready : Ready p mul lim
   pub ha : Row p a
   pub hq : Row p q
   pub hb : Row p b

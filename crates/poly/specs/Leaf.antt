@@ -16,6 +16,7 @@ use Rattle.residue.specs.Residue.{Modulus}
 use Rattle.reading.specs.Made.{reading}
 use Rattle.reading.specs.Row.{Row, Size, row}
 use Rattle.reading.proofs.Turn.{comb}
+use Rattle.poly.specs.Terms.{Ready}
 
 -- ---- lengths
 pub record Cut (x : List ℕ) (n : ℕ) : Type 0 where
@@ -62,8 +63,9 @@ pub record Scaled (p c : ℕ) (x r : List ℕ) : Type 0 where
   pub law : (pr : Prime p) → let ρ = reading p pr in row ρ r ≡ ρ .𝓥 .L .ops .mul (ρ .𝓥 .const (ρ .cast c)) (row ρ x)
 
 -- ---- s x − c t^k y
-pub record CrossAt (p s x d y : ℕ) : Type 0 where
+pub record CrossAt (p mul lim s x d y : ℕ) : Type 0 where
   pub modulus : Modulus p
+  pub ready : Ready p mul lim
   pub hs : s < p
   pub hx : x < p
   pub hd : d ≤ p

@@ -1,14 +1,15 @@
 // Polynomials mod p as rows of 32 coefficients, lowest first, each below p, zeros above the degree. Rows are lent and handed out by value.
 // Every contract speaks of the polynomial that a row stands for (`row` of crate reading). Loops stop at the rows' true lengths. Sums are
-// taken in 64 bits with one remainder for each coefficient handed out, for every p below 2^31: a sum of products that comes near the end
-// of the 64 bits, which no p below 2^29 reaches, is reduced on the way.
+// taken in 64 bits with one remainder for each coefficient handed out, for every p below 2^31: from 2^28 on a sum of products that comes
+// near the end of the 64 bits is reduced on the way. Below 2^16 a remainder is a multiplication by what `rapid_of` makes of p.
 ghost use mathlib.Core.Path.{_≡_};
 ghost use Prim.Native.Nat.{_+_, _*_, _-_, _%_, _<_, _≤_};
 ghost use lib.ListN.{length, getD};
 ghost use Rattle.reading.specs.Row.{Row, Size};
 ghost use Rattle.poly.specs.Leaf.{Cut, Leading, Once, Given, Both, Summed, Difference, Opposite, ScaleIn, Scaled};
 ghost use Rattle.poly.specs.Leaf.{CrossIn, Crossed, CrossAt, MulIn, Product, Listed};
-ghost use Rattle.poly.specs.Terms.{MoreIn, More, PartIn, Part, PlaceIn};
+ghost use Rattle.poly.specs.Terms.{Ready, RestIn, MoreIn, More, PartIn, PlainIn, Part, PlaceIn};
+ghost use Rattle.residue.specs.Residue.{Modulus};
 ghost use Rattle.poly.specs.Division.{DivIn, Quotient, Exact, Divided, DigitIn, Digit};
 ghost use Rattle.poly.specs.Factors.{Derived, Over, OverBoth, Common, SquareTest, CoprimeTest};
 ghost use Rattle.reading.specs.Row.{shiftAt};
@@ -44,6 +45,41 @@ pub fn lead(x: &[u64; 32]) -> u64
 {
     let n = size(x);
     if n == 0 { 0 } else { x[n - 1] }
+}
+
+// What `rest` needs of p: below lim, one multiplication by m finds a remainder.
+struct Rapid {
+    m: u64,
+    lim: u64,
+}
+
+fn rapid_of(p: u64) -> Rapid
+    requires { ⌜ Modulus p ⌝ }
+    ensures { λ s. ⌜ Ready p (s .m) (s .lim) ⌝ }
+{
+    if p < 65536 {
+        let m = remainder::scale_of(p);
+        Rapid {
+            m,
+            lim: 64 * (p * p),
+        }
+    } else {
+        Rapid { m: 0, lim: 0 }
+    }
+}
+
+// x mod p
+fn rest(p: u64, s: Rapid, x: u64) -> u64
+    requires { ⌜ RestIn p (s .m) (s .lim) ⌝ }
+    ensures { λ r. ⌜ r ≡ x % p ⌝ }
+{
+    let m = s.m;
+    let lim = s.lim;
+    if x < lim {
+        remainder::remainder(p, m, x)
+    } else {
+        x % p
+    }
 }
 
 // v mod p, for v below 2 p
@@ -93,11 +129,13 @@ pub fn scale(p: u64, c: u64, x: &[u64; 32]) -> [u64; 32]
     requires { ⌜ ScaleIn p c (now x) ⌝ }
     ensures { λ r. ⌜ Scaled p c (now (x .entry)) r ⌝ }
 {
+    let q = rapid_of(p);
     let n = size(x);
     let mut r: [u64; 32] = [0; 32];
     let mut i: usize = 0;
     while i < n {
-        r[i] = c * x[i] % p;
+        let v = rest(p, q, c * x[i]);
+        r[i] = v;
         i += 1;
     }
     r
@@ -112,11 +150,11 @@ fn shifted(y: &[u64; 32], k: usize, i: usize) -> u64
 }
 
 // s x + d y mod p
-fn mixed(p: u64, s: u64, x: u64, d: u64, y: u64) -> u64
-    requires { ⌜ CrossAt p s x d y ⌝ }
+fn mixed(p: u64, q: Rapid, s: u64, x: u64, d: u64, y: u64) -> u64
+    requires { ⌜ CrossAt p (q .m) (q .lim) s x d y ⌝ }
     ensures { λ r. ⌜ r ≡ (s * x + d * y) % p ⌝ }
 {
-    (s * x + d * y) % p
+    rest(p, q, s * x + d * y)
 }
 
 // s x - c t^k y, where t^k y fits.
@@ -124,6 +162,7 @@ pub fn cross(p: u64, s: u64, x: &[u64; 32], c: u64, k: usize, y: &[u64; 32]) -> 
     requires { ⌜ CrossIn p s (now x) c k (now y) ⌝ }
     ensures { λ r. ⌜ Crossed p s (now (x .entry)) c k (now (y .entry)) r ⌝ }
 {
+    let q = rapid_of(p);
     let n = size(x);
     let m = size(y) + k;
     let top = if n < m { m } else { n };
@@ -131,7 +170,7 @@ pub fn cross(p: u64, s: u64, x: &[u64; 32], c: u64, k: usize, y: &[u64; 32]) -> 
     let mut i: usize = 0;
     while i < top {
         let z = shifted(y, k, i);
-        r[i] = mixed(p, s, x[i], p - c, z);
+        r[i] = mixed(p, q, s, x[i], p - c, z);
         i += 1;
     }
     r
@@ -147,7 +186,7 @@ fn more(p: u64, s: u64, x: u64, y: u64) -> u64
 }
 
 // The terms from .. to - 1 of coefficient k of x y, up to a multiple of p.
-fn part(p: u64, x: &[u64; 32], y: &[u64; 32], from: usize, to: usize, k: usize) -> u64
+fn folded(p: u64, x: &[u64; 32], y: &[u64; 32], from: usize, to: usize, k: usize) -> u64
     requires { ⌜ PartIn p (now x) (now y) from to k ⌝ }
     ensures { λ r. ⌜ Part p (now (x .entry)) (now (y .entry)) from to k r ⌝ }
 {
@@ -160,14 +199,41 @@ fn part(p: u64, x: &[u64; 32], y: &[u64; 32], from: usize, to: usize, k: usize) 
     s
 }
 
+// The same where the sum fits as it is.
+fn plain(p: u64, x: &[u64; 32], y: &[u64; 32], from: usize, to: usize, k: usize) -> u64
+    requires { ⌜ PlainIn p (now x) (now y) from to k ⌝ }
+    ensures { λ r. ⌜ Part p (now (x .entry)) (now (y .entry)) from to k r ⌝ }
+{
+    let mut s: u64 = 0;
+    let mut i = from;
+    while i < to {
+        s += x[i] * y[k - i];
+        i += 1;
+    }
+    s
+}
+
+// The one or the other.
+fn part(p: u64, x: &[u64; 32], y: &[u64; 32], from: usize, to: usize, k: usize) -> u64
+    requires { ⌜ PartIn p (now x) (now y) from to k ⌝ }
+    ensures { λ r. ⌜ Part p (now (x .entry)) (now (y .entry)) from to k r ⌝ }
+{
+    if p < 268435456 {
+        plain(p, x, y, from, to, k)
+    } else {
+        folded(p, x, y, from, to, k)
+    }
+}
+
 // Coefficient k of x y, from the trimmed lengths n and m.
-fn place(p: u64, x: &[u64; 32], n: usize, y: &[u64; 32], m: usize, k: usize) -> u64
-    requires { ⌜ PlaceIn p (now x) n (now y) m k ⌝ }
+fn place(p: u64, q: Rapid, x: &[u64; 32], n: usize, y: &[u64; 32], m: usize, k: usize) -> u64
+    requires { ⌜ PlaceIn p (q .m) (q .lim) (now x) n (now y) m k ⌝ }
     ensures { λ r. ⌜ r ≡ sumTo (termAt (now (x .entry)) (now (y .entry)) k) n % p ⌝ }
 {
     let from = if k < m { 0 } else { k + 1 - m };
     let to = if k < n { k + 1 } else { n };
-    part(p, x, y, from, to, k) % p
+    let v = part(p, x, y, from, to, k);
+    rest(p, q, v)
 }
 
 // x y, where the product fits.
@@ -175,12 +241,13 @@ pub fn mul(p: u64, x: &[u64; 32], y: &[u64; 32]) -> [u64; 32]
     requires { ⌜ MulIn p (now x) (now y) ⌝ }
     ensures { λ r. ⌜ Product p (now (x .entry)) (now (y .entry)) r ⌝ }
 {
+    let q = rapid_of(p);
     let n = size(x);
     let m = size(y);
     let mut r: [u64; 32] = [0; 32];
     let mut k: usize = 0;
     while k + 1 < n + m {
-        r[k] = place(p, x, n, y, m, k);
+        r[k] = place(p, q, x, n, y, m, k);
         k += 1;
     }
     r
@@ -203,6 +270,7 @@ pub fn from_list(s: &[u64]) -> [u64; 32]
 // The coefficient of a / b at k, where q holds those above, up to top.
 fn digit(
     p: u64,
+    s: Rapid,
     a: &[u64; 32],
     q: &[u64; 32],
     b: &[u64; 32],
@@ -211,13 +279,14 @@ fn digit(
     top: usize,
     k: usize,
 ) -> u64
-    requires { ⌜ DigitIn p (now a) (now q) (now b) m il top k ⌝ }
+    requires { ⌜ DigitIn p (s .m) (s .lim) (now a) (now q) (now b) m il top k ⌝ }
     ensures { λ v. ⌜ Digit p (now (a .entry)) (now (q .entry)) (now (b .entry)) m il k v ⌝ }
 {
     let at = k + (m - 1);
     let to = if at < top { at + 1 } else { top };
-    let v = part(p, q, b, k + 1, to, at) % p;
-    (a[at] + (p - v)) * il % p
+    let u = part(p, q, b, k + 1, to, at);
+    let v = rest(p, s, u);
+    rest(p, s, (a[at] + (p - v)) * il)
 }
 
 // The quotient of a by b from the top, one coefficient a turn; il is the inverse of b's leading coefficient.
@@ -225,6 +294,7 @@ pub fn quotient(p: u64, a: &[u64; 32], b: &[u64; 32], il: u64) -> [u64; 32]
     requires { ⌜ DivIn p (now a) (now b) il ⌝ }
     ensures { λ q. ⌜ Quotient p (now (a .entry)) (now (b .entry)) q ⌝ }
 {
+    let s = rapid_of(p);
     let n = size(a);
     let m = size(b);
     let top = if n < m { 0 } else { n + 1 - m };
@@ -232,7 +302,7 @@ pub fn quotient(p: u64, a: &[u64; 32], b: &[u64; 32], il: u64) -> [u64; 32]
     let mut k = top;
     while k > 0 {
         k -= 1;
-        let v = digit(p, a, &q, b, m, il, top, k);
+        let v = digit(p, s, a, &q, b, m, il, top, k);
         q[k] = v;
     }
     q

@@ -1,6 +1,7 @@
 -- Division of lists from the top. If from place m − 1 on the coefficients of a are those of q b, then a − q b lies below the degree
--- of b, and q is the quotient where b divides a. One digit more makes them agree at one place more.
-use mathlib.Core.Path.{_≡_, sym, ap, ap₂, _∙_}
+-- of b, and q is the quotient where b divides a. One digit more makes them agree at one place more. Quotient and rest are unique:
+-- `division-unique`.
+use mathlib.Core.Path.{_≡_, refl, sym, ap, ap₂, _∙_}
 use mathlib.Core.Logic.{_≢_}
 use mathlib.Core.List.{List, [], _∷_}
 use Prim.Native.Nat.{ℕ, zero, suc, _≤_, _<_, _%_}
@@ -15,7 +16,7 @@ use Rattle.ring.specs.Ring.{Ops}
 use Rattle.ring.proofs.Solve.{var, one, zer, minus, _:+_, _:*_, hyp, solve, solve-by}
 use Rattle.valued.specs.Val.{Valued}
 use Rattle.valued.specs.Degree.{Has, Lt}
-use Rattle.valued.proofs.Degree.{lt-eq, lt-up, lt-cancel}
+use Rattle.valued.proofs.Degree.{lt-eq, lt-add, lt-neg, lt-up, lt-cancel}
 use Rattle.reading.specs.Reading.{Reading}
 use Rattle.reading.specs.Row.{Size, shiftAt, psum, coefs, row}
 use Rattle.reading.specs.Sum.{sumTo, termAt}
@@ -117,3 +118,13 @@ module _ {p : ℕ} (ρ : Reading p) where
       let z : w + - q ≡ 𝟎 = 𝓥 .poly-small (w + - q) (𝓥 .closed .add _ _ hw (𝓥 .closed .neg _ hq))
       (lt-cancel 𝓥 0 hb (lt-up 𝓥 (N._+_ n 0) (lt-eq 𝓥 h (ap (λ x. x + - (q * b)) (sym e) ∙ solve L (var 0 :* var 1 :+ minus (var 2 :* var 0)) (var 0 :* (var 1 :+ minus (var 2))) tt (b ∷ w ∷ q ∷ []))) (omega arith))) in
       sym (r.eq-of-sub L w q z)
+
+  -- there is one quotient and one rest
+  pub division-unique : (a b q r q′ r′ : L .El) (n : ℕ) → Has 𝓥 b n → IsPoly q → IsPoly q′ → a ≡ q * b + r → a ≡ q′ * b + r′ → Lt 𝓥 r n → Lt 𝓥 r′ n → (q ≡ q′) × (r ≡ r′)
+  division-unique a b q r q′ r′ n hb hq hq′ e f l l′ =
+      let same : q ≡ q′ = exact-law (b * q′) q b n hb
+      (lt-eq 𝓥 (lt-add 𝓥 l (lt-neg 𝓥 l′)) (solve-by L (var 2 :+ minus (var 4)) (var 0 :* var 3 :+ minus (var 1 :* var 0)) (hyp (minus one) (var 5) (var 1 :* var 0 :+ var 2) ∷ hyp one (var 5) (var 3 :* var 0 :+ var 4) ∷ []) tt (b ∷ q ∷ r ∷ q′ ∷ r′ ∷ a ∷ []) (e, (f, tt))))
+      hq q′ hq′ refl in (
+        same,
+        solve-by L (var 2) (var 4) (hyp (minus one) (var 5) (var 1 :* var 0 :+ var 2) ∷ hyp one (var 5) (var 3 :* var 0 :+ var 4) ∷ hyp (minus (var 0)) (var 1) (var 3) ∷ []) tt (b ∷ q ∷ r ∷ q′ ∷ r′ ∷ a ∷ []) (e, (f, (same, tt))),
+      )

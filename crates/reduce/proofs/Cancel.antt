@@ -1,7 +1,9 @@
 -- One turn, s a − c t^k b: its rows fit, it is the turn of the elements, and its size ends before the bound.
 --   shift-above     where t^k z lies below j, a row for z moved up by k is 0 from j on
+--   led-none, led-top    the leading coefficient of a size
 --   cancel-b, cancel-c, cancel-part, cancel-below, cancel-made    what `canceled` asks of its callees, and what it makes
-use mathlib.Core.Path.{_≡_, refl, sym, ap, ap₂, _∙_}
+use mathlib.Core.Path.{_≡_, refl, sym, ap, ap₂, _∙_, subst}
+use mathlib.Core.Logic.{_≢_}
 use mathlib.Core.Bool.{Bool, true, false}
 use mathlib.Core.List.{List, [], _∷_}
 use Prim.Native.Nat.{ℕ, zero, suc, _+_, _-_, _<_, _≤_}
@@ -11,18 +13,18 @@ use lib.ListN.{getD}
 use Rattle.ring.specs.Ring.{Ops, CRing}
 use Rattle.ring.proofs.Solve.{var, minus, _:+_, _:*_, solve}
 use Rattle.valued.specs.Val.{Valued}
-use Rattle.valued.specs.Degree.{Lt}
-use Rattle.valued.proofs.Degree.{lt-eq, above, has-mul, has-move}
+use Rattle.valued.specs.Degree.{Has, Lt}
+use Rattle.valued.proofs.Degree.{lt-eq, has-up, above, has-mul, has-move}
 use Rattle.reading.specs.Reading.{Reading}
 use Rattle.reading.specs.Row.{Row, Size, shiftAt, tpow, row}
 use Rattle.reading.proofs.Tab.{shift-low, shift-high}
 use Rattle.reading.proofs.Rows.{tpow-lead, size-has}
-use Rattle.reading.proofs.Floors.{sized, floor-le}
+use Rattle.reading.proofs.Floors.{sized, floor-lt, floor-le, floor-top}
 use Rattle.turn.specs.Points.{Pt, Turned}
 use Rattle.turn.proofs.Turn.{turned-side, b-lt, c-lt}
 use Rattle.reduce.specs.Frame.{Frame, Fine, Meaning, Point, point, Short, Held, rd, Ser, pt, X, Y, side, Ltμ, shift, rowμ}
 use Rattle.poly.specs.Leaf.{Cut}
-use Rattle.reduce.specs.Leaves.{CrossIn, Crossed, PartIn, Parted}
+use Rattle.reduce.specs.Leaves.{CrossIn, Crossed, PartIn, Parted, Led}
 use Rattle.reduce.specs.Clear.{Rows, Room, RoomAt, CancelIn, CancelOut}
 use Rattle.reduce.specs.declared.Turn.{Turn}
 
@@ -102,3 +104,27 @@ module _ {F : Frame} {e : Bool} {ab ac bb bc : List ℕ} {s c k top l : ℕ} (i 
 
       pub cancel-made : (m : ℕ) → Size z m → CancelOut F e ab ac bb bc s c k top (record { b = nb; c = nc; z = z; l = m })
       cancel-made m sm = record { held = record { hb = xb .short; hc = xc .short; hz = o .short; floor = o .law }; size = sm; each = turned-at }
+
+-- ---- the leading coefficient of a size
+module _ {F : Frame} {e : Bool} {b c : List ℕ} {top : ℕ} {z : List ℕ} (o : Parted F e b c top z) where
+  length-of : (n : ℕ) → Size z n → (μ : Meaning F) (d : ℕ) → Has (rd μ .𝓥) (side μ e (pt μ b c)) d → n ≡ suc d
+  length-of n s μ d h =
+      let lo : d < n = above (rd μ .𝓥) h (floor-lt (rd μ) (o .law μ) s) in
+      let hi : n ≤ suc d = floor-le (rd μ) (suc d) (o .short .is-row) (o .law μ) s (has-up (rd μ .𝓥) (suc d) h (omega arith)) in
+      omega arith
+
+  pub led-none : (n : ℕ) → n ≡ 0 → Size z n → Led F e b c 0
+  led-none n q s = record { law = λ μ d h. let l : n ≡ suc d = length-of n s μ d h in absurd (omega arith) }
+
+  pub led-top : (n : ℕ) → Size z n → Led F e b c (getD z (n - 1) 0)
+  led-top n s = record {
+    law = λ μ d h.
+        let l : n ≡ suc d = length-of n s μ d h in
+        let nz : getD z (n - 1) 0 ≢ 0 = s .top (omega arith) in
+        let q : n - 1 ≡ d = omega arith in
+        (pos (getD z (n - 1) 0) nz, o .short .is-row .each (n - 1), subst (λ k. rd μ .𝓥 .Lead (side μ e (pt μ b c)) k 0 (rd μ .cast (getD z (n - 1) 0))) q (floor-top (rd μ) n (o .law μ) s (omega arith)));
+  }
+    where
+      pos : (v : ℕ) → v ≢ 0 → 0 < v
+      pos zero h = absurd (h refl)
+      pos (suc v) h = omega arith

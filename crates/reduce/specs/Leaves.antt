@@ -2,6 +2,7 @@
 --   Crossed p s x c k y n z  z is the row of s x − c t^k y, which ends before n
 --   Terms .. r               r is the coefficient at t^j of b times the series that s holds, up to multiples of p
 --   PartAt .. v              v is the coefficient at t^j of b r ± c w, below p
+--   Led F e b c r            r is the leading coefficient of the same
 --   Parted F e b c top z     z is the polynomial part of b r + c w (e false) or b r − c w (e true)
 use mathlib.Core.Path.{_≡_}
 use mathlib.Core.Bool.{Bool, true, false}
@@ -11,6 +12,7 @@ use lib.ListN.{getD}
 use Rattle.ring.specs.Ring.{Ops, CRing}
 use Rattle.fp.specs.Fp.{Prime}
 use Rattle.valued.specs.Val.{Valued}
+use Rattle.valued.specs.Degree.{Has}
 use Rattle.reading.specs.Reading.{Reading}
 use Rattle.reading.specs.Made.{reading}
 use Rattle.reading.specs.Row.{Row, Size, row, shiftAt, fallAt, Floor}
@@ -92,3 +94,7 @@ pub record PartAt (F : Frame) (e : Bool) (b c : List ℕ) (top j v : ℕ) : Type
 pub record Parted (F : Frame) (e : Bool) (b c : List ℕ) (top : ℕ) (z : List ℕ) : Type 0 where
   pub short : Short (F .p) z top
   pub law : (μ : Meaning F) → Floor (rd μ) (side μ e (pt μ b c)) z
+
+-- r is the leading coefficient of the size, where the size has a degree that is not below 0
+pub record Led (F : Frame) (e : Bool) (b c : List ℕ) (r : ℕ) : Type 0 where
+  pub law : (μ : Meaning F) (d : ℕ) → Has (rd μ .𝓥) (side μ e (pt μ b c)) d → (0 < r) × (r < F .p) × rd μ .𝓥 .Lead (side μ e (pt μ b c)) d 0 (rd μ .cast r)

@@ -8,7 +8,7 @@ ghost use Prim.Native.Nat.{_+_, _*_, _-_, _%_, _<_, _≤_};
 ghost use Rattle.reading.specs.Row.{shiftAt};
 ghost use Rattle.reduce.specs.Given.{given};
 ghost use Rattle.reduce.specs.Clear.{CancelIn, CancelOut, ClearIn, Cleared, ShearIn, Sheared, Reduced};
-ghost use Rattle.reduce.specs.Leaves.{CrossIn, Crossed, SumIn, Summed, TermsIn, Terms, PartIn, PartAtIn, PartAt, Parted};
+ghost use Rattle.reduce.specs.Leaves.{CrossIn, Crossed, SumIn, Summed, TermsIn, Terms, PartIn, PartAtIn, PartAt, Parted, Led};
 
 // A modulus, the degrees of two series, and the bound of sizes: one more than the largest degree that may occur
 pub struct Bounds {
@@ -99,6 +99,24 @@ fn part(
         j += 1;
     }
     z
+}
+
+// The leading coefficient of b r + c w, or of b r - c w, where its degree is not below 0
+pub fn lead_of(
+    f: Bounds,
+    minus: bool,
+    b: &[u64; 32],
+    c: &[u64; 32],
+    r: &[u64; 32],
+    w: &[u64; 32],
+) -> u64
+    requires { ⌜ PartIn (given f (now r) (now w)) (now b) (now c) (f .top) ⌝ }
+    ensures { λ v. ⌜ Led (given f (now (r .entry)) (now (w .entry))) minus (now (b .entry)) (now (c .entry)) v ⌝ }
+{
+    let top = f.top;
+    let z = part(f, minus, b, c, r, w);
+    let n = size_from(&z, top);
+    if n == 0 { 0 } else { z[n - 1] }
 }
 
 // The coefficient of t^k y at i

@@ -1,3 +1,7 @@
 pub mod Sums
 pub mod Step
 pub mod Filling
+pub mod Top
+pub mod Leads
+pub mod Growing
+pub mod Answer

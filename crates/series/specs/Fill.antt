@@ -8,11 +8,18 @@
 --   Filling p g h u r w i      `Filled` up to i, and u the inverse of three times the square of r's first number
 --   Filler p g h c u r w       two lists of equal length to be filled from the cube root c; u is the inverse of 3 c²
 --   Turned, Made               what one turn, and the whole loop, have done
+--   Listed p l                 a list of coefficients, below a modulus that fits what is stored
+--   Leads p g h                two leading coefficients, for a prime that is accepted
+--   LeadRoot p g h c           c is the cube root of g h²
+--   ThriceInverse p c u        u is the inverse of 3 c²
+--   Room, Grown                an accepted field with two lists to be filled; the lists filled
 use mathlib.Core.Path.{_≡_}
 use mathlib.Core.List.{List}
 use Prim.Native.Nat.{ℕ, suc, _+_, _*_, _%_, _<_, _≤_}
 use lib.ListN.{length}
-use Rattle.cubicfield.specs.SeriesOf.{entry, prod}
+use Rattle.fp.specs.Fp.{Prime}
+use Rattle.field.specs.Refusal.{Degree, Accepted}
+use Rattle.cubicfield.specs.SeriesOf.{entry, prod, SeriesOf}
 
 pub record Place (p i : ℕ) : Type 0 where
   pub pos : 0 < p
@@ -82,3 +89,35 @@ pub record Made (p : ℕ) (g h : List ℕ) (c : ℕ) (r r′ w′ : List ℕ) : 
   pub size : length r′ ≡ length r
   pub first : 0 < length r → entry r′ 0 ≡ c
   pub done : Filled p g h r′ w′ (length r)
+
+pub record Listed (p : ℕ) (l : List ℕ) : Type 0 where
+  pub small : p < 65536
+  pub list : (d : ℕ) × Degree p l d
+
+pub record Leads (p g h : ℕ) : Type 0 where
+  pub prime : Prime p
+  pub low : 5 ≤ p
+  pub small : p < 65536
+  pub kind : p % 3 ≡ 2
+  pub g-some : 0 < g
+  pub g-below : g < p
+  pub h-some : 0 < h
+  pub h-below : h < p
+
+pub record LeadRoot (p g h c : ℕ) : Type 0 where
+  pub some : 0 < c
+  pub below : c < p
+  pub law : (c * c * c) % p ≡ (g * (h * h)) % p
+
+pub record ThriceInverse (p c u : ℕ) : Type 0 where
+  pub below : u < p
+  pub law : (3 * (c * c) * u) % p ≡ 1 % p
+
+pub record Room (p : ℕ) (G H r w : List ℕ) : Type 0 where
+  pub accepted : Accepted p G H
+  pub even : length w ≡ length r
+  pub near : length r ≤ 4096
+
+pub record Grown (p : ℕ) (G H r r′ w′ : List ℕ) : Type 0 where
+  pub size : length r′ ≡ length r
+  pub series : SeriesOf p G H r′ w′

@@ -1,8 +1,27 @@
-// The series of r and w: `fill` makes both in one pass, each pair of coefficients from two linear equations.
+// The series of r and w. `fill` makes both in one pass, each pair of coefficients from two linear equations; `series` writes them into lent
+// slices; `open_with_series` opens a field and keeps their first 32 coefficients with it. specs/Answer.antt has the contracts of the last two.
 ghost use mathlib.Core.Path.{_≡_};
 ghost use Prim.Native.Nat.{_+_, _*_, _-_, _%_};
-ghost use Rattle.cubicfield.specs.SeriesOf.{entry, prod};
-ghost use Rattle.series.specs.Fill.{Place, Point, Entry, Rest, Two, Four, Filling, Turned, Filler, Made};
+ghost use Rattle.reading.specs.Row.{tab};
+ghost use Rattle.cubicfield.specs.SeriesOf.{top, entry, prod};
+ghost use Rattle.series.specs.Fill.{Place, Point, Entry, Rest, Two, Four, Filling, Turned, Filler, Made, Listed, Leads, LeadRoot, ThriceInverse, Room, Grown};
+ghost use Rattle.field.specs.Opening as F;
+ghost use Rattle.series.specs.Answer.{Answer, Opening, Prefix, Expands, nothing};
+
+// An opened field with the first 32 coefficients of r and of w, highest power first.
+pub struct Cubic {
+    pub field: field::Field,
+    pub r: [u64; 32],
+    pub w: [u64; 32],
+}
+
+// The number of the refusal beside it; with a refusal all else is zeros.
+pub struct Expanded {
+    pub refusal: u32,
+    pub cubic: Cubic,
+}
+
+const LONGEST: usize = 4096;
 
 fn wide(x: u16) -> u64
     ensures { λ r. ⌜ r ≡ x ⌝ }
@@ -102,5 +121,136 @@ fn fill(p: u64, g: &[u16], h: &[u16], c: u64, u: u64, r: &mut [u16], w: &mut [u1
             turn(p, g, h, u, r, w, i);
             i += 1;
         }
+    }
+}
+
+// The coefficient i places below the leading one, 0 past the last.
+fn head(s: &[u64], i: usize) -> u64
+    ensures { λ r. ⌜ r ≡ top (now (s .entry)) i ⌝ }
+{
+    let n = s.len();
+    if i < n { s[n - 1 - i] } else { 0 }
+}
+
+// The coefficients of a polynomial from the leading one down, zeros after them.
+fn heads(p: u64, s: &[u64]) -> [u16; 13]
+    requires { ⌜ Listed p (now s) ⌝ }
+    ensures { λ r. ⌜ r ≡ tab 13 (top (now (s .entry))) ⌝ }
+{
+    let mut r: [u16; 13] = [0; 13];
+    let mut i: usize = 0;
+    while i < 13 {
+        r[i] = head(s, i) as u16;
+        i += 1;
+    }
+    r
+}
+
+// The cube root of g h².
+fn lead_root(p: u64, g: u64, h: u64) -> u64
+    requires { ⌜ Leads p g h ⌝ }
+    ensures { λ c. ⌜ LeadRoot p g h c ⌝ }
+{
+    residue::cube_root(p, residue::mul(p, g, residue::mul(p, h, h)))
+}
+
+// The inverse of 3 c².
+fn thrice_inverse(p: u64, c: u64) -> u64
+    requires { ⌜ Leads p c c ⌝ }
+    ensures { λ u. ⌜ ThriceInverse p c u ⌝ }
+{
+    residue::inverse(p, residue::mul(p, 3, residue::mul(p, c, c)))
+}
+
+// Both lists of an accepted field.
+fn grow(p: u64, g: &[u64], h: &[u64], r: &mut [u16], w: &mut [u16])
+    requires { ⌜ Room p (now g) (now h) (now r) (now w) ⌝ }
+    ensures { λ _. ⌜ Grown p (now (g .entry)) (now (h .entry)) (now (r .entry)) (now (r .exit)) (now (w .exit)) ⌝ }
+{
+    let x = heads(p, g);
+    let y = heads(p, h);
+    let c = lead_root(p, head(g, 0), head(h, 0));
+    let u = thrice_inverse(p, c);
+    fill(p, &x, &y, c, u, r, w);
+}
+
+// The first coefficients of r and of w into two lent slices of equal length.
+pub fn series(p: u64, g: &[u64], h: &[u64], r: &mut [u16], w: &mut [u16]) -> u32
+    ensures { λ n. ⌜ Answer p (now (g .entry)) (now (h .entry)) (now (r .entry)) (now (w .entry)) (now (r .exit)) (now (w .exit)) n ⌝ }
+{
+    let n = field::refusal(p, g, h);
+    if n != 0 {
+        return n;
+    }
+    if w.len() != r.len() {
+        return 14;
+    }
+    if r.len() > LONGEST {
+        return 14;
+    }
+    grow(p, g, h, r, w);
+    0
+}
+
+fn widened(s: [u16; 32]) -> [u64; 32]
+    ensures { λ r. ⌜ r ≡ s ⌝ }
+{
+    let mut r: [u64; 32] = [0; 32];
+    let mut i: usize = 0;
+    while i < 32 {
+        r[i] = wide(s[i]);
+        i += 1;
+    }
+    r
+}
+
+// The opened field f with the first 32 coefficients of r and w.
+fn with_series(p: u64, g: &[u64], h: &[u64], f: field::Field) -> Cubic
+    requires { ⌜ Opening p (now g) (now h) f ⌝ }
+    ensures { λ c. ⌜ Prefix p (now (g .entry)) (now (h .entry)) c ⌝ }
+{
+    let mut r: [u16; 32] = [0; 32];
+    let mut w: [u16; 32] = [0; 32];
+    grow(p, g, h, &mut r, &mut w);
+    let x = widened(r);
+    let y = widened(w);
+    Cubic {
+        field: f,
+        r: x,
+        w: y,
+    }
+}
+
+// The zeros beside a refusal; f is a field of zeros.
+fn no_cubic(f: field::Field) -> Cubic
+    requires { ⌜ f ≡ F.nothing ⌝ }
+    ensures { λ c. ⌜ c ≡ nothing ⌝ }
+{
+    let z: [u64; 32] = [0; 32];
+    Cubic {
+        field: f,
+        r: z,
+        w: z,
+    }
+}
+
+// Opening with the first 32 coefficients of both series.
+pub fn open_with_series(p: u64, g: &[u64], h: &[u64]) -> Expanded
+    ensures { λ o. ⌜ Expands p (now (g .entry)) (now (h .entry)) o ⌝ }
+{
+    let o = field::open(p, g, h);
+    let n = o.refusal;
+    let f = o.field;
+    if n != 0 {
+        let z = no_cubic(f);
+        return Expanded {
+            refusal: n,
+            cubic: z,
+        };
+    }
+    let c = with_series(p, g, h, f);
+    Expanded {
+        refusal: 0,
+        cubic: c,
     }
 }

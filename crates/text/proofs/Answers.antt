@@ -1,29 +1,37 @@
--- `parse` has one outcome for each line (parse-unique), and slices of 126 entries are long enough for every line (never-short).
+-- One outcome for each input.
+--   number-unique, size-unique, parse-unique   of `number`, `list_size` and `parse` (of what writes: placed-unique of Puts; of `cut`:
+--                                              cut-unique of Steps)
+--   malformed-means   with slices of 126 entries a line is malformed exactly where it does not read
 use mathlib.Core.Path.{_≡_, refl, sym, ap, _∙_}
-use mathlib.Core.Logic.{⊎-elim}
 use mathlib.Core.List.{List, _++_}
-use Prim.Native.Nat.{ℕ, _≤_, _<_}
+use Prim.Native.Nat.{ℕ, _≤_}
 use native.Mathlib.Omega.{arith}
 use lib.ListN.{length, drop}
-use Rattle.text.specs.Tells.{ReadAs, TooShort, ParseTells}
+use Rattle.text.specs.Grammar.{Reads}
+use Rattle.text.specs.Tells.{NumberTells, SizeTells, ReadAs, ParseTells}
+use Rattle.text.specs.declared.read.Numeral.{Numeral}
+use Rattle.text.specs.declared.read.Numeral.the-variants.{Value}
+use Rattle.text.specs.declared.read.Numeral.the-variants as numeral
+use Rattle.text.specs.declared.read.Entries.{Entries}
+use Rattle.text.specs.declared.read.Entries.the-variants.{Count}
+use Rattle.text.specs.declared.read.Entries.the-variants as entries
 use Rattle.text.specs.declared.read.Line.{Line}
 use Rattle.text.specs.declared.read.Parsed.{Parsed}
-use Rattle.text.specs.declared.read.Parsed.the-variants.{Read, Short, Malformed}
+use Rattle.text.specs.declared.read.Parsed.the-variants.{Read, Malformed}
 use Rattle.text.proofs.Writings.{reads-unique, reads-room}
 
 line-same : (l m : Line) → l .p ≡ m .p → l .ng ≡ m .ng → l .nh ≡ m .nh → l ≡ m
 line-same l m a b c = λ i. record { p = a i; ng = b i; nh = c i }
 
-read-short : {line g h : List ℕ} {p ng nh : ℕ} {g' h' : List ℕ} → ReadAs line g h p ng nh g' h' → TooShort line g h → ⊥
-read-short {line} {g} {h} {p} {ng} {nh} a t =
-    let u = reads-unique (a .reads) (t .reads) in
-    let eG : length (a .G) ≡ length (t .G) = ap length (u .1) in
-    let eH : length (a .H) ≡ length (t .H) = ap length (u .2) in
+-- what reads into a slice has room in it
+read-not : {line g h : List ℕ} {p ng nh : ℕ} {g' h' : List ℕ} → ReadAs line g h p ng nh g' h'
+    → ((p : ℕ) (G H : List ℕ) → Reads line p G H → length G ≤ length g → length H ≤ length h → ⊥) → ⊥
+read-not {line} {g} {h} {p} {ng} {nh} a n =
     let nG : length (a .G) ≡ ng = a .count-G in
     let nH : length (a .H) ≡ nh = a .count-H in
     let rG : ng ≤ length g = a .room-G in
     let rH : nh ≤ length h = a .room-H in
-    ⊎-elim (λ (x : length g < length (t .G)). omega arith) (λ (x : length h < length (t .H)). omega arith) (t .room)
+    n p (a .G) (a .H) (a .reads) (omega arith) (omega arith)
 
 front-same : (G G₂ d d' d₂ : List ℕ) (n n₂ : ℕ) → G ≡ G₂ → n ≡ n₂ → d' ≡ G ++ drop n d → d₂ ≡ G₂ ++ drop n₂ d → d' ≡ d₂
 front-same G G₂ d d' d₂ n n₂ e f a b = a ∙ ap (λ (z : List ℕ). z ++ drop n d) e ∙ ap (λ (k : ℕ). G₂ ++ drop k d) f ∙ sym b
@@ -42,18 +50,25 @@ read-read line g h l m g' h' g₂ h₂ a b =
 pub parse-unique : (line g h : List ℕ) (r r₂ : Parsed) (g' h' g₂ h₂ : List ℕ) → ParseTells line g h r g' h' → ParseTells line g h r₂ g₂ h₂
     → (r ≡ r₂) × (g' ≡ g₂) × (h' ≡ h₂)
 parse-unique line g h (Read l) (Read m) g' h' g₂ h₂ a b = read-read line g h l m g' h' g₂ h₂ a b
-parse-unique line g h (Read l) Short g' h' g₂ h₂ a b = absurd (read-short a (b .0))
-parse-unique line g h (Read l) Malformed g' h' g₂ h₂ a b = absurd (b .0 (l .p) (a .G) (a .H) (a .reads))
-parse-unique line g h Short (Read m) g' h' g₂ h₂ a b = absurd (read-short b (a .0))
-parse-unique line g h Short Short g' h' g₂ h₂ a b = (refl, a .1 ∙ sym (b .1), a .2 ∙ sym (b .2))
-parse-unique line g h Short Malformed g' h' g₂ h₂ a b = absurd (b .0 (a .0 .p) (a .0 .G) (a .0 .H) (a .0 .reads))
-parse-unique line g h Malformed (Read m) g' h' g₂ h₂ a b = absurd (a .0 (m .p) (b .G) (b .H) (b .reads))
-parse-unique line g h Malformed Short g' h' g₂ h₂ a b = absurd (a .0 (b .0 .p) (b .0 .G) (b .0 .H) (b .0 .reads))
+parse-unique line g h (Read l) Malformed g' h' g₂ h₂ a b = absurd (read-not a (b .0))
+parse-unique line g h Malformed (Read m) g' h' g₂ h₂ a b = absurd (read-not b (a .0))
 parse-unique line g h Malformed Malformed g' h' g₂ h₂ a b = (refl, a .1 ∙ sym (b .1), a .2 ∙ sym (b .2))
 
-pub never-short : (line g h : List ℕ) → 126 ≤ length g → 126 ≤ length h → TooShort line g h → ⊥
-never-short line g h a b t =
-    let r = reads-room (t .reads) in
-    let u : length (t .G) ≤ 126 = r .0 in
-    let v : length (t .H) ≤ 126 = r .1 in
-    ⊎-elim (λ (x : length g < length (t .G)). omega arith) (λ (x : length h < length (t .H)). omega arith) (t .room)
+pub malformed-means : (line g h g' h' : List ℕ) → 126 ≤ length g → 126 ≤ length h → ParseTells line g h Malformed g' h'
+    → (p : ℕ) (G H : List ℕ) → Reads line p G H → ⊥
+malformed-means line g h g' h' a b t p G H r =
+    let u : length G ≤ 126 = reads-room r .0 in
+    let v : length H ≤ 126 = reads-room r .1 in
+    t .0 p G H r (omega arith) (omega arith)
+
+pub number-unique : (s : List ℕ) (r r₂ : Numeral) → NumberTells s r → NumberTells s r₂ → r ≡ r₂
+number-unique s (Value v) (Value w) a b = ap Value (a .means ∙ sym (b .means))
+number-unique s (Value v) numeral.Bad a b = absurd (b v a)
+number-unique s numeral.Bad (Value w) a b = absurd (a w b)
+number-unique s numeral.Bad numeral.Bad a b = refl
+
+pub size-unique : (s : List ℕ) (r r₂ : Entries) → SizeTells s r → SizeTells s r₂ → r ≡ r₂
+size-unique s (Count n) (Count m) a b = ap Count (sym (a .2) ∙ ap length (a .1 .means ∙ sym (b .1 .means)) ∙ b .2)
+size-unique s (Count n) entries.Bad a b = absurd (b (a .0) (a .1))
+size-unique s entries.Bad (Count m) a b = absurd (a (b .0) (b .1))
+size-unique s entries.Bad entries.Bad a b = refl

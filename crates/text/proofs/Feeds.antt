@@ -8,12 +8,13 @@ use mathlib.Core.List.{List, [], _∷_, _++_, append-assoc, append-nil}
 use Prim.Native.Nat.{ℕ, zero, suc, _+_, _-_, _≤_, _<_, min, max}
 use native.Mathlib.Omega.{arith}
 use lib.ListN.{length, take, drop, length-append, length-drop, take-append-drop}
-use lib.Seq.{sets-eq, take-all, take-at, take-add}
+use lib.Seq.{sets-eq, take-all, take-length, take-at, take-add}
 use borrow.Author.Tests.{le-leb, lt-leb}
 use Rattle.text.specs.Grammar.{newline}
+use Rattle.text.specs.Pieces.{part}
 use Rattle.text.specs.Lines.{Line, whole, broken, ended, left, linesIn, lines-of, Kept}
-use Rattle.text.specs.Tells.{Carried, CutAt, upTo, part}
-use Rattle.text.specs.Feed.{Fed, start, line-ends, long-line-ends, piece-ends, at-end, answers, output}
+use Rattle.text.specs.Tells.{Carried, CutAt, upTo}
+use Rattle.text.specs.Feed.{Fed, start, line-ends, long-line-ends, piece-ends, next-piece, at-end, end-text, Answered, no-line, whole-line, broken-line, Output}
 use Rattle.text.specs.Print.{refused-text}
 use Rattle.text.proofs.Cuts.{until-take, until-stop, until-free}
 use Rattle.text.proofs.Joins.{Free, free-append, pieces-free, pieces-next, pieces-some}
@@ -162,9 +163,11 @@ fed-halfway (long-line-ends {earlier} {s} {at} {k = k} {m = m} next k' f c) =
     let a = fed-halfway f in
     moved (append-assoc earlier (take at s) (part s at next) ∙ ap (λ (z : List ℕ). earlier ++ z) (take-next s at next (c .1 .place)))
     (line-step a s at (c .0) next k' broken (c .1) (c .2) (ended-over k m (a .x) (upTo s at) (c .0) k' (a .kept) (c .1 .carried) (c .3)))
-fed-halfway (piece-ends {earlier} {s} {at} m' k' t f c) =
-    moved (append-assoc earlier (take at s) (drop at s) ∙ ap (λ (z : List ℕ). earlier ++ z) (take-append-drop at s) ∙ sym (append-nil (earlier ++ s)))
+fed-halfway (piece-ends {earlier} {s} {at} m' k' f c) =
+    moved (append-assoc earlier (take at s) (drop at s) ∙ ap (λ (z : List ℕ). earlier ++ z) (take-append-drop at s ∙ sym (take-length s)))
     (pending-step (fed-halfway f) s at m' k' (c .0) (c .1))
+fed-halfway (next-piece {earlier} {s} {at} t f h) =
+    moved (ap (λ (z : List ℕ). earlier ++ z) (take-all at s h) ∙ sym (append-nil (earlier ++ s))) (fed-halfway f)
 
 left-end : (x : List ℕ) (k : List ℕ) (m : ℕ) → Kept k m x → left x ≡ at-end m
 unfolding left at-end
@@ -189,15 +192,21 @@ fed-same {k = k} {earlier₂ = earlier₂} {s₂} {at₂} f g e l =
     sym (fed-lines f) ∙ ap (lines-of (length k)) e ∙ ap (λ (n : ℕ). lines-of n (earlier₂ ++ take at₂ s₂)) l ∙ fed-lines g
 
 -- ---- what is written
-pub answers-append : (f : List ℕ → List ℕ) (a b : List Line) → answers f (a ++ b) ≡ answers f a ++ answers f b
-unfolding answers
-answers-append f [] b = refl
-answers-append f (whole s ∷ a) b = ap (λ (z : List ℕ). f s ++ z) (answers-append f a b) ∙ sym (append-assoc (f s) (answers f a) (answers f b))
-answers-append f (broken ∷ a) b =
-    ap (λ (z : List ℕ). refused-text 12 ++ z) (answers-append f a b) ∙ sym (append-assoc (refused-text 12) (answers f a) (answers f b))
+module _ {A : List ℕ → List ℕ → Type 0} where
+  pub answered-append : {a b : List Line} {t u : List ℕ} → Answered A a t → Answered A b u → Answered A (a ++ b) (t ++ u)
+  answered-append no-line q = q
+  answered-append {b = b} {u = u} (whole-line {s} {t} {lines} {u = v} x p) q =
+      subst (λ (z : List ℕ). Answered A (whole s ∷ (lines ++ b)) z) (sym (append-assoc t v u)) (whole-line x (answered-append p q))
+  answered-append {b = b} {u = u} (broken-line {lines} {u = v} p) q =
+      subst (λ (z : List ℕ). Answered A (broken ∷ (lines ++ b)) z) (sym (append-assoc (refused-text 12) v u)) (broken-line (answered-append p q))
 
-pub fed-output : (f : List ℕ → List ℕ) {earlier s : List ℕ} {at : ℕ} {lines : List Line} {k : List ℕ} {m : ℕ} → Fed earlier s at lines k m → length k ≡ 255
-    → output f (earlier ++ take at s) ≡ answers f lines ++ answers f (at-end m)
-unfolding output
-fed-output f {earlier} {s} {at} {lines} {m = m} a e =
-    ap (λ (n : ℕ). answers f (lines-of n (earlier ++ take at s))) (sym e) ∙ ap (answers f) (fed-lines a) ∙ answers-append f lines (at-end m)
+  end-answered : (m : ℕ) → Answered A (at-end m) (end-text m)
+  unfolding at-end end-text
+  end-answered zero = no-line
+  end-answered (suc m) = subst (λ (z : List ℕ). Answered A (broken ∷ []) z) (append-nil (refused-text 12)) (broken-line no-line)
+
+  pub fed-output : {earlier s : List ℕ} {at : ℕ} {lines : List Line} {k : List ℕ} {m : ℕ} {t : List ℕ} → Fed earlier s at lines k m → length k ≡ 255
+      → Answered A lines t → Output A (earlier ++ take at s) (t ++ end-text m)
+  fed-output {earlier} {s} {at} {lines} {k} {m} {t} f e a =
+      subst (λ (z : List Line). Answered A z (t ++ end-text m)) (sym (fed-lines f) ∙ ap (λ (n : ℕ). lines-of n (earlier ++ take at s)) e)
+      (answered-append a (end-answered m))

@@ -11,3 +11,5 @@ pub mod Joins
 pub mod Writings
 pub mod Answers
 pub mod Feeds
+pub mod Serves
+pub mod Samples

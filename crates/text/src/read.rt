@@ -4,7 +4,8 @@ ghost use Prim.Native.Nat.{_+_, _≤_};
 ghost use lib.ListN.{length, drop};
 ghost use Rattle.text.specs.Grammar.{comma};
 ghost use Rattle.text.specs.Pieces.{until, pieces};
-ghost use Rattle.text.specs.Tells.{NumberTells, SizeTells, ValueOf, FieldsTell, ShapeTells, Filled, ParseTells};
+ghost use Rattle.text.specs.Inner.{ValueOf, Filled, FieldsTell, ShapeTells};
+ghost use Rattle.text.specs.Tells.{NumberTells, SizeTells, ParseTells};
 
 // A text as a number.
 pub enum Numeral {
@@ -19,13 +20,13 @@ pub enum Entries {
 }
 
 // Where a line's two semicolons stand.
-pub enum Split {
+enum Split {
     Three(usize, usize),
     Other,
 }
 
 // A line that reads: G stands from a to j and H from b on; p, and how many numbers G and H have.
-pub struct Marks {
+struct Marks {
     pub a: usize,
     pub j: usize,
     pub b: usize,
@@ -34,7 +35,7 @@ pub struct Marks {
     pub nh: usize,
 }
 
-pub enum Shape {
+enum Shape {
     Sound(Marks),
     Bad,
 }
@@ -46,10 +47,9 @@ pub struct Line {
     pub nh: usize,
 }
 
-// What a line says. Short: it reads, and a lent slice is too short for its list.
+// What a line says.
 pub enum Parsed {
     Read(Line),
-    Short,
     Malformed,
 }
 
@@ -190,8 +190,8 @@ fn shape_of(line: &[u8]) -> Shape
     Shape::Sound(Marks { a, j, b, p, ng, nh })
 }
 
-// A line without its newline. G goes to the front of g and H to the front of h; what is behind stays, and all of both where the line
-// does not read or a slice is too short.
+// A line without its newline. G goes to the front of g and H to the front of h; what is behind them stays. Malformed: the line does not
+// read, or a slice is too short for its list, which 126 entries never are; then both stay as they were.
 pub fn parse(line: &[u8], g: &mut [u64], h: &mut [u64]) -> Parsed
     ensures { λ r. ⌜ ParseTells (now (line .entry)) (now (g .entry)) (now (h .entry)) r (now (g .exit)) (now (h .exit)) ⌝ }
 {
@@ -206,10 +206,10 @@ pub fn parse(line: &[u8], g: &mut [u64], h: &mut [u64]) -> Parsed
     let ng = m.ng;
     let nh = m.nh;
     if g.len() < ng {
-        return Parsed::Short;
+        return Parsed::Malformed;
     }
     if h.len() < nh {
-        return Parsed::Short;
+        return Parsed::Malformed;
     }
     fill(&line[a..j], g);
     fill(&line[b..], h);

@@ -1,7 +1,9 @@
 // Lines of standard input, read and put back: p, then G and H, a blank before each number; `refused 12` for a line that does not read.
 // The input goes through `cut` whole and in pieces of several sizes, and the output has to be the same bytes each time.
 ghost use Prim.Native.Nat.{_≤_, _<_};
-ghost use lib.ListN.{length};
+ghost use lib.ListN.{take};
+ghost use Rattle.text.specs.Print.{Put};
+ghost use Rattle.text_test.specs.Echo.{words, Answer, Stepped, Through, Ran};
 use text::cut::Step;
 use text::read::Parsed;
 
@@ -13,7 +15,9 @@ pub struct Going {
 }
 
 // The first n numbers of l, a blank before each.
-fn put_words(out: &mut [u8], at: usize, l: &[u64], n: usize) -> usize {
+fn put_words(out: &mut [u8], at: usize, l: &[u64], n: usize) -> usize
+    ensures { λ r. ⌜ Put (now (out .entry)) at (words (take n (now (l .entry)))) r (now (out .exit)) ⌝ }
+{
     let mut to = at;
     let mut i: usize = 0;
     while i < n {
@@ -28,7 +32,9 @@ fn put_words(out: &mut [u8], at: usize, l: &[u64], n: usize) -> usize {
 }
 
 // The answer to a line.
-fn answer(line: &[u8], out: &mut [u8], at: usize) -> usize {
+fn answer(line: &[u8], out: &mut [u8], at: usize) -> usize
+    ensures { λ r. ⌜ Answer (now (line .entry)) (now (out .entry)) at r (now (out .exit)) ⌝ }
+{
     let mut g = [0u64; 128];
     let mut h = [0u64; 128];
     let r = text::read::parse(line, &mut g, &mut h);
@@ -46,7 +52,7 @@ fn answer(line: &[u8], out: &mut [u8], at: usize) -> usize {
 
 // One step through a piece.
 fn step(kept: &mut [u8], s: &[u8], out: &mut [u8], g: Going) -> Going
-    ensures { λ r. ⌜ (g .at < length (now (s .entry)) → g .at < r .at) ⌝ }
+    ensures { λ r. ⌜ Stepped (now (kept .entry)) (now (s .entry)) (now (out .entry)) g r (now (kept .exit)) (now (out .exit)) ⌝ }
 {
     let at = g.at;
     let n = g.n;
@@ -80,7 +86,9 @@ fn step(kept: &mut [u8], s: &[u8], out: &mut [u8], g: Going) -> Going
 }
 
 // A whole piece.
-fn through(kept: &mut [u8], s: &[u8], out: &mut [u8], n: usize, to: usize) -> Going {
+fn through(kept: &mut [u8], s: &[u8], out: &mut [u8], n: usize, to: usize) -> Going
+    ensures { λ r. ⌜ Through (now (kept .entry)) n (now (s .entry)) (now (out .entry)) to r (now (kept .exit)) (now (out .exit)) ⌝ }
+{
     let mut g = Going { at: 0, n, to };
     while g.at < s.len() {
         let t = step(kept, s, out, g);
@@ -103,8 +111,10 @@ fn end_of(from: usize, size: usize, end: usize) -> usize
     from + size
 }
 
-// The input in pieces of a size.
-fn run(input: &[u8], size: usize, out: &mut [u8]) -> usize {
+// The input in pieces of a size. The contract does not name the size: the output is the same whatever it is.
+fn run(input: &[u8], size: usize, out: &mut [u8]) -> usize
+    ensures { λ r. ⌜ Ran (now (input .entry)) (now (out .entry)) r (now (out .exit)) ⌝ }
+{
     let mut kept = [0u8; 255];
     let mut from: usize = 0;
     let mut n: usize = 0;

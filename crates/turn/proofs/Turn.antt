@@ -1,7 +1,7 @@
 -- What a turn s a − c t^k b does: to the sizes X, Y of an element, to the span, to the determinant.
 --   turned-X, turned-Y, turned-side   sizes turn as the coordinates do
 --   b-lt, c-lt                        bounds of X and Y bound the coordinates
---   moved-start, -swap, -turn, -then, -back    the change of basis that a loop of turns makes
+--   moved-start, -scale, -swap, -turn, -then, -back    the change of basis that a loop of turns makes
 --   moved-has                         it keeps the degree of the determinant
 --   full                              where Y(m) is small, X(m) and Y(n) make up all of the determinant's degree
 use mathlib.Core.Path.{_≡_, refl, sym, ap, ap₂, _∙_, subst}
@@ -57,6 +57,32 @@ module _ {p : ℕ} (ρ : Reading p) where
 
       two-of : (x y : L .El) → y ≡ 𝟎 * x + 𝟏 * y
       two-of x y = solve L (var 1) (zer :* var 0 :+ one :* var 1) tt (x ∷ y ∷ [])
+
+  -- each times a constant that is not 0
+  pub moved-scale : (s z : K .El) → s ≢ 0ᵏ → z ≢ 0ᵏ → (m n : Pt (L .El)) → Moved ρ m n (record { b = const s * m .b; c = const s * m .c }) (record { b = const z * n .b; c = const z * n .c })
+  moved-scale s z hs hz m n = record {
+    α = const s;
+    β = 𝟎;
+    γ = 𝟎;
+    δ = const z;
+    α-poly = 𝓥 .const-poly s;
+    β-poly = 𝓥 .closed .𝟎;
+    γ-poly = 𝓥 .closed .𝟎;
+    δ-poly = 𝓥 .const-poly z;
+    κ = s *ᵏ z;
+    unit = k-domain 𝓥 s z hs hz;
+    det = solve L (var 0 :* var 1 :+ minus (zer :* zer)) (var 0 :* var 1) tt (const s ∷ const z ∷ []) ∙ sym (ρ .const-mul s z);
+    m-b = one-of s (m .b) (n .b);
+    m-c = one-of s (m .c) (n .c);
+    n-b = two-of z (m .b) (n .b);
+    n-c = two-of z (m .c) (n .c);
+  }
+    where
+      one-of : (s : K .El) (x y : L .El) → const s * x ≡ const s * x + 𝟎 * y
+      one-of s x y = solve L (var 0 :* var 1) (var 0 :* var 1 :+ zer :* var 2) tt (const s ∷ x ∷ y ∷ [])
+
+      two-of : (s : K .El) (x y : L .El) → const s * y ≡ 𝟎 * x + const s * y
+      two-of s x y = solve L (var 0 :* var 2) (zer :* var 1 :+ var 0 :* var 2) tt (const s ∷ x ∷ y ∷ [])
 
   pub moved-swap : {m n m′ n′ : Pt (L .El)} → Moved ρ m n m′ n′ → Moved ρ m n n′ m′
   moved-swap h = record {

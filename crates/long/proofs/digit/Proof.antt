@@ -50,7 +50,7 @@ add-result-2 : tie.Need-add-result-2
 add-result-2 c = search needs
 
 sub-result : tie.Need-sub-result
-sub-result c =     let p = c .before .before .before .before .before .before .before .before .before .before .before .before .args .p in
+sub-result c = let p = c .before .before .before .before .before .before .before .before .before .before .before .before .args .p in
     omega (arith, mod-lt (c .sum-at4 .result) (let b : 0 < p = omega (arith, c .before .before .before .before .before .before .before .before .before .before .before .before .pre .modulus .big) in b))
 
 add-result-3 : tie.Need-add-result-3
@@ -60,7 +60,7 @@ rem-result : tie.Need-rem-result
 rem-result c = search needs
 
 returns : tie.Need-returns
-returns c =     let p = c .before .before .before .before .before .before .before .before .before .before .before .before .args .p in
+returns c = let p = c .before .before .before .before .before .before .before .before .before .before .before .before .args .p in
     let pos : 0 < p = omega (arith, c .before .before .before .before .before .before .before .before .before .before .before .before .pre .modulus .big) in
     record {
       below = mod-lt (c .before .before .before .sum-at .result + c .before .before .sum-at2 .result + c .before .sum-at3 .result + (p - c .sum-at4 .result % p)) pos;

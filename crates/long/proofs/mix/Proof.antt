@@ -38,7 +38,7 @@ rem-d : tie.Need-rem-d Inv-loop μ-loop
 rem-d c = search needs
 
 cast-d : tie.Need-cast-d Inv-loop μ-loop
-cast-d c =     let s = c .before .before .before .before .before .before .before .before .before in
+cast-d c = let s = c .before .before .before .before .before .before .before .before .before in
     let pos : 0 < s .args .p = omega (arith, s .pre .modulus .big) in
     omega (arith, s .pre .modulus .small, mod-lt (c .before .sum-at .result + c .sum-at2 .result) pos)
 
@@ -55,7 +55,7 @@ loop-less : tie.Need-loop-less Inv-loop μ-loop
 loop-less c = search needs
 
 loop-again : tie.Need-loop-again Inv-loop μ-loop
-loop-again c =     let s = c .before .before .before .before .before .before .before .before .before in
+loop-again c = let s = c .before .before .before .before .before .before .before .before .before in
     let l = c .before .before .before .loop in
     filled-more (length (s .args .d .now)) (λ i. (sumTo (termAt (s .args .g .now) (s .args .x .now) i) (length (s .args .g .now)) + sumTo (termAt (s .args .h .now) (s .args .y .now) i) (length (s .args .h .now))) % s .args .p)
     (l .d) (l .k) _ (l .inv) (omega (arith, l .inv .size)) (ap₂ (λ v w. (v + w) % s .args .p) (c .before .sum-at .ensures .value) (c .sum-at2 .ensures .value))

@@ -36,7 +36,7 @@ cast-d : tie.Need-cast-d Inv-loop μ-loop
 cast-d c = omega (arith, c .slice-known .given (c .before .before .loop .i))
 
 mul-d-2 : tie.Need-mul-d-2 Inv-loop μ-loop
-mul-d-2 c =     let x : ℕ = getD (c .before .before .loop .d) (c .before .before .loop .i) 0 in
+mul-d-2 c = let x : ℕ = getD (c .before .before .loop .d) (c .before .before .loop .i) 0 in
     let k : x < 65536 = omega (arith, c .slice-known .given (c .before .before .loop .i)) in
     let l : c .before .before .before .args .s < c .before .before .before .args .p = c .before .before .before .pre .below in
     let m : x * c .before .before .before .args .s ≤ 4294836225 = product-small x (c .before .before .before .args .s) k (omega arith) in
@@ -46,7 +46,7 @@ rem-d : tie.Need-rem-d Inv-loop μ-loop
 rem-d c = search needs
 
 cast-d-2 : tie.Need-cast-d-2 Inv-loop μ-loop
-cast-d-2 c =     let s = c .before .before .before in
+cast-d-2 c = let s = c .before .before .before in
     omega (arith, mod-lt (getD (c .before .before .loop .d) (c .before .before .loop .i) 0 * s .args .s) (let b : 0 < s .args .p = omega arith in b))
 
 mul-d-3 : tie.Need-mul-d-3 Inv-loop μ-loop
@@ -62,7 +62,7 @@ loop-less : tie.Need-loop-less Inv-loop μ-loop
 loop-less c = search needs
 
 loop-again : tie.Need-loop-again Inv-loop μ-loop
-loop-again c =     let s = c .before .before .before in
+loop-again c = let s = c .before .before .before in
     let l = c .before .before .loop in
     changing-more (λ k. (getD (s .args .d .now) k 0 * s .args .s) % s .args .p) (s .args .d .now) (l .d) (l .i) _ (l .inv) (omega (arith, l .inv .filled .size))
     (ap (λ x. (x * s .args .s) % s .args .p) (l .inv .rest (l .i) (omega arith)))
@@ -71,7 +71,7 @@ same-length : tie.Need-same-length Inv-loop μ-loop
 same-length c = c .before .loop .inv .filled .size
 
 returns : tie.Need-returns Inv-loop μ-loop
-returns c =     let s = c .before .before in
+returns c = let s = c .before .before in
     scaled (s .args .p) (s .args .s) (s .args .d .now) (c .before .loop .d) (c .before .loop .i) (s .pre) (c .before .loop .inv .filled) (omega (arith, c .before .loop .inv .filled .size))
 
 pub scale-spec : {M : Type 1} → statement M

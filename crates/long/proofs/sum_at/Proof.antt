@@ -29,7 +29,7 @@ add-to : tie.Need-add-to Inv-loop μ-loop
 add-to c = search needs
 
 loop-holds : tie.Need-loop-holds Inv-loop μ-loop
-loop-holds c =     let s = c .before .before in
+loop-holds c = let s = c .before .before in
     summing-start (s .args .x .now) (s .args .n) (s .args .y .now) (s .args .k) (c .before .if1 .from) (c .if2 .to)
     (⊎-elim (λ w. inl (omega arith)) (λ w. inr (omega arith)) (c .before .if1 .came))
     (⊎-elim (λ w. omega arith) (λ w. omega arith) (c .before .if1 .came))
@@ -75,7 +75,7 @@ mul-s-3 : tie.Need-mul-s-3 Inv-loop μ-loop
 mul-s-3 c = omega (arith, small c)
 
 add-s : tie.Need-add-s Inv-loop μ-loop
-add-s c =     let l = c .before .before .before .before .loop in
+add-s c = let l = c .before .before .before .before .loop in
     let s = c .before .before .before .before .before .before .before in
     let n : s .args .n ≤ 4096 = s .pre .most in
     let t : c .before .before .before .before .before .if2 .to ≤ s .args .n = l .inv .last in
@@ -90,13 +90,13 @@ loop-less : tie.Need-loop-less Inv-loop μ-loop
 loop-less c = search needs
 
 loop-again : tie.Need-loop-again Inv-loop μ-loop
-loop-again c =     let l = c .before .before .before .before .loop in
+loop-again c = let l = c .before .before .before .before .loop in
     let s = c .before .before .before .before .before .before .before in
     summing-more (s .args .x .now) (s .args .n) (s .args .y .now) (s .args .k) (c .before .before .before .before .before .before .if1 .from) (c .before .before .before .before .before .if2 .to) (l .s) (l .i) _ _ (l .inv) (c .before .before .before .loop-test .taken)
     refl refl (left c) (right c)
 
 returns : tie.Need-returns Inv-loop μ-loop
-returns c =     let s = c .before .before .before .before in
+returns c = let s = c .before .before .before .before in
     summing-end (s .args .x .now) (s .args .n) (s .args .y .now) (s .args .k) (c .before .before .before .if1 .from) (c .before .before .if2 .to) (c .before .loop .inv .skip) _ _ (c .before .loop .inv) (omega arith)
 
 pub sum-at-spec : {M : Type 1} → statement M

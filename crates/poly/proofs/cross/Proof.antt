@@ -11,23 +11,26 @@ use Rattle.poly.proofs.cross.Statement.{statement}
 use Rattle.poly.proofs.cross.Tie as tie
 
 abbrev Inv-loop : tie.InvT-loop
-Inv-loop p s x c k y n m top r₀ i₀ r i = (i ≤ top) × (n ≤ top) × (m ≤ top) × (top ≤ 32) × Begun 32 (crossAt p s x c k y) r i
+Inv-loop p s x c k y q n m top r₀ i₀ r i = (i ≤ top) × (n ≤ top) × (m ≤ top) × (top ≤ 32) × Begun 32 (crossAt p s x c k y) r i
 
 abbrev μ-loop : tie.MeasureT-loop
-μ-loop p s x c k y n m top r₀ i₀ r i = top - i
+μ-loop p s x c k y q n m top r₀ i₀ r i = top - i
+
+rapid-of-requires : tie.Need-rapid-of-requires Inv-loop μ-loop
+rapid-of-requires c κs = c .pre .modulus
 
 size-requires : tie.Need-size-requires Inv-loop μ-loop
-size-requires c κs = c .pre .hx .size
+size-requires c κs = c .before .pre .hx .size
 
 size-requires-2 : tie.Need-size-requires-2 Inv-loop μ-loop
-size-requires-2 c κs = c .before .pre .hy .size
+size-requires-2 c κs = c .before .before .pre .hy .size
 
 add-m : tie.Need-add-m Inv-loop μ-loop
-add-m c = let l : c .size2 .result + c .before .before .args .k ≤ 32 = c .before .before .pre .room _ (c .size2 .ensures) in omega arith
+add-m c = let l : c .size2 .result + c .before .before .before .args .k ≤ 32 = c .before .before .before .pre .room _ (c .size2 .ensures) in omega arith
 
 loop-holds : tie.Need-loop-holds Inv-loop μ-loop
 loop-holds c =
-    let s = c .before .before .before in
+    let s = c .before .before .before .before in
     let z = c .before .before .size in
     let w = c .before .size2 in
     let l : w .result + s .args .k ≤ 32 = s .pre .room _ (w .ensures) in
@@ -49,9 +52,10 @@ sub-mixed c = search needs
 
 mixed-requires : tie.Need-mixed-requires Inv-loop μ-loop
 mixed-requires c κs =
-    let s = c .before .before .before .before .before .before .before in
+    let s = c .before .before .before .before .before .before .before .before in
     let i = c .before .before .before .loop .i in record {
       modulus = s .pre .modulus;
+      ready = c .before .before .before .before .before .before .before .rapid-of .ensures;
       hs = s .pre .hs;
       hx = s .pre .hx .each i;
       hd = omega arith;
@@ -72,7 +76,7 @@ loop-less c = search needs
 
 loop-again : tie.Need-loop-again Inv-loop μ-loop
 loop-again c =
-    let s = c .before .before .before .before .before .before .before .before .args in
+    let s = c .before .before .before .before .before .before .before .before .before .args in
     let l = c .before .before .before .before .loop in (
       omega arith,
       l .inv .1,
@@ -84,7 +88,7 @@ loop-again c =
 
 returns : tie.Need-returns Inv-loop μ-loop
 returns c =
-    let s = c .before .before .before .before .before in
+    let s = c .before .before .before .before .before .before in
     let z = c .before .before .before .before .size in
     let w = c .before .before .before .size2 in
     let l = c .before .loop in
@@ -96,6 +100,7 @@ cross-spec =
     (tie.spec
     Inv-loop
     μ-loop
+    rapid-of-requires
     size-requires
     size-requires-2
     add-m

@@ -9,16 +9,19 @@ use Rattle.poly.proofs.mul.Statement.{statement}
 use Rattle.poly.proofs.mul.Tie as tie
 
 abbrev Inv-loop : tie.InvT-loop
-Inv-loop p x y n m r₀ k₀ r k = (k ≤ 32) × Begun 32 (λ j. sumTo (termAt x y j) n % p) r k
+Inv-loop p x y q n m r₀ k₀ r k = (k ≤ 32) × Begun 32 (λ j. sumTo (termAt x y j) n % p) r k
 
 abbrev μ-loop : tie.MeasureT-loop
-μ-loop p x y n m r₀ k₀ r k = n + m - k
+μ-loop p x y q n m r₀ k₀ r k = n + m - k
+
+rapid-of-requires : tie.Need-rapid-of-requires Inv-loop μ-loop
+rapid-of-requires c κs = c .pre .modulus
 
 size-requires : tie.Need-size-requires Inv-loop μ-loop
-size-requires c κs = c .pre .hx .size
+size-requires c κs = c .before .pre .hx .size
 
 size-requires-2 : tie.Need-size-requires-2 Inv-loop μ-loop
-size-requires-2 c κs = c .before .pre .hy .size
+size-requires-2 c κs = c .before .before .pre .hy .size
 
 loop-holds : tie.Need-loop-holds Inv-loop μ-loop
 loop-holds c = (omega arith, begun-start 32 _)
@@ -27,16 +30,16 @@ add-loop : tie.Need-add-loop Inv-loop μ-loop
 add-loop c = omega arith
 
 add-loop-2 : tie.Need-add-loop-2 Inv-loop μ-loop
-add-loop-2 c = let r : c .before .before .size .result + c .before .size2 .result ≤ 33 = c .before .before .before .pre .room _ _ (c .before .before .size .ensures) (c .before .size2 .ensures) in omega arith
+add-loop-2 c = let r : c .before .before .size .result + c .before .size2 .result ≤ 33 = c .before .before .before .before .pre .room _ _ (c .before .before .size .ensures) (c .before .size2 .ensures) in omega arith
 
 place-requires : tie.Need-place-requires Inv-loop μ-loop
-place-requires c κs = let s = c .before .before .before .before in record { modulus = s .pre .modulus; hx = s .pre .hx; hy = s .pre .hy; sx = c .before .before .before .size .ensures; sy = c .before .before .size2 .ensures; inside = c .loop-test .taken }
+place-requires c κs = let s = c .before .before .before .before .before in record { modulus = s .pre .modulus; ready = c .before .before .before .before .rapid-of .ensures; hx = s .pre .hx; hy = s .pre .hy; sx = c .before .before .before .size .ensures; sy = c .before .before .size2 .ensures; inside = c .loop-test .taken }
 
 mul-r : tie.Need-mul-r Inv-loop μ-loop
 mul-r c = search needs
 
 array-write-r : tie.Need-array-write-r Inv-loop μ-loop
-array-write-r c = let r : c .before .before .before .before .size .result + c .before .before .before .size2 .result ≤ 33 = c .before .before .before .before .before .pre .room _ _ (c .before .before .before .before .size .ensures) (c .before .before .before .size2 .ensures) in omega arith
+array-write-r c = let r : c .before .before .before .before .size .result + c .before .before .before .size2 .result ≤ 33 = c .before .before .before .before .before .before .pre .room _ _ (c .before .before .before .before .size .ensures) (c .before .before .before .size2 .ensures) in omega arith
 
 add-k : tie.Need-add-k Inv-loop μ-loop
 add-k c = search needs
@@ -46,13 +49,13 @@ loop-less c = omega arith
 
 loop-again : tie.Need-loop-again Inv-loop μ-loop
 loop-again c =
-    let r : c .before .before .before .before .size .result + c .before .before .before .size2 .result ≤ 33 = c .before .before .before .before .before .pre .room _ _ (c .before .before .before .before .size .ensures) (c .before .before .before .size2 .ensures) in
+    let r : c .before .before .before .before .size .result + c .before .before .before .size2 .result ≤ 33 = c .before .before .before .before .before .before .pre .room _ _ (c .before .before .before .before .size .ensures) (c .before .before .before .size2 .ensures) in
     let l = c .before .before .loop in
     (omega arith, begun-more 32 _ _ (l .k) _ (l .inv .1) (omega arith) (c .place .ensures))
 
 returns : tie.Need-returns Inv-loop μ-loop
 returns c =
-    let s = c .before .before .before .before in
+    let s = c .before .before .before .before .before in
     let z = c .before .before .before .size in
     let w = c .before .before .size2 in
     product (s .args .p) (s .args .x .now) (s .args .y .now) (z .result) (w .result) (c .before .loop .k) _ (s .pre) (z .ensures) (w .ensures) (omega arith) (c .before .loop .inv .1)
@@ -63,6 +66,7 @@ mul-spec =
     (tie.spec
     Inv-loop
     μ-loop
+    rapid-of-requires
     size-requires
     size-requires-2
     loop-holds

@@ -10,16 +10,19 @@ use Rattle.poly.proofs.quotient.Statement.{statement}
 use Rattle.poly.proofs.quotient.Tie as tie
 
 abbrev Inv-loop : tie.InvT-loop
-Inv-loop p a b il n m top q₀ k₀ q k = Dividing p a b il m top q k
+Inv-loop p a b il s n m top q₀ k₀ q k = Dividing p a b il m top q k
 
 abbrev μ-loop : tie.MeasureT-loop
-μ-loop p a b il n m top q₀ k₀ q k = k
+μ-loop p a b il s n m top q₀ k₀ q k = k
+
+rapid-of-requires : tie.Need-rapid-of-requires Inv-loop μ-loop
+rapid-of-requires c κs = c .pre .modulus
 
 size-requires : tie.Need-size-requires Inv-loop μ-loop
-size-requires c κs = c .pre .ha .size
+size-requires c κs = c .before .pre .ha .size
 
 size-requires-2 : tie.Need-size-requires-2 Inv-loop μ-loop
-size-requires-2 c κs = c .before .pre .hb .size
+size-requires-2 c κs = c .before .before .pre .hb .size
 
 add-top : tie.Need-add-top Inv-loop μ-loop
 add-top c = search needs
@@ -29,7 +32,7 @@ sub-top c = search needs
 
 loop-holds : tie.Need-loop-holds Inv-loop μ-loop
 loop-holds c =
-    let s = c .before .before .before in
+    let s = c .before .before .before .before in
     let z = c .before .before .size in
     let w = c .before .size2 in
     let top = c .if1 .top in
@@ -44,7 +47,7 @@ sub-k : tie.Need-sub-k Inv-loop μ-loop
 sub-k c = search needs
 
 digit-requires : tie.Need-digit-requires Inv-loop μ-loop
-digit-requires c κs = dividing-digit (c .before .before .before .before .before .before .before .pre) (c .before .before .before .loop .inv) (c .before .before .loop-test .taken)
+digit-requires c κs = dividing-digit (c .before .before .before .before .before .before .before .before .pre) (c .before .before .before .loop .inv) (c .before .before .loop-test .taken) _ _ (c .before .before .before .before .before .before .before .rapid-of .ensures)
 
 mul-q : tie.Need-mul-q Inv-loop μ-loop
 mul-q c = search needs
@@ -61,10 +64,10 @@ loop-less : tie.Need-loop-less Inv-loop μ-loop
 loop-less c = search needs
 
 loop-again : tie.Need-loop-again Inv-loop μ-loop
-loop-again c = dividing-turn (c .before .before .before .before .before .before .before .before .pre) (c .before .before .before .before .loop .inv) (c .before .before .before .loop-test .taken) _ (c .digit .ensures)
+loop-again c = dividing-turn (c .before .before .before .before .before .before .before .before .before .pre) (c .before .before .before .before .loop .inv) (c .before .before .before .loop-test .taken) _ (c .digit .ensures)
 
 returns : tie.Need-returns Inv-loop μ-loop
-returns c = dividing-end _ _ _ _ _ _ _ _ (c .before .before .before .before .before .pre) (c .before .loop .inv) (c .loop-test .left)
+returns c = dividing-end _ _ _ _ _ _ _ _ (c .before .before .before .before .before .before .pre) (c .before .loop .inv) (c .loop-test .left)
 
 pub quotient-spec : {M : Type 1} → statement M
 quotient-spec =
@@ -72,6 +75,7 @@ quotient-spec =
     (tie.spec
     Inv-loop
     μ-loop
+    rapid-of-requires
     size-requires
     size-requires-2
     add-top

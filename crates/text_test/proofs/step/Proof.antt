@@ -1,7 +1,9 @@
--- `text_test::step` meets its contract: a step goes forward.
-use mathlib.Core.Path.{sym}
+-- `text_test::step` meets its contract.
+use mathlib.Core.Path.{sym, subst}
 use lib.Seq.{length-take-le}
+use Rattle.text.specs.Tells.{CutTells}
 use Rattle.text.proofs.Steps.{whole-step, broken-step}
+use Rattle.text.proofs.Serves.{served-whole, served-broken, served-pending}
 use borrow.Author.Needs.{needs}
 use Rattle.text_test.proofs.step.Statement.{statement}
 use Rattle.text_test.proofs.step.Tie as tie
@@ -37,7 +39,10 @@ same-length-2 : tie.Need-same-length-2
 same-length-2 c = search needs
 
 returns : tie.Need-returns
-returns c = λ h. whole-step (c .before .before .before .before .before .before .before .before .before .before .before .before .before .before .before .args .kept .now) (c .before .before .before .before .before .before .before .before .before .before .before .before .before .before .before .args .g .n) (c .before .before .before .before .before .before .before .before .before .before .before .before .before .before .before .args .s .now) (c .before .before .before .before .before .before .before .before .before .before .before .before .before .before .before .args .g .at) (c .before .before .before .before .before .before .before .before .before .before .cut .last .0) (c .before .before .before .before .before .before .c .given .1) (c .before .before .before .before .before .before .before .before .before .before .cut .ensures) .1
+returns c = record {
+  served = served-whole (c .before .before .before .before .before .before .before .before .before .before .before .before .before .before .before .args .kept .now) (c .before .before .before .before .before .before .before .before .before .before .before .before .before .before .before .args .g .n) (c .before .before .before .before .before .before .before .before .before .before .before .before .before .before .before .args .s .now) (c .before .before .before .before .before .before .before .before .before .before .before .before .before .before .before .args .g .at) (c .before .before .before .before .before .before .before .before .before .before .before .before .before .before .before .args .out .now) (c .before .before .before .before .before .before .before .before .before .before .before .before .before .before .before .args .g .to) _ _ (c .before .before .before .before .before .before .before .before .before .before .cut .last .0) _ _ _ (subst (λ z. CutTells (c .before .before .before .before .before .before .before .before .before .before .before .before .before .before .before .args .kept .now) (c .before .before .before .before .before .before .before .before .before .before .before .before .before .before .before .args .g .n) (c .before .before .before .before .before .before .before .before .before .before .before .before .before .before .before .args .s .now) (c .before .before .before .before .before .before .before .before .before .before .before .before .before .before .before .args .g .at) z (c .before .before .before .before .before .before .before .before .before .before .cut .last .0)) (c .before .before .before .before .before .before .c .given .1) (c .before .before .before .before .before .before .before .before .before .before .cut .ensures)) (c .before .before .answer .ensures .echo) (c .before .before .answer .ensures .put);
+  forward = λ h. whole-step (c .before .before .before .before .before .before .before .before .before .before .before .before .before .before .before .args .kept .now) (c .before .before .before .before .before .before .before .before .before .before .before .before .before .before .before .args .g .n) (c .before .before .before .before .before .before .before .before .before .before .before .before .before .before .before .args .s .now) (c .before .before .before .before .before .before .before .before .before .before .before .before .before .before .before .args .g .at) (c .before .before .before .before .before .before .before .before .before .before .cut .last .0) (c .before .before .before .before .before .before .c .given .1) (c .before .before .before .before .before .before .before .before .before .before .cut .ensures) .1;
+}
 
 same-length-3 : tie.Need-same-length-3
 same-length-3 c = search needs
@@ -46,13 +51,19 @@ same-length-4 : tie.Need-same-length-4
 same-length-4 c = search needs
 
 returns-2 : tie.Need-returns-2
-returns-2 c = λ h. broken-step (c .before .before .before .before .before .before .before .before .before .before .before .before .before .before .args .kept .now) (c .before .before .before .before .before .before .before .before .before .before .before .before .before .before .args .g .n) (c .before .before .before .before .before .before .before .before .before .before .before .before .before .before .args .s .now) (c .before .before .before .before .before .before .before .before .before .before .before .before .before .before .args .g .at) (c .before .before .before .before .before .before .before .before .before .cut .last .0) (c .before .before .before .before .before .c2 .given .1) (c .before .before .before .before .before .before .before .before .before .cut .ensures) .0
+returns-2 c = record {
+  served = served-broken (c .before .before .before .before .before .before .before .before .before .before .before .before .before .before .args .kept .now) (c .before .before .before .before .before .before .before .before .before .before .before .before .before .before .args .g .n) (c .before .before .before .before .before .before .before .before .before .before .before .before .before .before .args .s .now) (c .before .before .before .before .before .before .before .before .before .before .before .before .before .before .args .g .at) (c .before .before .before .before .before .before .before .before .before .before .before .before .before .before .args .out .now) (c .before .before .before .before .before .before .before .before .before .before .before .before .before .before .args .g .to) _ (c .before .before .before .before .before .before .before .before .before .cut .last .0) _ _ (subst (λ z. CutTells (c .before .before .before .before .before .before .before .before .before .before .before .before .before .before .args .kept .now) (c .before .before .before .before .before .before .before .before .before .before .before .before .before .before .args .g .n) (c .before .before .before .before .before .before .before .before .before .before .before .before .before .before .args .s .now) (c .before .before .before .before .before .before .before .before .before .before .before .before .before .before .args .g .at) z (c .before .before .before .before .before .before .before .before .before .cut .last .0)) (c .before .before .before .before .before .c2 .given .1) (c .before .before .before .before .before .before .before .before .before .cut .ensures)) (c .before .before .put-refused .ensures);
+  forward = λ h. broken-step (c .before .before .before .before .before .before .before .before .before .before .before .before .before .before .args .kept .now) (c .before .before .before .before .before .before .before .before .before .before .before .before .before .before .args .g .n) (c .before .before .before .before .before .before .before .before .before .before .before .before .before .before .args .s .now) (c .before .before .before .before .before .before .before .before .before .before .before .before .before .before .args .g .at) (c .before .before .before .before .before .before .before .before .before .cut .last .0) (c .before .before .before .before .before .c2 .given .1) (c .before .before .before .before .before .before .before .before .before .cut .ensures) .0;
+}
 
 same-length-5 : tie.Need-same-length-5
 same-length-5 c = search needs
 
 returns-3 : tie.Need-returns-3
-returns-3 c = λ h. h
+returns-3 c = record {
+  served = served-pending (c .before .before .before .before .before .before .before .before .before .before .args .kept .now) (c .before .before .before .before .before .before .before .before .before .before .args .g .n) (c .before .before .before .before .before .before .before .before .before .before .args .s .now) (c .before .before .before .before .before .before .before .before .before .before .args .g .at) (c .before .before .before .before .before .before .before .before .before .before .args .out .now) (c .before .before .before .before .before .before .before .before .before .before .args .g .to) _ (c .before .before .before .before .before .cut .last .0) (subst (λ z. CutTells (c .before .before .before .before .before .before .before .before .before .before .args .kept .now) (c .before .before .before .before .before .before .before .before .before .before .args .g .n) (c .before .before .before .before .before .before .before .before .before .before .args .s .now) (c .before .before .before .before .before .before .before .before .before .before .args .g .at) z (c .before .before .before .before .before .cut .last .0)) (c .before .c3 .given .1) (c .before .before .before .before .before .cut .ensures));
+  forward = λ h. h;
+}
 
 pub step-spec : {M : Type 1} → statement M
 step-spec = tie.close (tie.spec cut-requires enum-known-c slice-reshare-prefix-answer slice-aggregate-answer answer-requires enum-known-c-2 put-refused-requires enum-known-c-3 same-length same-length-2 returns same-length-3 same-length-4 returns-2 same-length-5 returns-3)

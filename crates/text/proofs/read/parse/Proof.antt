@@ -1,9 +1,10 @@
 -- `text::read::parse` meets its contract.
-use mathlib.Core.Path.{refl, subst}
-use mathlib.Core.Logic.{inl, inr}
+use mathlib.Core.Path.{refl, ap, subst}
+use lib.ListN.{length}
 use native.Mathlib.Omega.{arith}
-use Rattle.text.specs.Tells.{Sound, ShapeTells}
+use Rattle.text.specs.Inner.{Sound, ShapeTells}
 use Rattle.text.proofs.Parts.{room-for, front}
+use Rattle.text.proofs.Writings.{reads-unique}
 use borrow.Author.Needs.{needs}
 use Rattle.text.proofs.read.parse.Statement.{statement}
 use Rattle.text.proofs.read.parse.Tie as tie
@@ -18,15 +19,15 @@ enum-told : tie.Need-enum-told
 enum-told c = search needs
 
 returns : tie.Need-returns
-returns c = (subst (ShapeTells _) (c .enum-told .given .1) (c .before .before .shape-of .ensures), refl, refl)
+returns c = (λ p G H r a b. (subst (ShapeTells _) (c .enum-told .given .1) (c .before .before .shape-of .ensures)) p G H r, refl, refl)
 
 returns-2 : tie.Need-returns-2
 returns-2 c = let q : Sound (c .before .before .before .before .before .before .before .before .args .line .now) (c .before .before .s .given .0 .0) = subst (ShapeTells _) (c .before .before .s .given .1) (c .before .before .before .before .shape-of .ensures) in
-    let n = q .count-G in (record { p = c .before .before .s .given .0 .0 .p; G = q .G; H = q .H; reads = q .reads; room = inl (omega arith) }, refl, refl)
+    (λ p G H r a b. let n = q .count-G in let e = ap length (reads-unique r (q .reads) .1) in omega arith, refl, refl)
 
 returns-3 : tie.Need-returns-3
 returns-3 c = let q : Sound (c .before .before .before .before .before .before .before .before .before .args .line .now) (c .before .before .before .s .given .0 .0) = subst (ShapeTells _) (c .before .before .before .s .given .1) (c .before .before .before .before .before .shape-of .ensures) in
-    let n = q .count-H in (record { p = c .before .before .before .s .given .0 .0 .p; G = q .G; H = q .H; reads = q .reads; room = inr (omega arith) }, refl, refl)
+    (λ p G H r a b. let n = q .count-H in let e = ap length (reads-unique r (q .reads) .2) in omega arith, refl, refl)
 
 sub-fill : tie.Need-sub-fill
 sub-fill c = let q : Sound (c .before .before .before .before .before .before .before .before .before .args .line .now) (c .before .before .before .s .given .0 .0) = subst (ShapeTells _) (c .before .before .before .s .given .1) (c .before .before .before .before .before .shape-of .ensures) in

@@ -5,7 +5,8 @@ use native.Mathlib.Omega.{arith}
 use lib.ListN.{length}
 use lib.Seq.{length-take-le}
 use Rattle.text.specs.declared.read.Split.the-variants.{Three}
-use Rattle.text.specs.Tells.{NumberTells, SizeTells, FieldsTell}
+use Rattle.text.specs.Tells.{NumberTells, SizeTells}
+use Rattle.text.specs.Inner.{FieldsTell}
 use Rattle.text.proofs.Parts.{reads-first, reads-second, reads-third, reads-of}
 use borrow.Author.Needs.{needs}
 use Rattle.text.proofs.read.shape_of.Statement.{statement}

@@ -1,4 +1,4 @@
--- `poly::part` meets its contract: each turn is `part-more`.
+-- `poly::folded` meets its contract: each turn is `part-more`.
 use mathlib.Core.Path.{_≡_, ap, _∙_}
 use Prim.Native.Nat.{_≤_, _<_, _-_, _*_, _+_, _%_}
 use native.Mathlib.Omega.{arith}
@@ -6,8 +6,8 @@ use lib.ListN.{getD}
 use Rattle.reading.specs.Sum.{sumTo, termAt}
 use Rattle.poly.proofs.Terms.{part-more, term-is}
 use borrow.Author.Needs.{needs}
-use Rattle.poly.proofs.part.Statement.{statement}
-use Rattle.poly.proofs.part.Tie as tie
+use Rattle.poly.proofs.folded.Statement.{statement}
+use Rattle.poly.proofs.folded.Tie as tie
 
 abbrev Inv-loop : tie.InvT-loop
 Inv-loop p x y from to k s₀ i₀ s i = (from ≤ i) × (i ≤ to) × (s < 9223372036854775808) × ((sumTo (termAt x y k) from + s) % p ≡ sumTo (termAt x y k) i % p)
@@ -61,8 +61,8 @@ returns c =
     let l = c .before .loop in
     record { low = l .inv .2; law = l .inv .3 ∙ ap (λ j. sumTo (termAt (s .x .now) (s .y .now) (s .k)) j % s .p) (let q : l .i ≡ s .to = omega arith in q) }
 
-pub part-spec : {M : Type 1} → statement M
-part-spec =
+pub folded-spec : {M : Type 1} → statement M
+folded-spec =
     tie.close
     (tie.spec
     Inv-loop

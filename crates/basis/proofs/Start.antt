@@ -1,0 +1,84 @@
+-- The record of the order, in the words of the theory.
+--   based-ends    what `Based` says of a record's rows is the end of the reduction as crate chain has it
+--   based-framed, based-U, based-changed    and the rest of it: what `Rebased` of crate chain asks
+--   order-start   for an accepted field, whose series the two lists read, the record that `order` makes is the basis of the order O
+use mathlib.Core.Path.{_≡_, refl, sym, ap, ap₂, _∙_, subst}
+use mathlib.Core.List.{List}
+use Prim.Native.Nat.{ℕ}
+use native.Mathlib.Omega.{arith}
+use Rattle.ring.proofs.Laws as rg
+use Rattle.ring.specs.Ring.{Ops, CRing}
+use Rattle.valued.specs.Val.{Valued}
+use Rattle.valued.specs.Polynomial.{polys, IsUnit}
+use Rattle.valued.proofs.Degree.{lead-eq, same}
+use Rattle.valued.proofs.Polynomial.{P-path, const-unit}
+use Rattle.reading.specs.Reading.{Reading}
+use Rattle.reading.specs.Made.{reading}
+use Rattle.reading.specs.Row.{row, Reads}
+use Rattle.turn.specs.Points.{Pt, Moved}
+use Rattle.field.specs.Refusal.{Accepted}
+use Rattle.ideals.specs.Setting.{Setting, P}
+use Rattle.ideals.specs.Next.{Start}
+use Rattle.chain.proofs.Changed.{Pair, Changed}
+use Rattle.chain.proofs.Frame.{pair, Framed}
+use Rattle.chain.proofs.Moved.{point-of, changed-of}
+use Rattle.chain.proofs.Correct.{Ends, order-correct}
+use Rattle.record.specs.Record.{part, setting, polyOf, basisOf}
+use Rattle.reduce.specs.Frame.{Frame, frame, Meaning, rd, rowμ, pt}
+use Rattle.reduce.specs.declared.Pair as reduced
+use Rattle.basis.specs.Based.{BasedAt, Based, Mpt, Npt, at}
+use Rattle.basis.specs.First.{unit, nothing, units}
+use Rattle.basis.proofs.First.{unit-is, nothing-is}
+
+module _ {p : ℕ} {G H : List ℕ} (A : Accepted p G H) (r w : List ℕ) (hr : Reads (reading p (A .prime)) r (setting A .dr) (setting A .r)) (hw : Reads (reading p (A .prime)) w (setting A .dw) (setting A .w)) where
+  abbrev pub fieldFrame : Frame
+  fieldFrame = frame p r w (setting A .dr) (setting A .dw)
+
+  -- the lists mean the series of the field
+  abbrev pub meaning : Meaning fieldFrame
+  meaning = record { prime = A .prime; r = setting A .r; w = setting A .w; r-deg = setting A .r-deg; w-deg = setting A .w-deg; r-reads = hr; w-reads = hw; two = setting A .two≢ }
+
+  pub based-ends : {q : reduced.Pair} {d x1 y1 B : List ℕ} → BasedAt meaning q d x1 y1 B → Ends (setting A) (basisOf A B)
+  based-ends b = record { u = b .u; x = b .x; y = b .y; U-lead = b .U-lead; X-M = b .X-M; Y-N = b .Y-N; u≤y = b .u≤y; X-N = b .X-N; Y-M = b .Y-M; Z-M = b .Z-M; Z-N = b .Z-N }
+
+  -- row 0 is framed by x1 and y1, U is d times a unit, and the pairs are those of q, changed
+  pub based-framed : {q : reduced.Pair} {d x1 y1 B : List ℕ} → BasedAt meaning q d x1 y1 B → Framed (setting A) (polyOf A x1) (polyOf A y1) (basisOf A B)
+  based-framed b = record { M-a = ((b .kM, b .kM-poly), P-path (reading p (A .prime) .𝓥) (b .M-a)); N-a = ((b .kN, b .kN-poly), P-path (reading p (A .prime) .𝓥) (b .N-a)) }
+
+  pub based-U : {q : reduced.Pair} {d x1 y1 B : List ℕ} → BasedAt meaning q d x1 y1 B
+      → (c : P (setting A)) × IsUnit (reading p (A .prime) .𝓥) c × (polyOf A (part 6 B) ≡ polys (reading p (A .prime) .𝓥) .ops .mul c (polyOf A d))
+  based-U b =
+      let v = reading p (A .prime) .𝓥 in
+      ((v .const (b .ν), v .const-poly (b .ν)), const-unit v _ (b .ν, b .ν-unit, v .const-lead (b .ν)), P-path v (b .U-eq))
+
+  pub based-changed : {q : reduced.Pair} {d x1 y1 B : List ℕ} → BasedAt meaning q d x1 y1 B
+      → Changed (reading p (A .prime) .𝓥) (record { b = polyOf A (q .mb); c = polyOf A (q .mc) }) (record { b = polyOf A (q .nb); c = polyOf A (q .nc) }) (pair (setting A) (basisOf A B .M)) (pair (setting A) (basisOf A B .N))
+  based-changed b = changed-of (reading p (A .prime)) _ _ _ _ (b .moved)
+
+  module _ (B : List ℕ) (h : Based fieldFrame units unit nothing nothing B) where
+    b : BasedAt meaning units unit nothing nothing B
+    b = h .meant meaning
+
+    -- U is a constant that leads with 1
+    U-const : at meaning 6 B ≡ reading p (A .prime) .𝓥 .const (b .ν)
+    U-const = b .U-eq ∙ ap (λ z. reading p (A .prime) .𝓥 .L .ops .mul (reading p (A .prime) .𝓥 .const (b .ν)) z) (unit-is (reading p (A .prime))) ∙ reading p (A .prime) .𝓥 .L .laws .mul-one _
+
+    ν-one : b .ν ≡ reading p (A .prime) .𝓥 .K .ops .𝟏
+    ν-one =
+        let v = reading p (A .prime) .𝓥 in
+        let hν : v .Lead (at meaning 6 B) 0 0 (b .ν) = lead-eq v (v .const-lead (b .ν)) (sym U-const) refl in
+        let e : b .u ≡ 0 = same v (v .K .ops .𝟏, v .one≢zero, b .U-lead) (b .ν, b .ν-unit, hν) in
+        v .lead-unique hν (v .lead-move 0 0 (b .U-lead) (omega arith))
+
+    U-one : polyOf A (part 6 B) ≡ polys (reading p (A .prime) .𝓥) .ops .𝟏
+    U-one = P-path (reading p (A .prime) .𝓥) (U-const ∙ ap (reading p (A .prime) .𝓥 .const) ν-one ∙ reading p (A .prime) .const-one)
+
+    changed : let P = polys (reading p (A .prime) .𝓥) .ops in Changed (reading p (A .prime) .𝓥) (record { b = P .𝟏; c = P .𝟎 }) (record { b = P .𝟎; c = P .𝟏 }) (pair (setting A) (basisOf A B .M)) (pair (setting A) (basisOf A B .N))
+    changed =
+        let ρ = reading p (A .prime) in
+        changed-of ρ _ _ _ _
+        (subst (λ z. Moved ρ (record { b = ρ .𝓥 .L .ops .𝟏; c = ρ .𝓥 .L .ops .𝟎 }) z (Mpt meaning B) (Npt meaning B)) (ap₂ (λ x y. record { b = x; c = y }) (nothing-is ρ) (unit-is ρ))
+        (subst (λ z. Moved ρ z (pt meaning nothing unit) (Mpt meaning B) (Npt meaning B)) (ap₂ (λ x y. record { b = x; c = y }) (unit-is ρ) (nothing-is ρ)) (b .moved)))
+
+    pub order-start : Start (setting A) (basisOf A B)
+    order-start = order-correct (setting A) (basisOf A B) U-one changed (based-ends b)

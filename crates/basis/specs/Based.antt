@@ -1,0 +1,78 @@
+-- The scaled basis that the reduction of two elements over a denominator gives, as a record.
+--   BasisIn F q top d x1 y1   two elements within the bounds of the reduction, the denominator d, and the polynomials x1, y1: the element
+--                             of the lattice over b r + c w has the first coordinate −(b x1 + c y1) modulo d
+--   M, N, U of a record B     its rows, as series
+--   BasedAt                   the inequalities of a reduced basis, in numbers; the scaling; M and N span what q does; row 0 is as above
+--   Based                     the same at each meaning of the series
+use mathlib.Core.Path.{_≡_}
+use mathlib.Core.Logic.{_≢_}
+use mathlib.Core.List.{List}
+use Prim.Native.Nat.{ℕ, suc, _+_, _%_, _<_, _≤_}
+use lib.ListN.{length, getD}
+use Rattle.ring.specs.Ring.{Ops, CRing}
+use Rattle.valued.specs.Val.{Valued}
+use Rattle.reading.specs.Reading.{Reading}
+use Rattle.reading.specs.Row.{Size}
+use Rattle.turn.specs.Points.{Pt, Moved}
+use Rattle.record.specs.Record.{part}
+use Rattle.reduce.specs.Frame.{Frame, Meaning, Short, rd, Ser, rowμ, pt, X, Y, Ltμ}
+use Rattle.reduce.specs.Clear.{ClearIn}
+use Rattle.reduce.specs.declared.Pair.{Pair}
+use Rattle.basis.specs.Place.{off}
+
+pub record BasisIn (F : Frame) (q : Pair) (top : ℕ) (d x1 y1 : List ℕ) : Type 0 where
+  pub small : F .p ≤ 65535
+  pub odd : F .p % 2 ≡ 1
+  pub fits : top ≤ 17
+  pub hd : Short (F .p) d 17
+  pub h1 : Short (F .p) x1 (suc (F .dr))
+  pub h2 : Short (F .p) y1 (suc (F .dw))
+  pub u : ℕ
+  pub d-size : Size d (suc u)
+  pub clear : ClearIn F q top (suc u)
+
+module _ {F : Frame} (μ : Meaning F) where
+  -- 2a − b r − c w
+  abbrev pub Z : Ser μ → Ser μ → Ser μ → Ser μ
+  Z a b c = let o = rd μ .𝓥 .L .ops in o .add (o .add (o .mul (o .add (o .𝟏) (o .𝟏)) a) (o .neg (o .mul b (μ .r)))) (o .neg (o .mul c (μ .w)))
+
+  abbrev pub at : ℕ → List ℕ → Ser μ
+  at i B = rowμ μ (part i B)
+
+  -- the pairs of M and of N
+  abbrev pub Mpt : List ℕ → Pt (Ser μ)
+  Mpt B = record { b = at 1 B; c = at 2 B }
+
+  abbrev pub Npt : List ℕ → Pt (Ser μ)
+  Npt B = record { b = at 4 B; c = at 5 B }
+
+pub record BasedAt {F : Frame} (μ : Meaning F) (q : Pair) (d x1 y1 B : List ℕ) : Type 0 where
+  -- u = deg U, x = deg X(M), y = deg Y(N)
+  pub u : ℕ
+  pub x : ℕ
+  pub y : ℕ
+  pub U-lead : rd μ .𝓥 .Lead (at μ 6 B) u 0 (rd μ .𝓥 .K .ops .𝟏)
+  pub X-M : rd μ .𝓥 .Lead (X μ (Mpt μ B)) x 0 (rd μ .𝓥 .K .ops .add (rd μ .𝓥 .K .ops .𝟏) (rd μ .𝓥 .K .ops .𝟏))
+  pub Y-N : rd μ .𝓥 .Lead (Y μ (Npt μ B)) y 0 (rd μ .𝓥 .K .ops .𝟏)
+  pub u≤y : u ≤ y
+  pub X-N : Ltμ μ (X μ (Npt μ B)) x
+  pub Y-M : Ltμ μ (Y μ (Mpt μ B)) u
+  pub Z-M : Ltμ μ (Z μ (at μ 0 B) (at μ 1 B) (at μ 2 B)) u
+  pub Z-N : Ltμ μ (Z μ (at μ 3 B) (at μ 4 B) (at μ 5 B)) u
+  -- row 0
+  pub kM : Ser μ
+  pub kN : Ser μ
+  pub kM-poly : rd μ .𝓥 .IsPoly kM
+  pub kN-poly : rd μ .𝓥 .IsPoly kN
+  pub M-a : off (rd μ .𝓥 .L .ops) (rowμ μ x1) (rowμ μ y1) (at μ 0 B) (at μ 1 B) (at μ 2 B) ≡ rd μ .𝓥 .L .ops .mul (at μ 6 B) kM
+  pub N-a : off (rd μ .𝓥 .L .ops) (rowμ μ x1) (rowμ μ y1) (at μ 3 B) (at μ 4 B) (at μ 5 B) ≡ rd μ .𝓥 .L .ops .mul (at μ 6 B) kN
+  -- the denominator, and the span
+  pub ν : rd μ .𝓥 .K .El
+  pub ν-unit : ν ≢ rd μ .𝓥 .K .ops .𝟎
+  pub U-eq : at μ 6 B ≡ rd μ .𝓥 .L .ops .mul (rd μ .𝓥 .const ν) (rowμ μ d)
+  pub moved : Moved (rd μ) (pt μ (q .mb) (q .mc)) (pt μ (q .nb) (q .nc)) (Mpt μ B) (Npt μ B)
+
+pub record Based (F : Frame) (q : Pair) (d x1 y1 B : List ℕ) : Type 0 where
+  pub size : length B ≡ 119
+  pub each : (k : ℕ) → getD B k 0 < F .p
+  pub meant : (μ : Meaning F) → BasedAt μ q d x1 y1 B

@@ -1,0 +1,31 @@
+-- Rows in the record of 119 numbers.
+--   Stored B i a B′   B′ is B with row i taken from a
+--   Loaded B i r      r is row i of B, with zeros up to 32
+-- `part` is the i-th row (crate record). The laws are in proofs/Store.antt.
+use mathlib.Core.Path.{_≡_}
+use mathlib.Core.Logic.{_⊎_}
+use mathlib.Core.List.{List}
+use Prim.Native.Nat.{ℕ, _+_, _*_, _<_, _≤_}
+use lib.ListN.{length, getD}
+use Rattle.fp.specs.Fp.{Prime}
+use Rattle.reading.specs.Made.{reading}
+use Rattle.reading.specs.Row.{row, Row}
+use Rattle.record.specs.Record.{part}
+
+pub record StoreIn (i : ℕ) (a : List ℕ) : Type 0 where
+  pub row : i < 7
+  pub each : (j : ℕ) → getD a j 0 < 65536
+
+pub record Stored (B : List ℕ) (i : ℕ) (a B′ : List ℕ) : Type 0 where
+  pub size : length B′ ≡ 119
+  pub here : (j : ℕ) → j < 17 → getD B′ (17 * i + j) 0 ≡ getD a j 0
+  pub there : (k : ℕ) → (k < 17 * i) ⊎ (17 * i + 17 ≤ k) → getD B′ k 0 ≡ getD B k 0
+
+pub record LoadIn (B : List ℕ) (i : ℕ) : Type 0 where
+  pub size : length B ≡ 119
+  pub row : i < 7
+
+pub record Loaded (B : List ℕ) (i : ℕ) (r : List ℕ) : Type 0 where
+  pub is-row : (p : ℕ) → ((k : ℕ) → getD B k 0 < p) → Row p r
+  pub above : (j : ℕ) → 17 ≤ j → getD r j 0 ≡ 0
+  pub law : (p : ℕ) (pr : Prime p) → row (reading p pr) r ≡ row (reading p pr) (part i B)

@@ -1,0 +1,74 @@
+-- A walk that spent its budget and is taken up again gives what one long walk gives.
+use mathlib.Core.Path.{_≡_, refl, sym, ap, _∙_, subst}
+use mathlib.Core.Logic.{_≢_}
+use mathlib.Core.List.{List}
+use Prim.Native.Nat.{ℕ, zero, suc, _+_, _-_, _≤_, _<_}
+use native.Mathlib.Omega.{arith}
+use native.Mathlib.Decide.{decLe}
+use Rattle.valued.specs.Polynomial.{polys}
+use Rattle.ideals.specs.Setting.{Setting}
+use Rattle.ideals.specs.Ideal.{Basis}
+use Rattle.ideals.specs.Basis.{Good}
+use Rattle.chain.specs.Chain.{Chain, Closing, Open}
+use Rattle.chain.proofs.Walk.{same-chain, chain-then, prefix}
+use Rattle.field.specs.Refusal.{Accepted}
+use Rattle.record.specs.Record.{setting, basisOf, IsRecord}
+use Rattle.walk.specs.declared.Walked.{Walked}
+use Rattle.walk.specs.Walk.{Reaches, Closes, StaysOpen, Closed, Spent}
+
+-- ---- of any chain
+module _ (S : Setting) (B₀ B₁ : Basis S) (good : Good S B₀) {n d : ℕ} (c : Chain S B₀ n d B₁) (open-to : Open S B₀ n) where
+  -- what a chain from B₁ shows of a count i is so of the count n + i from B₀
+  later : (j m e : ℕ) (B : Basis S) → Chain S B₀ j e B → n < j → j ≤ n + m → ((i e′ : ℕ) (B′ : Basis S) → 1 ≤ i → i ≤ m → Chain S B₁ i e′ B′ → B′ .U ≢ polys (S .𝓥) .ops .𝟏)
+      → {k f : ℕ} {B₂ : Basis S} → Chain S B₁ k f B₂ → j ≤ n + k → B .U ≢ polys (S .𝓥) .ops .𝟏
+  later j m e B a l h none b r one =
+      let i : ℕ = j - n in
+      let (e′, B′, b′, q) = prefix S B₁ b i (omega arith) in
+      let (x, y) = same-chain S B₀ good a (chain-then S c b′) (omega arith) in
+      none i e′ B′ (omega arith) (omega arith) b′ (ap (λ z. z .U) (sym y) ∙ one)
+
+  pub open-then : {m f : ℕ} {B₂ : Basis S} → Chain S B₁ m f B₂ → Open S B₁ m → Open S B₀ (n + m)
+  open-then {m} b o j e B l h a = go (decLe j n)
+    where
+      go : Dec (j ≤ n) → B .U ≢ polys (S .𝓥) .ops .𝟏
+      go (yes k) = open-to j e B l k a
+      go (no k) = later j m e B a (omega arith) h (λ i e′ B′ u v w. o i e′ B′ u v w) b h
+
+  pub closing-then : {s f : ℕ} {B₂ : Basis S} → Closing S B₁ s f B₂ → Closing S B₀ (n + s) (d + f) B₂
+  closing-then {s} {f} {B₂} k = record {
+    chain = chain-then S c (k .chain);
+    some = (let p : 1 ≤ s = k .some in omega arith);
+    closed = k .closed;
+    none = λ j e B l h a. go j e B l h a (decLe j n);
+  }
+    where
+      go : (j e : ℕ) (B : Basis S) → 1 ≤ j → j < n + s → Chain S B₀ j e B → Dec (j ≤ n) → B .U ≢ polys (S .𝓥) .ops .𝟏
+      go j e B l h a (yes q) = open-to j e B l q a
+      go j e B l h a (no q) =
+          let p : 1 ≤ s = k .some in
+          later j (s - 1) e B a (omega arith) (omega arith) (λ i e′ B′ u v w. k .none i e′ B′ u (omega arith) w) (k .chain) (omega arith)
+
+-- ---- of records
+module _ (p : ℕ) (G H : List ℕ) (n m : ℕ) (B : List ℕ) (is : IsRecord p G H B) (v : Walked) (first : Spent p G H n B v) where
+  -- taken up and closed: steps and degrees add up
+  pub closed-later : (w : Walked) → Closed p G H m (v .basis) w → Closed p G H (n + m) B (record { refusal = 0; steps = n + w .steps; sum = v .sum + w .sum; basis = w .basis })
+  closed-later w k = record {
+    within = (let l : w .steps ≤ m = k .within in omega arith);
+    number = refl;
+    closes = record {
+      is-record = k .closes .is-record;
+      closing = λ A. closing-then (setting A) (basisOf A B) (basisOf A (v .basis)) (is .good A) (first .reaches .chain A) (first .none A) (k .closes .closing A);
+    };
+  }
+
+  -- taken up and spent again
+  pub spent-later : (w : Walked) → Spent p G H m (v .basis) w → Spent p G H (n + m) B (record { refusal = 10; steps = n + m; sum = v .sum + w .sum; basis = w .basis })
+  spent-later w k = record {
+    number = refl;
+    all = refl;
+    none = λ A. open-then (setting A) (basisOf A B) (basisOf A (v .basis)) (is .good A) (first .reaches .chain A) (first .none A) (k .reaches .chain A) (k .none A);
+    reaches = record {
+      is-record = k .reaches .is-record;
+      chain = λ A. chain-then (setting A) (first .reaches .chain A) (k .reaches .chain A);
+    };
+  }
