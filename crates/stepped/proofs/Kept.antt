@@ -13,7 +13,7 @@ use Rattle.reading.specs.Row.{Row, Reads, row, tab}
 use Rattle.reading.proofs.Tab.{tab-row}
 use Rattle.reading.proofs.Rows.{row-tab, row-upto}
 use Rattle.field.specs.Refusal.{Degree, Accepted}
-use Rattle.field.specs.Opening.{pad} 
+use Rattle.field.specs.Opening.{pad}
 use Rattle.field.specs.Opening as F
 use Rattle.record.specs.Record.{setting, IsRecord}
 use Rattle.series.specs.Answer.{Prefix}

@@ -1,5 +1,6 @@
 // The step from a record of an opened field. specs/Answer.antt has the contracts.
-use step::{advanced, Advance};
+use step::Advance;
+use step::advanced;
 ghost use Rattle.stepped.specs.Answer.{NextIn, NextOut};
 
 // The number of the refusal, the degree of the m divided by and the next record; with a refusal the others are 0.
