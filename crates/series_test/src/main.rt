@@ -134,32 +134,6 @@ fn field_6() {
     );
 }
 
-// 260 coefficients over 34019.
-fn field_7() {
-    let mut r = [9u16; 260];
-    let mut w = [9u16; 260];
-    show(
-        34019,
-        &[2787u64, 27708, 33299, 19314, 16062, 26814],
-        &[
-            18620u64,
-            9223,
-            6023,
-            21954,
-            28013,
-            1715,
-            8268,
-            26395,
-            31542,
-            18936,
-            3335,
-            767,
-        ],
-        &mut r,
-        &mut w,
-    );
-}
-
 // Lists of unequal length.
 fn uneven() {
     let mut r = [9u16; 3];
@@ -189,7 +163,6 @@ fn main() {
     field_4();
     field_5();
     field_6();
-    field_7();
     uneven();
     wrong_prime();
     square_factor();
