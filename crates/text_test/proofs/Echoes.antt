@@ -1,12 +1,12 @@
 -- The lemmas of the test program's loops.
 use mathlib.Core.Path.{_≡_, refl, sym, ap, _∙_, subst}
 use mathlib.Core.List.{List, [], _∷_, _++_, append-assoc, append-nil}
-use Prim.Native.Nat.{ℕ, zero, suc, _+_, _-_, _≤_, _<_}
+use Prim.Native.Nat.{ℕ, suc, _+_, _-_, _≤_, _<_}
 use native.Mathlib.Numerals.{add-one}
 use native.Mathlib.Omega.{arith}
 use lib.ListN.{length, getD, take, drop}
 use lib.Seq.{take-suc, take-all, take-add, take-at}
-use Rattle.text.specs.Grammar.{semicolon, newline, Reads}
+use Rattle.text.specs.Grammar.{semicolon, newline}
 use Rattle.text.specs.Print.{Put, number-text, refused-text}
 use Rattle.text.specs.Lines.{Line}
 use Rattle.text.specs.Feed.{Fed, start, next-piece, Answered, no-line, Output, Served, end-text}

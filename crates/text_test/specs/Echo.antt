@@ -4,7 +4,6 @@
 --   Echo line t        t answers the line: its numbers where it reads, else refused 12
 --   Stepped, Through   a step through a piece, and the whole piece
 --   Ran input d r d'   the output to the whole input is put at the start of d: no word of the pieces
-use mathlib.Core.Path.{_≡_}
 use mathlib.Core.List.{List, [], _∷_, _++_}
 use Prim.Native.Nat.{ℕ, _≤_, _<_}
 use lib.ListN.{length}

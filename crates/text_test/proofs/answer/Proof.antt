@@ -2,7 +2,7 @@
 use mathlib.Core.Path.{subst}
 use lib.Dec.{lit≤}
 use Rattle.text.specs.Print.{refused-text}
-use Rattle.text.specs.Tells.{ReadAs, ParseTells}
+use Rattle.text.specs.Tells.{ParseTells}
 use Rattle.text.proofs.Answers.{malformed-means}
 use Rattle.text_test.specs.Echo.{echo-text, read, refused}
 use Rattle.text_test.proofs.Echoes.{front-words, echo-put}
