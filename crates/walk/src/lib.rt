@@ -1,7 +1,9 @@
 // The walk along the chain of minima, from a record or from the order.
 use basis::load;
 use poly::size;
+use step::advanced;
 ghost use Rattle.walk.specs.Closed.{ClosedIn, OnePart};
+ghost use Rattle.walk.specs.Going.{GoIn, Gone};
 
 // A period counts steps.
 pub struct Period(pub u64);
@@ -31,4 +33,49 @@ fn is_closed(p: u64, b: &[u16; 119]) -> bool
         return false;
     }
     false
+}
+
+// At most `budget` steps from a record; what a field keeps from step to step is lent.
+pub fn go(
+    p: u64,
+    g: &[u64; 32],
+    h: &[u64; 32],
+    gh: &[u64; 32],
+    n: usize,
+    dr: usize,
+    dw: usize,
+    r: &[u64; 32],
+    w: &[u64; 32],
+    from: [u16; 119],
+    budget: u64,
+) -> Walked
+    requires { ⌜ GoIn p (now g) (now h) (now gh) n dr dw (now r) (now w) from budget ⌝ }
+    ensures { λ o. ⌜ Gone p (now (g .entry)) (now (h .entry)) (now (gh .entry)) n dr dw (now (r .entry)) (now (w .entry)) from budget o ⌝ }
+{
+    let mut b = from;
+    let mut steps: u64 = 0;
+    let mut sum: u64 = 0;
+    while steps < budget {
+        let o = advanced(p, g, h, gh, n, dr, dw, r, w, &b);
+        let d = o.degree;
+        let c = o.basis;
+        sum += d;
+        steps += 1;
+        b = c;
+        let done = is_closed(p, &b);
+        if done {
+            return Walked {
+                refusal: 0,
+                steps: steps,
+                sum: sum,
+                basis: b,
+            };
+        }
+    }
+    Walked {
+        refusal: 10,
+        steps: steps,
+        sum: sum,
+        basis: b,
+    }
 }
