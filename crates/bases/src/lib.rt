@@ -1,0 +1,46 @@
+// The public functions of bases. specs/Answer.antt has their contracts.
+ghost use Rattle.opened.specs.Known.{Known};
+ghost use Rattle.bases.specs.Answer.{First, Orders};
+
+// The number of the refusal beside the basis; with a refusal the rows are zeros.
+pub struct Ordered {
+    pub refusal: u32,
+    pub basis: [u16; 119],
+}
+
+// The basis of the order of an opened field.
+pub fn first(c: series::Cubic) -> [u16; 119]
+    requires { ⌜ Known c ⌝ }
+    ensures { λ b. ⌜ First c b ⌝ }
+{
+    let f = c.field;
+    let r = c.r;
+    let w = c.w;
+    let b = reduce::Bounds {
+        p: f.p,
+        dr: f.dr,
+        dw: f.dw,
+        top: f.dr + f.dw + 1,
+    };
+    basis::order(b, &r, &w)
+}
+
+// The basis of the order of the field p, G, H.
+pub fn order(p: u64, g: &[u64], h: &[u64]) -> Ordered
+    ensures { λ o. ⌜ Orders p (now (g .entry)) (now (h .entry)) o ⌝ }
+{
+    let e = series::open_with_series(p, g, h);
+    let n = e.refusal;
+    if n != 0 {
+        let z: [u16; 119] = [0; 119];
+        return Ordered {
+            refusal: n,
+            basis: z,
+        };
+    }
+    let b = first(e.cubic);
+    Ordered {
+        refusal: 0,
+        basis: b,
+    }
+}
