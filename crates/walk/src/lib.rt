@@ -5,12 +5,6 @@ use step::advanced;
 ghost use Rattle.walk.specs.Closed.{ClosedIn, OnePart};
 ghost use Rattle.walk.specs.Going.{GoIn, Gone};
 
-// A period counts steps.
-pub struct Period(pub u64);
-
-// A regulator counts half degrees.
-pub struct Regulator(pub u64);
-
 // What a walk answers: the refusal's number (0: closed), the steps taken, the sum of the degrees passed, the last basis.
 pub struct Walked {
     pub refusal: u32,

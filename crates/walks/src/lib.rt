@@ -1,6 +1,9 @@
 // The public walks: from a record, and from the order. specs/ has their contracts.
-use walk::{Period, Regulator, Walked};
-ghost use Rattle.walks.specs.Order.{WalkedIn, WalkedOut, FromOrder};
+use counts::Period;
+use counts::Regulator;
+use walk::Walked;
+ghost use mathlib.Core.Path.{_≡_};
+ghost use Rattle.walks.specs.Order.{WalkedIn, WalkedOut, FromOrder, refusal};
 
 // The number of the refusal; 0 and the period and regulator of the field where the walk from the order closes.
 pub struct Told {
