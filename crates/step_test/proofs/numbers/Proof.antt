@@ -10,6 +10,7 @@ Inv-loop s i₀ i = i ≤ length s
 
 abbrev μ-loop : tie.MeasureT-loop
 μ-loop s i₀ i = length s - i
+
 loop-holds : tie.Need-loop-holds Inv-loop μ-loop
 loop-holds c = search needs
 
@@ -60,4 +61,3 @@ numbers-spec =
     slice-aggregate-write-all
     write-all-requires
     returns)
-
