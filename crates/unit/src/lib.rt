@@ -1,6 +1,6 @@
 // The unit and its inverse: what `unit` answers. specs/Unit.antt says what the answer and the two lent slices are.
-use walk::Period;
-use walk::Regulator;
+use counts::Period;
+use counts::Regulator;
 
 // The refusal's number (0: made), the period and the regulator.
 pub struct Made {
