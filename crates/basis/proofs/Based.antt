@@ -1,14 +1,14 @@
 -- What `reduced_basis` asks of its callees, and what it makes.
 use mathlib.Core.Path.{_≡_, refl, sym, ap, ap₂, _∙_, subst}
-use mathlib.Core.Logic.{_≢_, _⊎_, inl, inr}
+use mathlib.Core.Logic.{_≢_, inl}
 use mathlib.Core.Bool.{true, false}
 use mathlib.Core.List.{List, [], _∷_}
-use Prim.Native.Nat.{ℕ, zero, suc, _+_, _-_, _*_, _%_, _<_, _≤_}
+use Prim.Native.Nat.{ℕ, zero, suc, _+_, _-_, _<_, _≤_}
 use native.Mathlib.Omega.{arith}
-use lib.ListN.{length, getD, replicate}
+use lib.ListN.{getD, replicate}
 use Rattle.ring.proofs.Laws as rg
 use Rattle.ring.specs.Ring.{Ops, CRing}
-use Rattle.ring.proofs.Solve.{var, one, zer, minus, _:+_, _:*_, hyp, solve, solve-by}
+use Rattle.ring.proofs.Solve.{var, one, minus, _:+_, _:*_, hyp, solve, solve-by}
 use Rattle.fp.specs.Fp.{Prime}
 use Rattle.valued.specs.Val.{Valued}
 use Rattle.valued.specs.Degree.{Has, Lt}
@@ -16,7 +16,7 @@ use Rattle.valued.proofs.Degree.{lead-eq, lt-eq, lt-add, lt-neg, lt-up, above, 
 use Rattle.reading.specs.Reading.{Reading}
 use Rattle.reading.specs.Made.{reading}
 use Rattle.reading.specs.Row.{Row, Size, row}
-use Rattle.reading.proofs.Rows.{size-lt, size-le, size-has, size-lead}
+use Rattle.reading.proofs.Rows.{size-lt, size-le, size-lead}
 use Rattle.reading.proofs.Floors.{sized, floor-lt, floor-top}
 use Rattle.reading.proofs.Turn.{lead-scale, lt-scale}
 use Rattle.turn.specs.Points.{Pt, Moved}
@@ -35,11 +35,11 @@ use Rattle.reduce.proofs.Laid.{zeros-at}
 use Rattle.reduce.proofs.Clearing.{part-in, rows-of}
 use Rattle.basis.specs.Store.{StoreIn, Stored}
 use Rattle.basis.specs.Levels.{Monic}
-use Rattle.basis.specs.Place.{off, PlaceIn, PlacedAt, Placed}
+use Rattle.basis.specs.Place.{PlaceIn, PlacedAt, Placed}
 use Rattle.basis.specs.Scales.{ScalesIn, Scaling}
 use Rattle.basis.specs.Based.{BasisIn, BasedAt, Based, Z, at, Mpt, Npt}
 use Rattle.basis.proofs.Store.{stored-part, stored-other, stored-each}
-use Rattle.basis.proofs.Place.{size-below, short-lt, row-short, scaled-short}
+use Rattle.basis.proofs.Place.{scaled-short}
 
 pub short-up : {p : ℕ} {l : List ℕ} {m n : ℕ} → Short p l m → m ≤ n → Short p l n
 short-up h u = record { is-row = h .is-row; above = λ i w. h .above i (omega arith) }

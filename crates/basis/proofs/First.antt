@@ -2,19 +2,18 @@
 --   unit-is, nothing-is   the polynomials of the two rows
 --   order-in              what `order` asks of its callee
 --   order-start           the theorem
-use mathlib.Core.Path.{_≡_, refl, sym, ap, ap₂, _∙_, subst}
-use mathlib.Core.Logic.{_≢_}
+use mathlib.Core.Path.{_≡_, refl, sym, ap, ap₂, _∙_}
 use mathlib.Core.List.{List, [], _∷_}
 use Prim.Native.Nat.{ℕ, zero, suc, _+_, _-_, _<_, _≤_}
 use native.Mathlib.Omega.{arith}
-use lib.ListN.{getD, set, replicate}
+use lib.ListN.{getD}
 use Rattle.ring.specs.Ring.{Ops, CRing}
 use Rattle.ring.proofs.Solve.{var, one, zer, minus, _:+_, _:*_, solve}
 use Rattle.valued.specs.Val.{Valued}
 use Rattle.valued.specs.Degree.{Has, Lt}
 use Rattle.valued.proofs.Degree.{has-eq, has-up, has-mul, has-neg, has-move}
 use Rattle.reading.specs.Reading.{Reading}
-use Rattle.reading.specs.Row.{Row, Size, row, psum, tpow, coefs}
+use Rattle.reading.specs.Row.{Row, Size, row, psum, tpow}
 use Rattle.reading.proofs.Rows.{row-cut}
 use Rattle.turn.specs.Points.{Pt}
 use Rattle.reduce.specs.Frame.{Frame, Meaning, Short, rd, Ser, pt, X, Y, D, Hasμ}
@@ -57,9 +56,6 @@ module _ {F : Frame} {top : ℕ} (i : OrderIn F top) where
 
   nothing-short : (n : ℕ) → Short (F .p) nothing n
   nothing-short n = record { is-row = zeros-row (F .p) (let b : 1 < F .p = pos in omega arith); above = λ j u. zeros-at 32 j }
-
-  σ : Meaning F
-  σ = i .some
 
   at-m : pt (i .some) unit nothing ≡ record { b = rd (i .some) .𝓥 .L .ops .𝟏; c = rd (i .some) .𝓥 .L .ops .𝟎 }
   at-m = ap₂ (λ x y. record { b = x; c = y }) (unit-is (rd (i .some))) (nothing-is (rd (i .some)))

@@ -1,14 +1,14 @@
 -- What `level` makes: half of t less the remainder of t + 2e by u.
-use mathlib.Core.Path.{_≡_, refl, sym, ap, ap₂, _∙_}
+use mathlib.Core.Path.{_≡_, sym, ap, ap₂, _∙_}
 use mathlib.Core.List.{List, [], _∷_}
-use Prim.Native.Nat.{ℕ, zero, suc, _<_, _≤_, _%_, _/_}
+use Prim.Native.Nat.{ℕ, _<_, _≤_, _%_, _/_}
 use Prim.Native.Nat as N
 use native.Mathlib.Nat.{mod-self, mod-eq-of-lt}
 use native.Mathlib.Omega.{arith}
-use lib.ListN.{length, getD}
+use lib.ListN.{length}
 use Rattle.ring.proofs.Laws as r
 use Rattle.ring.specs.Ring.{Ops, CRing}
-use Rattle.ring.proofs.Solve.{var, one, zer, minus, _:+_, _:*_, hyp, solve, solve-by}
+use Rattle.ring.proofs.Solve.{var, one, minus, _:+_, _:*_, hyp, solve, solve-by}
 use Rattle.fp.specs.Fp.{Prime}
 use Rattle.valued.specs.Val.{Valued}
 use Rattle.valued.specs.Degree.{Has, Lt}

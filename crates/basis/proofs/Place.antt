@@ -1,17 +1,16 @@
 -- What `placed` asks of its callees, and what it makes.
 --   row-short, size-below    a bound of the degree, or of the row, bounds the length
-use mathlib.Core.Path.{_≡_, refl, sym, ap, ap₂, _∙_, subst}
+use mathlib.Core.Path.{_≡_, sym, ap, ap₂, _∙_}
 use mathlib.Core.Logic.{_⊎_, inl, inr}
-use mathlib.Core.List.{List, [], _∷_}
-use Prim.Native.Nat.{ℕ, zero, suc, _+_, _-_, _<_, _≤_}
+use mathlib.Core.List.{List}
+use Prim.Native.Nat.{ℕ, suc, _+_, _-_, _<_, _≤_}
 use native.Mathlib.Omega.{arith}
 use native.Mathlib.Decide.{decLt}
-use lib.ListN.{length, getD}
+use lib.ListN.{getD}
 use Rattle.ring.specs.Ring.{Ops, CRing}
-use Rattle.ring.proofs.Solve.{var, one, zer, minus, _:+_, _:*_, hyp, solve, solve-by}
 use Rattle.valued.specs.Val.{Valued}
 use Rattle.valued.specs.Degree.{Has, Lt}
-use Rattle.valued.proofs.Degree.{lt-eq, lt-add, lt-neg, lt-up}
+use Rattle.valued.proofs.Degree.{lt-eq, lt-up}
 use Rattle.reading.specs.Reading.{Reading}
 use Rattle.reading.specs.Made.{reading}
 use Rattle.reading.specs.Row.{Row, Size, row}
@@ -23,7 +22,7 @@ use Rattle.record.specs.Record.{part}
 use Rattle.reduce.specs.Frame.{Short}
 use Rattle.basis.specs.Store.{StoreIn, Stored}
 use Rattle.basis.specs.Levels.{LevelIn, Leveled}
-use Rattle.basis.specs.Place.{off, PlaceIn, PlacedAt, Placed}
+use Rattle.basis.specs.Place.{PlaceIn, PlacedAt, Placed}
 use Rattle.basis.proofs.Store.{stored-part, stored-other, stored-each}
 
 pub size-below : {p : ℕ} {l : List ℕ} {m n : ℕ} → Short p l n → Size l m → m ≤ n

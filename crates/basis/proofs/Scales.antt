@@ -1,12 +1,12 @@
 -- One inversion for three: with i = 1/(abc), j = i c is 1/(ab), so j b = 1/a, 2 j a = 2/b and i ab = 1/c.
 use mathlib.Core.Path.{_≡_, refl, sym, ap, ap₂, _∙_}
 use mathlib.Core.List.{List, [], _∷_}
-use Prim.Native.Nat.{ℕ, zero, suc, _<_, _≤_, _%_}
+use Prim.Native.Nat.{ℕ, zero, suc, _<_, _%_}
 use Prim.Native.Nat as N
 use native.Mathlib.Nat.{mod-lt}
 use native.Mathlib.Omega.{arith}
 use Rattle.ring.specs.Ring.{Ops, CRing}
-use Rattle.ring.proofs.Solve.{var, one, zer, minus, _:+_, _:*_, hyp, solve, solve-by}
+use Rattle.ring.proofs.Solve.{var, one, _:+_, _:*_, solve}
 use Rattle.fp.specs.Fp.{Prime}
 use Rattle.valued.specs.Val.{Valued}
 use Rattle.valued.proofs.Degree.{k-domain}

@@ -14,17 +14,17 @@ use Rattle.valued.proofs.Degree.{lead-eq, same}
 use Rattle.valued.proofs.Polynomial.{P-path, const-unit}
 use Rattle.reading.specs.Reading.{Reading}
 use Rattle.reading.specs.Made.{reading}
-use Rattle.reading.specs.Row.{row, Reads}
+use Rattle.reading.specs.Row.{Reads}
 use Rattle.turn.specs.Points.{Pt, Moved}
 use Rattle.field.specs.Refusal.{Accepted}
 use Rattle.ideals.specs.Setting.{Setting, P}
 use Rattle.ideals.specs.Next.{Start}
 use Rattle.chain.proofs.Changed.{Pair, Changed}
 use Rattle.chain.proofs.Frame.{pair, Framed}
-use Rattle.chain.proofs.Moved.{point-of, changed-of}
+use Rattle.chain.proofs.Moved.{changed-of}
 use Rattle.chain.proofs.Correct.{Ends, order-correct}
 use Rattle.record.specs.Record.{part, setting, polyOf, basisOf}
-use Rattle.reduce.specs.Frame.{Frame, frame, Meaning, rd, rowμ, pt}
+use Rattle.reduce.specs.Frame.{Frame, frame, Meaning, pt}
 use Rattle.reduce.specs.declared.Pair as reduced
 use Rattle.basis.specs.Based.{BasedAt, Based, Mpt, Npt, at}
 use Rattle.basis.specs.First.{unit, nothing, units}

@@ -4,7 +4,7 @@
 use mathlib.Core.Path.{_≡_, refl, sym, ap, _∙_}
 use mathlib.Core.Logic.{_⊎_, inl, inr}
 use mathlib.Core.List.{List}
-use Prim.Native.Nat.{ℕ, zero, suc, _+_, _*_, _-_, _<_, _≤_}
+use Prim.Native.Nat.{ℕ, _+_, _*_, _-_, _<_, _≤_}
 use native.Mathlib.Omega.{arith}
 use native.Mathlib.Decide.{decLt, ℕ-discrete}
 use lib.ListN.{length, getD, set, length-set, replicate, List·getD-eq-default}
@@ -12,7 +12,7 @@ use lib.Seq.{getD-set-same, getD-set-other, ext-getD}
 use Rattle.fp.specs.Fp.{Prime}
 use Rattle.reading.specs.Reading.{Reading}
 use Rattle.reading.specs.Made.{reading}
-use Rattle.reading.specs.Row.{tab, Row, row, psum, coefs}
+use Rattle.reading.specs.Row.{Row, row, coefs}
 use Rattle.reading.proofs.Tab.{length-tab, at-tab}
 use Rattle.reading.proofs.Rows.{row-upto, row-tab, psum-ext}
 use Rattle.reduce.proofs.Laid.{zeros-at}

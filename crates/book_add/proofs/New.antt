@@ -1,4 +1,4 @@
--- The new book: its bytes are the writing of the old value with the body last, and it is accepted.
+-- The new book: its bytes are the writing of the old value with the body last.
 use mathlib.Core.Path.{_≡_, refl, sym, ap, ap₂, _∙_}
 use mathlib.Core.List.{List, [], _∷_, _++_, append-assoc, append-nil}
 use Prim.Native.Nat.{ℕ, zero, suc, _+_, _-_, _*_, _<_, _≤_}

@@ -7,7 +7,7 @@
 --   AddTells d n b x d' adding b to the book of length n in the slice d, which is d' then, says x: 14 when the length exceeds the
 --                       slice; 13 for the book; 13 for the body, with the old count as its entry; 15; 11 when there is too little room
 --                       in the slice or in 65,536 bytes; else the new length, and only the book's new extent is changed
--- In proofs/: One (`add-one`, x and d' are settled by d, n and b) and New (`added-accepted`, the new book is accepted).
+-- That x and d' are settled by d, n and b is `add-one`, in proofs/One.antt.
 use mathlib.Core.Path.{_≡_}
 use mathlib.Core.Logic.{_⊎_}
 use mathlib.Core.List.{List, [], _∷_, _++_}

@@ -1,3 +1,4 @@
 pub mod Facts
 pub mod Field
 pub mod Body
+pub mod One

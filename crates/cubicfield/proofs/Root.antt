@@ -3,6 +3,7 @@
 --   leadR               the cube root of the leading coefficient of D = G H²
 --   root-r, root-w      the two series; they stay shut
 --   root-pair           r² = H w, r w = G H, and r has degree degR and leads with leadR
+--   root-only           no other two series obey the two laws
 --   setting             the field as the theory of ideals takes it
 use mathlib.Core.Path.{_≡_, refl, sym, ap, ap₂, _∙_}
 use mathlib.Core.Logic.{_≢_}
@@ -27,6 +28,7 @@ use Rattle.field.specs.Refusal.{Degree, Accepted}
 use Rattle.field.proofs.Accept.{degree-size, degree-has}
 use Rattle.reading.proofs.Rows.{size-lead}
 use Rattle.ideals.specs.Setting.{Setting}
+use Rattle.ideals.proofs.Roots.{roots-unique}
 use Rattle.cubicfield.specs.Pair.{RootPair}
 use Rattle.cubicfield.proofs.Pair.{three, w-has, pair-from}
 use Rattle.cubicfield.proofs.Near.{Sizes}
@@ -155,3 +157,7 @@ module _ {p : ℕ} {G H : List ℕ} (A : Accepted p G H) (pr : Prime p) where
     r-r = root-pair .r-r;
     r-w = root-pair .r-w;
   }
+
+  -- there is no other pair: any two series with a degree that obey the two laws are these
+  pub root-only : (n : ℕ) (r w : L .El) → Has 𝓥 r n → r *ˡ r ≡ row ρ H *ˡ w → r *ˡ w ≡ row ρ G *ˡ row ρ H → (r ≡ root-r) × (w ≡ root-w)
+  root-only n r w = roots-unique setting {n = n} r w

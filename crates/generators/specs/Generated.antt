@@ -1,7 +1,6 @@
--- The generators of the next ideal (MATH.md 4.1): from the seven rows of a good basis, x1, y1, the pairs (−y2, x2)/g, (y0, −x0)/g and
+-- The generators of the next ideal: from the seven rows of a good basis, x1, y1, the pairs (−y2, x2)/g, (y0, −x0)/g and
 -- their denominator d/g.
---   Given σ ..       the rows hold the field and a good basis of it; ie is 1/lead(e) = −lead(GH)
---   GeneratorsIn     there are G, H and their series for which it is so
+--   GeneratorsIn     the rows hold the field of some G, H and a good basis of it; ie = −lead(GH) is the inverse of the leading coefficient of e
 --   Generated σ b o  o holds the parts of r m and w m and the pairs without their common factor (crate chain)
 use mathlib.Core.Path.{_≡_}
 use mathlib.Core.List.{List}

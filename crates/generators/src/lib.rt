@@ -83,8 +83,8 @@ fn cut(p: u64, x0: &[u64; 32], x2: &[u64; 32], y0: &[u64; 32], y2: &[u64; 32]) -
 {
     let k = content(p, x0, x2, y0, y2);
     let f = det(p, x2, y0, x0, y2);
-    let n = poly::size(&k);
-    if n == 1 {
+    let m = poly::size(&k);
+    if m == 1 {
         let a0 = *x0;
         let a2 = *x2;
         let b0 = *y0;
@@ -98,7 +98,7 @@ fn cut(p: u64, x0: &[u64; 32], x2: &[u64; 32], y0: &[u64; 32], y2: &[u64; 32]) -
             cut: 0,
         }
     } else {
-        let l = k[n - 1];
+        let l = k[m - 1];
         let il = residue::inverse(p, l);
         let a0 = poly::exact(p, x0, &k, il);
         let a2 = poly::exact(p, x2, &k, il);
@@ -111,7 +111,7 @@ fn cut(p: u64, x0: &[u64; 32], x2: &[u64; 32], y0: &[u64; 32], y2: &[u64; 32]) -
             b0,
             b2,
             d,
-            cut: n - 1,
+            cut: m - 1,
         }
     }
 }

@@ -136,6 +136,7 @@ scaled p s d₀ d i g h l =
     let e : d ≡ tab (length d₀) f = filled-end (length d₀) f d i h l in
     let pos : 0 < p = let b : 1 < p = g .modulus .big in omega arith in record {
       size = h .size;
+      at = λ k u. h .done k (omega arith);
       each = below p (length d₀) f d pos (λ k. mod-lt (N._*_ (getD d₀ k 0) s) pos) e;
       law = λ pr. ap (row (reading p pr)) e ∙ scale-law (reading p pr) s d₀;
     }

@@ -89,6 +89,7 @@ pub record ScaleIn (p s : ℕ) : Type 0 where
 
 pub record Scaled (p s : ℕ) (d d′ : List ℕ) : Type 0 where
   pub size : length d′ ≡ length d
+  pub at : (i : ℕ) → i < length d → getD d′ i 0 ≡ (getD d i 0 * s) % p
   pub each : (i : ℕ) → getD d′ i 0 < p
   pub law : (pr : Prime p) → let ρ = reading p pr in row ρ d′ ≡ ρ .𝓥 .L .ops .mul (ρ .𝓥 .const (ρ .cast s)) (row ρ d)
 

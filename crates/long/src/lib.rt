@@ -4,7 +4,22 @@
 ghost use mathlib.Core.Path.{_≡_};
 ghost use Prim.Native.Nat.{_+_, _*_, _-_, _%_, _<_, _≤_};
 ghost use lib.ListN.{length, getD, replicate};
+ghost use Rattle.reading.specs.Row.{Size};
 ghost use Rattle.long.specs.Long.{SumIn, SumAt, DigitIn, Digit, QuotientIn, Quotient, MixIn, Mixed, ScaleIn, Scaled, Stored};
+
+// The length without the zeros at the end.
+pub fn size(x: &[u16]) -> usize
+    ensures { λ r. ⌜ Size (now (x .entry)) r ⌝ }
+{
+    let mut m = x.len();
+    while m > 0 {
+        if x[m - 1] != 0 {
+            return m;
+        }
+        m -= 1;
+    }
+    m
+}
 
 // The first n terms of coefficient k of x y.
 fn sum_at(x: &[u16], n: usize, y: &[u16], k: usize) -> u64

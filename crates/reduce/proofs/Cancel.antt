@@ -2,9 +2,9 @@
 --   shift-above     where t^k z lies below j, a row for z moved up by k is 0 from j on
 --   led-none, led-top    the leading coefficient of a size
 --   cancel-b, cancel-c, cancel-part, cancel-below, cancel-made    what `canceled` asks of its callees, and what it makes
-use mathlib.Core.Path.{_≡_, refl, sym, ap, ap₂, _∙_, subst}
+use mathlib.Core.Path.{_≡_, refl, sym, _∙_, subst}
 use mathlib.Core.Logic.{_≢_}
-use mathlib.Core.Bool.{Bool, true, false}
+use mathlib.Core.Bool.{Bool}
 use mathlib.Core.List.{List, [], _∷_}
 use Prim.Native.Nat.{ℕ, zero, suc, _+_, _-_, _<_, _≤_}
 use native.Mathlib.Omega.{arith}
@@ -22,7 +22,7 @@ use Rattle.reading.proofs.Rows.{tpow-lead, size-has}
 use Rattle.reading.proofs.Floors.{sized, floor-lt, floor-le, floor-top}
 use Rattle.turn.specs.Points.{Pt, Turned}
 use Rattle.turn.proofs.Turn.{turned-side, b-lt, c-lt}
-use Rattle.reduce.specs.Frame.{Frame, Fine, Meaning, Point, point, Short, Held, rd, Ser, pt, X, Y, side, Ltμ, shift, rowμ}
+use Rattle.reduce.specs.Frame.{Frame, Fine, Meaning, Point, Short, Held, rd, Ser, pt, X, Y, side, Ltμ, shift, rowμ}
 use Rattle.poly.specs.Leaf.{Cut}
 use Rattle.reduce.specs.Leaves.{CrossIn, Crossed, PartIn, Parted, Led}
 use Rattle.reduce.specs.Clear.{Rows, Room, RoomAt, CancelIn, CancelOut}
@@ -41,9 +41,6 @@ module _ {p : ℕ} (ρ : Reading p) where
           shift-high l k i (omega arith) ∙ s .above (i - k) (omega arith)
 
 module _ {F : Frame} {e : Bool} {ab ac bb bc : List ℕ} {s c k top l : ℕ} (i : CancelIn F e ab ac bb bc s c k top l) where
-  μ : Meaning F
-  μ = i .some
-
   moved-up : Pt (Ser (i .some))
   moved-up = record { b = shift (i .some) k (rowμ (i .some) bb); c = shift (i .some) k (rowμ (i .some) bc) }
 

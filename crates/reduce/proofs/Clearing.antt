@@ -1,11 +1,10 @@
 -- The first loop of the reduction: a turn cancels the leading term of the longer Y. Its bounds, that the lengths fall, and that no
 -- number rises past the determinant. Symmetric branches share one lemma through `clear-swap`.
 --   clear-start, clear-swap, clear-in (a callee's demand), clear-less, clear-turn, clear-end
-use mathlib.Core.Path.{_≡_, refl, sym, ap, ap₂, _∙_, subst}
-use mathlib.Core.Logic.{_≢_}
-use mathlib.Core.Bool.{Bool, true, false}
-use mathlib.Core.List.{List, [], _∷_}
-use Prim.Native.Nat.{ℕ, zero, suc, _+_, _-_, _<_, _≤_, max}
+use mathlib.Core.Path.{_≡_, sym}
+use mathlib.Core.Bool.{Bool, true}
+use mathlib.Core.List.{List}
+use Prim.Native.Nat.{ℕ, suc, _+_, _-_, _<_, _≤_, max}
 use native.Mathlib.Omega.{arith}
 use lib.ListN.{getD}
 use Rattle.valued.specs.Val.{Valued}

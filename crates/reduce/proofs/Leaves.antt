@@ -14,14 +14,14 @@ use native.Mathlib.Decide.{decLt}
 use lib.ListN.{length, getD}
 use Rattle.ring.proofs.Laws as r
 use Rattle.ring.specs.Ring.{Ops, CRing}
-use Rattle.ring.proofs.Solve.{var, one, zer, minus, _:+_, _:*_, _:-_, solve}
+use Rattle.ring.proofs.Solve.{var, one, zer, minus, _:+_, _:*_, solve}
 use Rattle.fp.specs.Fp.{Prime}
 use Rattle.valued.specs.Val.{Valued}
 use Rattle.valued.specs.Degree.{Lt}
 use Rattle.valued.proofs.Degree.{lead-eq, lt-eq, lt-add, lt-neg}
 use Rattle.reading.specs.Reading.{Reading}
 use Rattle.reading.specs.Made.{reading}
-use Rattle.reading.specs.Row.{Row, tab, shiftAt, fallAt, tpow, psum, coefs, row, Floor, Reads}
+use Rattle.reading.specs.Row.{Row, shiftAt, fallAt, tpow, psum, coefs, row, Floor, Reads}
 use Rattle.reading.proofs.Rows.{const-zero, const-neg, cast-sub, psum-ext, psum-cross, psum-plus, row-32, row-upto, row-tab, shift-law}
 use Rattle.reading.proofs.Tab.{shift-high}
 use Rattle.reading.proofs.Floors.{fall-in, fall-out}

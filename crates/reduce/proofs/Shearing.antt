@@ -1,13 +1,12 @@
 -- The second loop of the reduction: m stays, n loses leading terms of X, and Y(n) keeps its degree.
 --   shear-in (from the end of the first loop), shear-start, shear-pos, shear-turn-in (a callee's demand), shear-less, shear-turn, shear-end
 --   reduced-end     both loops
-use mathlib.Core.Path.{_≡_, refl, sym, ap, ap₂, _∙_, subst}
-use mathlib.Core.Logic.{_≢_, _⊎_, inl, inr}
-use mathlib.Core.Bool.{Bool, true, false}
+use mathlib.Core.Path.{_≡_, refl, sym, subst}
+use mathlib.Core.Logic.{_⊎_, inl, inr}
+use mathlib.Core.Bool.{Bool, false}
 use mathlib.Core.List.{List}
-use Prim.Native.Nat.{ℕ, zero, suc, _+_, _-_, _<_, _≤_}
+use Prim.Native.Nat.{ℕ, suc, _+_, _-_, _<_, _≤_}
 use native.Mathlib.Omega.{arith}
-use native.Mathlib.Decide.{decLt}
 use lib.ListN.{getD}
 use Rattle.valued.specs.Val.{Valued}
 use Rattle.valued.specs.Degree.{Has}

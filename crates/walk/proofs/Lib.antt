@@ -1,2 +1,4 @@
 pub mod Walk
 pub mod TakenUp
+pub mod One
+pub mod Going

@@ -1,6 +1,5 @@
 -- `basis::load` meets its contract: `Loading`, j numbers are read.
-use mathlib.Core.Path.{_≡_}
-use Prim.Native.Nat.{ℕ, _+_, _*_, _-_, _<_, _≤_}
+use Prim.Native.Nat.{ℕ, _-_, _<_}
 use native.Mathlib.Omega.{arith}
 use Rattle.basis.proofs.Store.{Loading, loading-start, loading-more, loading-end}
 use borrow.Author.Needs.{needs}

@@ -1,5 +1,4 @@
 -- `basis::reduced_basis` meets its contract: the lemmas of Based.
-use native.Mathlib.Omega.{arith}
 use Rattle.basis.proofs.Based.{based-lu, based-clear, based-scales, based-u, place-m, place-n, place-u, based}
 use borrow.Author.Needs.{needs}
 use Rattle.basis.proofs.reduced_basis.Statement.{statement}

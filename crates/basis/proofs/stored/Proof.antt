@@ -1,6 +1,5 @@
 -- `basis::stored` meets its contract: `Storing`, j numbers are written.
-use mathlib.Core.Path.{_≡_}
-use Prim.Native.Nat.{ℕ, _+_, _*_, _-_, _<_, _≤_}
+use Prim.Native.Nat.{ℕ, _-_, _<_}
 use native.Mathlib.Omega.{arith}
 use Rattle.basis.proofs.Store.{Storing, storing-start, storing-more, storing-end}
 use borrow.Author.Needs.{needs}

@@ -1,6 +1,5 @@
 -- `reduce::canceled` meets its contract: the lemmas of Cancel.
 use Rattle.reduce.proofs.Cancel.{cancel-b, cancel-c, cancel-part, cancel-below, cancel-made}
-use borrow.Author.Needs.{needs}
 use Rattle.reduce.proofs.canceled.Statement.{statement}
 use Rattle.reduce.proofs.canceled.Tie as tie
 

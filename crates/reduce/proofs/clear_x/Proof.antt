@@ -1,13 +1,11 @@
 -- `reduce::clear_x` meets its contract: each turn is `shear-turn`; the length of X(n) falls.
-use mathlib.Core.Path.{_≡_}
-use Prim.Native.Nat.{ℕ, suc, _+_, _-_, _≤_, _<_}
+use Prim.Native.Nat.{ℕ, _≤_, _<_}
 use native.Mathlib.Omega.{arith}
 use Rattle.reduce.specs.Frame.{point}
 use Rattle.reduce.specs.Given.{given}
 use Rattle.reduce.specs.Clear.{Shearing}
 use Rattle.reduce.proofs.Clearing.{part-in, part-below}
 use Rattle.reduce.proofs.Shearing.{shear-start, shear-pos, shear-turn-in, shear-less, shear-turn, shear-end}
-use borrow.Author.Needs.{needs}
 use Rattle.reduce.proofs.clear_x.Statement.{statement}
 use Rattle.reduce.proofs.clear_x.Tie as tie
 

@@ -1,12 +1,11 @@
 -- `reduce::clear_y` meets its contract: each turn is `clear-turn` (of the swapped state where n is turned); y1 + y2 falls.
 use mathlib.Core.Path.{_≡_}
-use Prim.Native.Nat.{ℕ, suc, _+_, _-_, _≤_, _<_}
+use Prim.Native.Nat.{ℕ, suc, _+_, _≤_, _<_}
 use native.Mathlib.Omega.{arith}
 use Rattle.reduce.specs.Frame.{point}
 use Rattle.reduce.specs.Given.{given}
 use Rattle.reduce.specs.Clear.{Clearing}
 use Rattle.reduce.proofs.Clearing.{part-in, part-below, clear-start, clear-swap, clear-in, clear-less, clear-turn, clear-end}
-use borrow.Author.Needs.{needs}
 use Rattle.reduce.proofs.clear_y.Statement.{statement}
 use Rattle.reduce.proofs.clear_y.Tie as tie
 

@@ -1,6 +1,6 @@
 -- `reduce::cross` meets its contract: a row laid from the front.
-use mathlib.Core.Path.{_≡_, ap, _∙_}
-use Prim.Native.Nat.{ℕ, _+_, _*_, _-_, _≤_, _<_}
+use mathlib.Core.Path.{ap, _∙_}
+use Prim.Native.Nat.{ℕ, _*_, _-_, _≤_, _<_}
 use native.Mathlib.Nat.{mul-le-mul, mod-lt}
 use native.Mathlib.Omega.{arith}
 use lib.ListN.{getD}
@@ -12,7 +12,6 @@ use Rattle.reading.specs.Row.{shiftAt, coefs}
 use Rattle.reading.proofs.Tab.{shift-small}
 use Rattle.reduce.proofs.Laid.{Laid, laid-start, laid-more}
 use Rattle.reduce.proofs.Leaves.{cross-class, crossed}
-use borrow.Author.Needs.{needs}
 use Rattle.reduce.proofs.cross.Statement.{statement}
 use Rattle.reduce.proofs.cross.Tie as tie
 

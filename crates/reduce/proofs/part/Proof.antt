@@ -1,12 +1,11 @@
 -- `reduce::part` meets its contract: a row laid from the front.
-use mathlib.Core.Path.{_≡_, refl}
-use Prim.Native.Nat.{ℕ, _+_, _*_, _-_, _≤_, _<_}
+use mathlib.Core.Path.{refl}
+use Prim.Native.Nat.{ℕ, _*_, _-_, _≤_, _<_}
 use native.Mathlib.Omega.{arith}
 use Rattle.reduce.specs.Given.{given}
 use Rattle.reduce.specs.Leaves.{partAt}
 use Rattle.reduce.proofs.Laid.{Laid, laid-start, laid-more}
 use Rattle.reduce.proofs.Leaves.{square-small, parted}
-use borrow.Author.Needs.{needs}
 use Rattle.reduce.proofs.part.Statement.{statement}
 use Rattle.reduce.proofs.part.Tie as tie
 

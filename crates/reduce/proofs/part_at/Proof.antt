@@ -1,9 +1,8 @@
 -- `reduce::part_at` meets its contract: `part-minus`, `part-plus`.
 use mathlib.Core.Path.{_≡_}
-use Prim.Native.Nat.{ℕ, _+_, _*_, _-_, _≤_, _<_}
+use Prim.Native.Nat.{ℕ, _*_, _≤_, _<_}
 use native.Mathlib.Omega.{arith}
 use Rattle.reduce.proofs.Leaves.{square-small, part-minus, part-plus}
-use borrow.Author.Needs.{needs}
 use Rattle.reduce.proofs.part_at.Statement.{statement}
 use Rattle.reduce.proofs.part_at.Tie as tie
 

@@ -1,8 +1,7 @@
 -- `reduce::plus` meets its contract: a product of two numbers below p is below p p, which is below 2^62.
-use mathlib.Core.Path.{_≡_, refl, sym}
-use Prim.Native.Nat.{ℕ, _+_, _*_, _-_, _<_, _≤_}
+use mathlib.Core.Path.{_≡_, refl}
+use Prim.Native.Nat.{ℕ, _+_, _*_, _<_}
 use native.Mathlib.Omega.{arith}
-use borrow.Author.Needs.{needs}
 use Rattle.reading.specs.Made.{reading}
 use Rattle.reduce.proofs.Leaves.{less-square, square-small, cast-less}
 use Rattle.reduce.proofs.plus.Statement.{statement}

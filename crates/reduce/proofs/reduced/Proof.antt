@@ -1,5 +1,4 @@
 -- `reduce::reduced` meets its contract: `shear-in` between the loops, `reduced-end` after them.
-use borrow.Author.Needs.{needs}
 use Rattle.reduce.proofs.Shearing.{shear-in, reduced-end}
 use Rattle.reduce.proofs.reduced.Statement.{statement}
 use Rattle.reduce.proofs.reduced.Tie as tie

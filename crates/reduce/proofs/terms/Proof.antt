@@ -1,6 +1,5 @@
 -- `reduce::terms` meets its contract: `Run`, the first i terms are summed.
-use mathlib.Core.Path.{_≡_}
-use Prim.Native.Nat.{ℕ, _+_, _-_, _≤_, _<_}
+use Prim.Native.Nat.{ℕ, _+_, _-_, _≤_}
 use native.Mathlib.Omega.{arith}
 use Rattle.reduce.proofs.Leaves.{Run, run-start, run-in, run-more, run-end}
 use borrow.Author.Needs.{needs}

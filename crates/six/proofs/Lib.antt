@@ -1,0 +1,6 @@
+pub mod Parts
+pub mod Rows
+pub mod Multiply
+pub mod InPlace
+pub mod Cofactors
+pub mod Inverting

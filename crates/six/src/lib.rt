@@ -1,0 +1,240 @@
+// The six rows of a unit and its inverse, in one lent slice: E0, E1, E2, F0, F1, F2 of c coefficients each.
+use long::clear;
+use long::copy;
+use long::mix;
+use long::quotient;
+use long::scale;
+use long::size;
+use residue::inverse;
+ghost use mathlib.Core.Path.{_≡_};
+ghost use Rattle.six.specs.Six.{ByIn, By, CoordinateIn, Coordinate, TimesIn, Times, TurnIn, Turn, MonicIn, MonicMade};
+ghost use Rattle.six.specs.Inverse.{PairIn, Pair, CofactorIn, Cofactor, NormIn, Norm, InvertIn, Inverted};
+ghost use lib.ListN.{length, replicate};
+
+// x y, for two short ones
+fn by(p: u64, x: &[u16], y: &[u16]) -> [u16; 50]
+    requires { ⌜ ByIn p (now x) (now y) ⌝ }
+    ensures { λ r. ⌜ By p (now (x .entry)) (now (y .entry)) r ⌝ }
+{
+    let z: [u16; 1] = [0; 1];
+    let mut d: [u16; 50] = [0; 50];
+    mix(p, x, y, &z, &z, &mut d);
+    d
+}
+
+// (a E0 + b E1 + d E2) / u, n coefficients of it, into s from at on; e holds the E rows.
+fn coordinate(
+    p: u64,
+    c: usize,
+    n: usize,
+    a: &[u16],
+    b: &[u16],
+    d: &[u16],
+    u: &[u16],
+    e: &[u16],
+    at: usize,
+    s: &mut [u16],
+)
+    requires { ⌜ CoordinateIn p c n (now a) (now b) (now d) (now u) (now e) at (now s) ⌝ }
+    ensures { λ _. ⌜ Coordinate p c n (now (a .entry)) (now (b .entry)) (now (d .entry)) (now (u .entry)) (now (e .entry)) at (now (s .entry)) (now (s .exit)) ⌝ }
+{
+    let la = size(a);
+    let lb = size(b);
+    let ld = size(d);
+    let lu = size(u);
+    let z: usize = 0;
+    let c2 = c + c;
+    let c3 = c2 + c;
+    let to = at + n;
+    quotient(
+        p,
+        &a[z..la],
+        &e[z..c],
+        &b[z..lb],
+        &e[c..c2],
+        &d[z..ld],
+        &e[c2..c3],
+        &u[z..lu],
+        &mut s[at..to],
+    );
+}
+
+// E times m, n coefficients of each row, into the blank s. b is the basis record of m; gh is G H.
+fn times(
+    p: u64,
+    c: usize,
+    n: usize,
+    g: &[u16],
+    h: &[u16],
+    gh: &[u16],
+    b: &[u16],
+    e: &[u16],
+    s: &mut [u16],
+)
+    requires { ⌜ TimesIn p c n (now g) (now h) (now gh) (now b) (now e) (now s) ⌝ }
+    ensures { λ _. ⌜ Times p c n (now (g .entry)) (now (h .entry)) (now (gh .entry)) (now (b .entry)) (now (e .entry)) (now (s .entry)) (now (s .exit)) ⌝ }
+{
+    let i0: usize = 0;
+    let i1: usize = 17;
+    let i2: usize = 34;
+    let i3: usize = 51;
+    let i6: usize = 102;
+    let i7: usize = 119;
+    let m0 = &b[i0..i1];
+    let m1 = &b[i1..i2];
+    let m2 = &b[i2..i3];
+    let u = &b[i6..i7];
+    let m1gh = by(p, m1, gh);
+    let m2gh = by(p, m2, gh);
+    let m2g = by(p, m2, g);
+    let m1h = by(p, m1, h);
+    coordinate(p, c, n, m0, &m2gh, &m1gh, u, e, 0, s);
+    coordinate(p, c, n, m1, m0, &m2g, u, e, c, s);
+    coordinate(p, c, n, m2, &m1h, m0, u, e, c + c, s);
+}
+
+// E times m in place; the scratch is blank before and after.
+pub fn turn(
+    p: u64,
+    c: usize,
+    n: usize,
+    g: &[u16],
+    h: &[u16],
+    gh: &[u16],
+    b: &[u16],
+    rows: &mut [u16],
+    s: &mut [u16],
+)
+    requires { ⌜ TurnIn p c n (now g) (now h) (now gh) (now b) (now rows) (now s) ⌝ }
+    ensures { λ _. ⌜ Turn p c n (now (g .entry)) (now (h .entry)) (now (gh .entry)) (now (b .entry)) (now (rows .entry)) (now (s .entry)) (now (rows .exit)) (now (s .exit)) ⌝ }
+{
+    times(p, c, n, g, h, gh, b, rows, s);
+    let z: usize = 0;
+    let to = c + c + c;
+    copy(&s[z..to], &mut rows[z..to]);
+    clear(s);
+}
+
+fn wide(x: u16) -> u64
+    ensures { λ r. ⌜ r ≡ x ⌝ }
+{
+    x as u64
+}
+
+// E scaled so that E0, of n coefficients, is monic.
+pub fn monic(p: u64, c: usize, n: usize, rows: &mut [u16])
+    requires { ⌜ MonicIn p c n (now rows) ⌝ }
+    ensures { λ _. ⌜ MonicMade p c n (now (rows .entry)) (now (rows .exit)) ⌝ }
+{
+    let q = inverse(p, wide(rows[n - 1]));
+    let z: usize = 0;
+    let to = c + c + c;
+    scale(p, q, &mut rows[z..to]);
+}
+
+// The low k coefficients of the products of the rows at x and y and of those at v and w, one after the other.
+fn pair(
+    p: u64,
+    c: usize,
+    k: usize,
+    x: usize,
+    y: usize,
+    v: usize,
+    w: usize,
+    rows: &[u16],
+    s: &mut [u16],
+)
+    requires { ⌜ PairIn p c k x y v w (now rows) (now s) ⌝ }
+    ensures { λ _. ⌜ Pair p c k x y v w (now (rows .entry)) (now (s .entry)) (now (s .exit)) ⌝ }
+{
+    let o: [u16; 1] = [0; 1];
+    let z: usize = 0;
+    let x2 = x + c;
+    let y2 = y + c;
+    let v2 = v + c;
+    let w2 = w + c;
+    let k2 = k + k;
+    mix(p, &rows[x..x2], &rows[y..y2], &o, &o, &mut s[z..k]);
+    mix(p, &rows[v..v2], &rows[w..w2], &o, &o, &mut s[k..k2]);
+}
+
+// The low k coefficients of g x y + f v w, into the row at place at.
+fn cofactor(
+    p: u64,
+    c: usize,
+    k: usize,
+    x: usize,
+    y: usize,
+    v: usize,
+    w: usize,
+    g: &[u16],
+    f: &[u16],
+    at: usize,
+    rows: &mut [u16],
+    s: &mut [u16],
+)
+    requires { ⌜ CofactorIn p c k x y v w (now g) (now f) at (now rows) (now s) ⌝ }
+    ensures { λ _. ⌜ Cofactor p c k x y v w (now (g .entry)) (now (f .entry)) at (now (rows .entry)) (now (s .entry)) (now (rows .exit)) (now (s .exit)) ⌝ }
+{
+    pair(p, c, k, x, y, v, w, rows, s);
+    let z: usize = 0;
+    let k2 = k + k;
+    let to = at + k;
+    mix(p, g, &s[z..k], f, &s[k..k2], &mut rows[at..to]);
+}
+
+// The constant coefficient of E0 C0 + G H (E1 C2 + E2 C1), where C stands after E.
+fn norm(p: u64, c: usize, gh: &[u16], rows: &[u16]) -> u64
+    requires { ⌜ NormIn p c (now gh) (now rows) ⌝ }
+    ensures { λ r. ⌜ Norm p c (now (gh .entry)) (now (rows .entry)) r ⌝ }
+{
+    let z: usize = 0;
+    let c2 = c + c;
+    let c3 = c2 + c;
+    let c4 = c3 + c;
+    let c5 = c4 + c;
+    let c6 = c5 + c;
+    let mut a: [u16; 1] = [0; 1];
+    mix(
+        p,
+        &rows[c..c2],
+        &rows[c5..c6],
+        &rows[c2..c3],
+        &rows[c4..c5],
+        &mut a,
+    );
+    let mut b: [u16; 1] = [0; 1];
+    mix(p, gh, &a, &rows[z..c], &rows[c3..c4], &mut b);
+    wide(b[0])
+}
+
+// F = cof(E)/N(E) after the rows of E, from the low k coefficients of the cofactor. ngh is - G H. The scratch is blank after.
+pub fn invert(
+    p: u64,
+    c: usize,
+    k: usize,
+    g: &[u16],
+    h: &[u16],
+    gh: &[u16],
+    ngh: &[u16],
+    rows: &mut [u16],
+    s: &mut [u16],
+)
+    requires { ⌜ InvertIn p c k (now g) (now h) (now gh) (now ngh) (now rows) (now s) ⌝ }
+    ensures { λ _. ⌜ Inverted p c (now (g .entry)) (now (h .entry)) (now (rows .entry)) (now (s .entry)) (now (rows .exit)) (now (s .exit)) ⌝ }
+{
+    let one: [u16; 1] = [1; 1];
+    let v = (p - 1) as u16;
+    let less: [u16; 1] = [v; 1];
+    let c2 = c + c;
+    let c3 = c2 + c;
+    let c4 = c3 + c;
+    let c5 = c4 + c;
+    let c6 = c5 + c;
+    cofactor(p, c, k, c, c2, 0, 0, ngh, &one, c3, rows, s);
+    cofactor(p, c, k, c2, c2, 0, c, g, &less, c4, rows, s);
+    cofactor(p, c, k, c, c, 0, c2, h, &less, c5, rows, s);
+    let q = inverse(p, norm(p, c, gh, rows));
+    scale(p, q, &mut rows[c3..c6]);
+    clear(s);
+}

@@ -1,0 +1,3 @@
+pub mod Reduction
+pub mod Made
+pub mod Once

@@ -1,0 +1,64 @@
+// The public walks: from a record, and from the order. specs/ has their contracts.
+use counts::Period;
+use counts::Regulator;
+use walk::Walked;
+ghost use mathlib.Core.Path.{_≡_};
+ghost use Rattle.walks.specs.Order.{WalkedIn, WalkedOut, FromOrder, refusal};
+
+// The number of the refusal; 0 and the period and regulator of the field where the walk from the order closes.
+pub struct Told {
+    pub refusal: u32,
+    pub period: Period,
+    pub regulator: Regulator,
+}
+
+// The walk in an opened field.
+fn walked(c: series::Cubic, b: [u16; 119], budget: u64) -> Walked
+    requires { ⌜ WalkedIn c b budget ⌝ }
+    ensures { λ o. ⌜ WalkedOut c b budget o ⌝ }
+{
+    let f = c.field;
+    let r = c.r;
+    let w = c.w;
+    let g = f.g;
+    let h = f.h;
+    let gh = f.gh;
+    walk::go(f.p, &g, &h, &gh, f.dr + f.dw, f.dr, f.dw, &r, &w, b, budget)
+}
+
+// A refusal of the walk from the order: the other results are 0.
+fn refused(n: u32) -> Told
+    ensures { λ o. ⌜ o ≡ refusal n ⌝ }
+{
+    Told {
+        refusal: n,
+        period: Period(0),
+        regulator: Regulator(0),
+    }
+}
+
+// Period and regulator of the field p, G, H, by a walk of at most `budget` steps from the order.
+pub fn from_order(p: u64, g: &[u64], h: &[u64], budget: u64) -> Told
+    ensures { λ o. ⌜ FromOrder p (now (g .entry)) (now (h .entry)) budget o ⌝ }
+{
+    let e = series::open_with_series(p, g, h);
+    let n = e.refusal;
+    if n != 0 {
+        return refused(n);
+    }
+    if budget > 1000000 {
+        return refused(14);
+    }
+    let c = e.cubic;
+    let b = bases::first(c);
+    let o = walked(c, b, budget);
+    let k = o.refusal;
+    if k != 0 {
+        return refused(10);
+    }
+    Told {
+        refusal: 0,
+        period: Period(o.steps),
+        regulator: Regulator(o.sum / 2),
+    }
+}
