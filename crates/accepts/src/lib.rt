@@ -10,7 +10,7 @@ ghost use mathlib.Core.Path.{_≡_};
 ghost use Prim.Native.Nat.{_+_, _*_, _-_, _%_, _<_, _≤_};
 ghost use Rattle.book_bytes.specs.Decides.{Decides};
 ghost use Rattle.generators.specs.Rows.{seven};
-ghost use Rattle.accepts.specs.Tests.{Below, Narrow, NarrowIn, Ordered, Units, InsideIn, Inside, MemberIn, Member};
+ghost use Rattle.accepts.specs.Tests.{Below, Narrow, NarrowIn, Ordered, Units, Shape, ShapeIn, InsideIn, Inside, MemberIn, Member};
 
 fn wide(x: u16) -> u64
     ensures { λ r. ⌜ r ≡ x ⌝ }
@@ -109,6 +109,34 @@ pub fn units(u: u64, x: u64, y: u64) -> bool
         return false;
     }
     true
+}
+
+// Lengths and leading coefficients of U and of the polynomial parts of X(M), Y(M), X(N), Y(N), Z(M), Z(N).
+pub fn shape(
+    u: &[u64; 32],
+    mx: &[u64; 32],
+    my: &[u64; 32],
+    nx: &[u64; 32],
+    ny: &[u64; 32],
+    zm: &[u64; 32],
+    zn: &[u64; 32],
+) -> bool
+    requires { ⌜ ShapeIn (now u) (now mx) (now my) (now nx) (now ny) (now zm) (now zn) ⌝ }
+    ensures { λ o. ⌜ Decides o (Shape (now (u .entry)) (now (mx .entry)) (now (my .entry)) (now (nx .entry)) (now (ny .entry)) (now (zm .entry)) (now (zn .entry))) ⌝ }
+{
+    let lu = size(u);
+    let lx = size(mx);
+    let ly = size(ny);
+    let ln = size(nx);
+    let lm = size(my);
+    let a = size(zm);
+    let b = size(zn);
+    let ok = ordered(lu, lx, ly, ln, lm, a, b);
+    if ok {
+        units(u[lu - 1], mx[lx - 1], ny[ly - 1])
+    } else {
+        false
+    }
 }
 
 // Whether u divides a - (b m + c n). b and c count modulo u.
