@@ -2,6 +2,9 @@
 mod c {
     extern "C" {
         pub fn zaminuk_refusal(p: u64, g: *const u64, gn: usize, h: *const u64, hn: usize) -> u32;
+        pub fn zaminuk_order_refusal(p: u64, g: *const u64, gn: usize, h: *const u64, hn: usize, budget: u64) -> u32;
+        pub fn zaminuk_period(p: u64, g: *const u64, gn: usize, h: *const u64, hn: usize, budget: u64) -> u64;
+        pub fn zaminuk_regulator(p: u64, g: *const u64, gn: usize, h: *const u64, hn: usize, budget: u64) -> u64;
         pub fn zaminuk_series(
             p: u64,
             g: *const u64,
@@ -26,6 +29,18 @@ pub fn series(p: u64, g: &[u64], h: &[u64], r: &mut [u16], w: &mut [u16]) -> u32
     unsafe {
         c::zaminuk_series(
             p, g.as_ptr(), g.len(), h.as_ptr(), h.len(), r.as_mut_ptr(), r.len(), w.as_mut_ptr(), w.len(),
+        )
+    }
+}
+
+/// The walk of at most `budget` steps from the order: refusal, period, regulator.
+pub fn from_order(p: u64, g: &[u64], h: &[u64], budget: u64) -> (u32, u64, u64) {
+    let (gp, gn, hp, hn) = (g.as_ptr(), g.len(), h.as_ptr(), h.len());
+    unsafe {
+        (
+            c::zaminuk_order_refusal(p, gp, gn, hp, hn, budget),
+            c::zaminuk_period(p, gp, gn, hp, hn, budget),
+            c::zaminuk_regulator(p, gp, gn, hp, hn, budget),
         )
     }
 }

@@ -48,6 +48,34 @@ fn series_case(line: &str) -> Verdict {
     Ok(())
 }
 
+/// A walk from the order; of the record that the line gives too, this interface says nothing yet.
+fn walk_case(line: &str) -> Verdict {
+    let f: Vec<&str> = line.split(';').collect();
+    let (p, g, h, budget) = (f[0].parse().unwrap(), list(f[1]), list(f[2]), f[3].parse().unwrap());
+    let (no, steps, sum): (u32, u64, u64) = (f[4].parse().unwrap(), f[5].parse().unwrap(), f[6].parse().unwrap());
+    let told = api::from_order(p, &g, &h, budget);
+    let right = if no == 0 { (0, steps, sum / 2) } else { (no, 0, 0) };
+    if told != right {
+        return Err(format!("{:?} for {:?}", told, right));
+    }
+    if api::from_order(p, &g, &h, 1000001) != (14, 0, 0) {
+        return Err("a budget of 1,000,001 is not refused 14".into());
+    }
+    Ok(())
+}
+
+/// The example rows of the papers: p;G;H;period;regulator.
+fn period_case(line: &str) -> Verdict {
+    let f: Vec<&str> = line.split(';').collect();
+    let (p, g, h) = (f[0].parse().unwrap(), list(f[1]), list(f[2]));
+    let right = (0, f[3].parse().unwrap(), f[4].parse().unwrap());
+    let told = api::from_order(p, &g, &h, 1000000);
+    if told != right {
+        return Err(format!("{:?} for {:?}", told, right));
+    }
+    Ok(())
+}
+
 fn lines(path: &str, case: fn(&str) -> Verdict) -> (usize, usize) {
     let text = fs::read_to_string(path).expect("a readable file");
     let (mut cases, mut bad) = (0, 0);
@@ -81,6 +109,8 @@ pub fn folder(dir: &str) -> (usize, usize) {
         let kind = name.trim_end_matches(".txt").splitn(2, '-').nth(1).unwrap_or("");
         let (a, b) = match kind {
             "series" => lines(&path, series_case),
+            "walks" => lines(&path, walk_case),
+            "periods" => lines(&path, period_case),
             _ => {
                 println!("{}: not known, skipped", path);
                 (0, 0)
