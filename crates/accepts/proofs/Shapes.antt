@@ -1,10 +1,10 @@
 -- Lengths and leading coefficients of polynomial parts decide the sizes.
 --   too-long, ends-at     a length against a bound
---   shape-of              lengths and leading coefficients, where they are the shape's
+--   shape-from            the shape, where the lengths are in order
 --   numbers-of shape-is   the shape of U and of the polynomial parts is the same as the sizes
 use mathlib.Core.Path.{_≡_, refl, sym, ap, ap₂, _∙_, subst}
 use mathlib.Core.Logic.{_≢_, _⊎_, inl, inr}
-use mathlib.Core.Bool.{true, false}
+use mathlib.Core.Bool.{Bool, true, false}
 use mathlib.Core.List.{List, [], _∷_}
 use Prim.Native.Nat.{ℕ, zero, suc, _+_, _-_, _<_, _≤_}
 use native.Mathlib.Omega.{arith}
@@ -24,6 +24,7 @@ use Rattle.reading.proofs.Floors.{sized, floor-lt, floor-top, floor-has, floor-
 use Rattle.reading.proofs.Unique.{cast-inj}
 use Rattle.poly.specs.Leaf.{Crossed}
 use Rattle.poly.proofs.Leaf.{size-one}
+use Rattle.book_bytes.specs.Decides.{Decides}
 use Rattle.generators.specs.Rows.{Seven}
 use Rattle.reduce.specs.Frame.{Frame, Meaning, Short, rd, Ser, rowμ, pt, X, Y, Ltμ, Hasμ}
 use Rattle.reduce.specs.Leaves.{Parted}
@@ -71,6 +72,14 @@ not-units {u} {mx} {my} {nx} {ny} su sx sy out s = out (record {
   X-two = ap (λ n. getD mx (n - 1) 0) (size-one sx (s .sx)) ∙ s .units .X-two;
   Y-one = ap (λ n. getD ny (n - 1) 0) (size-one sy (s .sy)) ∙ s .units .Y-one;
 })
+
+-- the shape, where the lengths are in order
+pub shape-from : {o : Bool} {u mx my nx ny zm zn : List ℕ} {lu lx ly ln lm a b : ℕ} → Size u lu → Size mx lx → Size ny ly → Size nx ln → Size my lm → Size zm a → Size zn b
+    → Ordered lu lx ly ln lm a b → Decides o (Units (getD u (lu - 1) 0) (getD mx (lx - 1) 0) (getD ny (ly - 1) 0)) → Decides o (Shape u mx my nx ny zm zn)
+shape-from su sx sy sn sm sa sb w t = record {
+  yes! = λ e. record { lu = _; lx = _; ly = _; ln = _; lm = _; a = _; b = _; su = su; sx = sx; sy = sy; sn = sn; sm = sm; sa = sa; sb = sb; ordered = w; units = t .yes! e };
+  no! = λ e s. not-units su sx sy (t .no! e) s;
+}
 
 -- ---- sizes
 module _ {F : Frame} (μ : Meaning F) {top : ℕ} {b : Seven} {mx my nx ny zm zn : List ℕ} (i : ShapedIn F top b)

@@ -47,4 +47,4 @@ returns-2 : tie.Need-returns-2 Inv-loop μ-loop
 returns-2 c = answer-yes (below-end _ (c .before .before .args .t2) (c .before .loop .i) (c .before .loop .inv .2) (c .before .loop .inv .1) (omega arith))
 
 pub below-spec : {M : Type 1} → statement M
-below-spec = tie.close (tie.spec  Inv-loop μ-loop loop-holds mul-wide array-read-wide wide-requires returns add-i loop-less loop-again returns-2)
+below-spec = tie.close (tie.spec Inv-loop μ-loop loop-holds mul-wide array-read-wide wide-requires returns add-i loop-less loop-again returns-2)
