@@ -1,2 +1,3 @@
 pub mod Norms
+pub mod Bodies
 pub mod One
