@@ -1,6 +1,6 @@
 -- `book_attest::constant_norm` meets its contract.
-use mathlib.Core.Path.{_≡_, refl, sym, ap, _∙_}
-use native.Mathlib.Omega.{arith}
+use Rattle.book_bytes.proofs.Tests.{answer-yes, answer-no}
+use Rattle.book_attest.proofs.Bodies.{attested-yes, attested-no}
 use borrow.Author.Needs.{needs}
 use Rattle.book_attest.proofs.constant_norm.Statement.{statement}
 use Rattle.book_attest.proofs.constant_norm.Tie as tie
@@ -18,7 +18,10 @@ size-requires : tie.Need-size-requires
 size-requires c κs = search needs
 
 returns : tie.Need-returns
-returns c = ?
+returns c = answer-no (attested-no _ _ _ _ (c .before .before .before .before .before .before .before .pre) (c .before .before .before .before .body-norm .ensures) (c .before .size .ensures) (c .if1 .taken))
+
+returns-2 : tie.Need-returns-2
+returns-2 c = answer-yes (attested-yes _ _ _ _ (c .before .before .before .before .body-norm .ensures) (c .before .size .ensures) (c .if1 .left))
 
 pub constant-norm-spec : {M : Type 1} → statement M
 constant-norm-spec =
@@ -28,4 +31,5 @@ constant-norm-spec =
     body-norm-requires
     slice-aggregate-size
     size-requires
-    returns)
+    returns
+    returns-2)
