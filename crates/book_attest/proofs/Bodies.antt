@@ -166,9 +166,11 @@ module _ {p : ℕ} (ρ : Reading p) where
 
   pub constant-yes : (l : List ℕ) → ((i : ℕ) → getD l i 0 < p) → Size l 1 → NonZeroConstant ρ (row ρ l)
   unfolding psum tpow
-  constant-yes l h s =
-      (cast (getD l 0 0), (λ e. s .top (omega arith) (ρ .cast-small (getD l 0 0) (h 0) e)),
-      row-cut ρ l 1 s ∙ solve L (zer :+ var 0 :* one) (var 0) tt (const (cast (getD l 0 0)) ∷ []))
+  constant-yes l h s = (
+    cast (getD l 0 0),
+    (λ e. s .top (omega arith) (ρ .cast-small (getD l 0 0) (h 0) e)),
+    row-cut ρ l 1 s ∙ solve L (zer :+ var 0 :* one) (var 0) tt (const (cast (getD l 0 0)) ∷ []),
+  )
 
   pub constant-no : (l : List ℕ) (n : ℕ) → ((i : ℕ) → getD l i 0 < p) → Size l n → n ≢ 1 → NonZeroConstant ρ (row ρ l) → ⊥
   unfolding psum first

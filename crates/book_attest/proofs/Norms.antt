@@ -126,10 +126,16 @@ module _ (p : ℕ) (gh ghh ggh a b c d : List ℕ) (w : TermsIn p gh ghh ggh a b
       → Small p t0 × Small p t1 × Small p t2 × Small p t3 × (length t0 ≡ length d) × (length t1 ≡ length d) × (length t2 ≡ length d) × (length t3 ≡ length d)
   sum-in z0 z1 z2 z3 t0 t1 t2 t3 e0 e1 e2 e3 q0 q1 q2 q3 =
       let s = w .is-a .small in
-      let r : 12327 ≡ length d = sym (w .room) in
-      (small-of p a a a (1 ∷ []) z0 t0 (small-one p (w .big) (s .top)) q0, small-of p b b b ghh z1 t1 (w .is-ghh .small) q1,
-      small-of p c c c ggh z2 t2 (w .is-ggh .small) q2, small-of p a b c gh z3 t3 (w .is-gh .small) q3,
-      q0 .size ∙ e0 ∙ r, q1 .size ∙ e1 ∙ r, q2 .size ∙ e2 ∙ r, q3 .size ∙ e3 ∙ r)
+      let r : 12327 ≡ length d = sym (w .room) in (
+        small-of p a a a (1 ∷ []) z0 t0 (small-one p (w .big) (s .top)) q0,
+        small-of p b b b ghh z1 t1 (w .is-ghh .small) q1,
+        small-of p c c c ggh z2 t2 (w .is-ggh .small) q2,
+        small-of p a b c gh z3 t3 (w .is-gh .small) q3,
+        q0 .size ∙ e0 ∙ r,
+        q1 .size ∙ e1 ∙ r,
+        q2 .size ∙ e2 ∙ r,
+        q3 .size ∙ e3 ∙ r,
+      )
 
 pub terms-in : (p : ℕ) (g h a b c d gh ghh ggh u v w : List ℕ) → NormIn p g h a b c d → Product p g h u gh → Product p h gh v ghh → Product p g gh w ggh
     → length u ≡ 26 → length v ≡ 39 → length w ≡ 39 → TermsIn p gh ghh ggh a b c d

@@ -52,7 +52,7 @@ fn terms(
     requires { ⌜ TermsIn p (now gh) (now ghh) (now ggh) (now a) (now b) (now c) (now out) ⌝ }
     ensures { λ _.
         ⌜ Terms p (now (gh .entry)) (now (ghh .entry)) (now (ggh .entry)) (now (a .entry)) (now (b .entry)) (now (c .entry))
-            (now (out .entry)) (now (out .exit)) ⌝ }
+        (now (out .entry)) (now (out .exit)) ⌝ }
 {
     let one: [u64; 1] = [1];
     let mut t0: [u64; 12327] = [0; 12327];
@@ -71,7 +71,7 @@ fn norm(p: u64, g: &[u64], h: &[u64], a: &[u64], b: &[u64], c: &[u64], out: &mut
     requires { ⌜ NormIn p (now g) (now h) (now a) (now b) (now c) (now out) ⌝ }
     ensures { λ _.
         ⌜ Norm p (now (g .entry)) (now (h .entry)) (now (a .entry)) (now (b .entry)) (now (c .entry)) (now (out .entry))
-            (now (out .exit)) ⌝ }
+        (now (out .exit)) ⌝ }
 {
     let mut gh: [u64; 26] = [0; 26];
     slice_poly::mul(p, g, h, &mut gh);
@@ -124,11 +124,7 @@ pub fn attest(s: &[u8], i: usize) -> Attestation
         book::Request::There => {
             let b = book::part_of(s, i);
             let u = constant_norm(b);
-            if u {
-                Attestation::Yes
-            } else {
-                Attestation::No
-            }
+            if u { Attestation::Yes } else { Attestation::No }
         }
         book::Request::Refused(why) => Attestation::Refused(why),
         book::Request::NoEntry => Attestation::NoEntry,
