@@ -48,12 +48,12 @@ pub fn lead(x: &[u64; 32]) -> u64
 }
 
 // What `rest` needs of p: below lim, one multiplication by m finds a remainder.
-struct Rapid {
-    m: u64,
-    lim: u64,
+pub struct Rapid {
+    pub m: u64,
+    pub lim: u64,
 }
 
-fn rapid_of(p: u64) -> Rapid
+pub fn rapid_of(p: u64) -> Rapid
     requires { ⌜ Modulus p ⌝ }
     ensures { λ s. ⌜ Ready p (s .m) (s .lim) ⌝ }
 {
@@ -69,7 +69,7 @@ fn rapid_of(p: u64) -> Rapid
 }
 
 // x mod p
-fn rest(p: u64, s: Rapid, x: u64) -> u64
+pub fn rest(p: u64, s: Rapid, x: u64) -> u64
     requires { ⌜ RestIn p (s .m) (s .lim) ⌝ }
     ensures { λ r. ⌜ r ≡ x % p ⌝ }
 {
@@ -83,7 +83,7 @@ fn rest(p: u64, s: Rapid, x: u64) -> u64
 }
 
 // v mod p, for v below 2 p
-fn once(p: u64, v: u64) -> u64
+pub fn once(p: u64, v: u64) -> u64
     requires { ⌜ Once p v ⌝ }
     ensures { λ r. ⌜ r ≡ v % p ⌝ }
 {
@@ -226,7 +226,7 @@ fn part(p: u64, x: &[u64; 32], y: &[u64; 32], from: usize, to: usize, k: usize) 
 }
 
 // Coefficient k of x y, from the trimmed lengths n and m.
-fn place(p: u64, q: Rapid, x: &[u64; 32], n: usize, y: &[u64; 32], m: usize, k: usize) -> u64
+pub fn place(p: u64, q: Rapid, x: &[u64; 32], n: usize, y: &[u64; 32], m: usize, k: usize) -> u64
     requires { ⌜ PlaceIn p (q .m) (q .lim) (now x) n (now y) m k ⌝ }
     ensures { λ r. ⌜ r ≡ sumTo (termAt (now (x .entry)) (now (y .entry)) k) n % p ⌝ }
 {
@@ -268,7 +268,7 @@ pub fn from_list(s: &[u64]) -> [u64; 32]
 }
 
 // The coefficient of a / b at k, where q holds those above, up to top.
-fn digit(
+pub fn digit(
     p: u64,
     s: Rapid,
     a: &[u64; 32],

@@ -25,8 +25,7 @@ use Rattle.turn.proofs.Turn.{turned-side, b-lt, c-lt}
 use Rattle.reduce.specs.Frame.{Frame, Fine, Meaning, Point, Short, Held, rd, Ser, pt, X, Y, side, Ltμ, shift, rowμ}
 use Rattle.poly.specs.Leaf.{Cut}
 use Rattle.reduce.specs.Leaves.{CrossIn, Crossed, PartIn, Parted, Led}
-use Rattle.reduce.specs.Clear.{Rows, Room, RoomAt, CancelIn, CancelOut}
-use Rattle.reduce.specs.declared.Turn.{Turn}
+use Rattle.reduce.specs.Clear.{Rows, Room, RoomAt, CancelIn, CancelOut, Turn}
 
 module _ {p : ℕ} (ρ : Reading p) where
   pub shift-above : (l : List ℕ) (k j : ℕ) → Row p l → Lt (ρ .𝓥) (ρ .𝓥 .L .ops .mul (tpow ρ k) (row ρ l)) j → (i : ℕ) → j ≤ i → shiftAt l k i ≡ 0

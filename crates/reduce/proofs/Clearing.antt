@@ -6,7 +6,7 @@ use mathlib.Core.Bool.{Bool, true}
 use mathlib.Core.List.{List}
 use Prim.Native.Nat.{ℕ, suc, _+_, _-_, _<_, _≤_, max}
 use native.Mathlib.Omega.{arith}
-use lib.ListN.{getD}
+use lib.ListN.{getD, replicate}
 use Rattle.valued.specs.Val.{Valued}
 use Rattle.valued.proofs.Degree.{lt-eq, lt-up}
 use Rattle.reading.specs.Reading.{Reading}
@@ -18,13 +18,17 @@ use Rattle.turn.proofs.Turn.{turned-X, turned-Y, moved-start, moved-swap, moved
 use Rattle.reduce.specs.Frame.{Frame, Fine, Meaning, Point, point, Short, Held, rd, pt, X, Y, Ltμ, shift}
 use Rattle.poly.specs.Leaf.{Cut}
 use Rattle.reduce.specs.Leaves.{PartIn, Parted}
-use Rattle.reduce.specs.Clear.{Rows, Room, CancelIn, CancelOut, ClearIn, Clearing, Cleared}
+use Rattle.reduce.specs.Clear.{Rows, Room, CancelIn, CancelOut, ClearIn, Clearing, Cleared, Turn}
+use Rattle.reduce.proofs.Laid.{zeros-row, zeros-at}
 use Rattle.reduce.specs.declared.Pair.{Pair}
-use Rattle.reduce.specs.declared.Turn.{Turn}
 
 -- what `part` asks, and what it gives
 pub part-in : {F : Frame} {top : ℕ} {b c : List ℕ} → Room F top → Rows F top b c → PartIn F b c top
 part-in r h = record { fine = r .fine; hb = h .hb; hc = h .hc; fits = r .fits; low-r = r .low-r; low-w = r .low-w }
+
+-- zeros are a row of any length
+pub blank : {F : Frame} {top : ℕ} → Room F top → Short (F .p) (replicate 32 0) top
+blank {F} r = let b : 1 < F .p = r .fine .modulus .big in record { is-row = zeros-row (F .p) (omega arith); above = λ i u. zeros-at 32 i }
 
 pub part-below : {F : Frame} {e : Bool} {top : ℕ} {b c z : List ℕ} → Room F top → Parted F e b c top z → Cut z top
 part-below r o = record { size = o .short .is-row .size; fits = r .fits; above = o .short .above }

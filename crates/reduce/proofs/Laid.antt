@@ -2,6 +2,8 @@
 --   zeros-row, zeros-size      the row of zeros that such a loop starts from
 --   Laid p n f l i             the invariant: the first i of n places hold the classes f, the rest are 0
 --   laid-start, laid-more, laid-short, laid-row
+--   Swept p n f l₀ l i         the same of a loop that starts from l₀: the rest is as it was
+--   swept-start, swept-more, swept-laid
 use mathlib.Core.Path.{_≡_, refl, sym, ap, _∙_}
 use mathlib.Core.List.{List}
 use Prim.Native.Nat.{ℕ, zero, suc, _+_, _<_, _≤_}
@@ -45,6 +47,12 @@ set-row p l i v h b = record { size = length-set l i v ∙ h .size; each = λ j.
             omega arith
     at j (no e) d = let z : getD (set l i v) j 0 ≡ getD l j 0 = getD-set-other l i j v 0 e in let y : getD l j 0 < p = h .each j in omega arith
 
+-- the classes of the first places, where one more is set
+set-class : {p : ℕ} (pr : Prime p) (f : (pr : Prime p) → ℕ → reading p pr .𝓥 .K .El) (l : List ℕ) (i v j : ℕ) → j < i + 1 → length l ≡ 32 → i < 32 → reading p pr .cast v ≡ f pr i
+    → ((j : ℕ) → j < i → reading p pr .cast (getD l j 0) ≡ f pr j) → Dec (j ≡ i) → reading p pr .cast (getD (set l i v) j 0) ≡ f pr j
+set-class {p} pr f l i v j w s m e h (yes q) = ap (λ k. reading p pr .cast (getD (set l i v) k 0)) q ∙ ap (reading p pr .cast) (getD-set-same l i v 0 (omega arith)) ∙ e ∙ ap (f pr) (sym q)
+set-class {p} pr f l i v j w s m e h (no q) = ap (reading p pr .cast) (getD-set-other l i j v 0 q) ∙ h j (omega arith)
+
 pub record Laid (p n : ℕ) (f : (pr : Prime p) → ℕ → reading p pr .𝓥 .K .El) (l : List ℕ) (i : ℕ) : Type 0 where
   pub is-row : Row p l
   pub upto : i ≤ n
@@ -59,15 +67,9 @@ module _ {p n : ℕ} {f : (pr : Prime p) → ℕ → reading p pr .𝓥 .K .El} 
   laid-more l i v h u m b e = record {
     is-row = set-row p l i v (h .is-row) b;
     upto = omega arith;
-    done = λ pr j w. at pr j w (ℕ-discrete j i);
+    done = λ pr j w. set-class pr f l i v j w (h .is-row .size) (omega arith) (e pr) (h .done pr) (ℕ-discrete j i);
     rest = λ j w. getD-set-other l i j v 0 (λ q. absurd (omega arith)) ∙ h .rest j (omega arith);
   }
-    where
-      at : (pr : Prime p) (j : ℕ) → j < i + 1 → Dec (j ≡ i) → reading p pr .cast (getD (set l i v) j 0) ≡ f pr j
-      at pr j w (yes q) =
-          let s : length l ≡ 32 = h .is-row .size in
-          ap (λ k. reading p pr .cast (getD (set l i v) k 0)) q ∙ ap (reading p pr .cast) (getD-set-same l i v 0 (omega arith)) ∙ e pr ∙ ap (f pr) (sym q)
-      at pr j w (no q) = ap (reading p pr .cast) (getD-set-other l i j v 0 q) ∙ h .done pr j (omega arith)
 
   pub laid-short : {l : List ℕ} {i : ℕ} → Laid p n f l i → n ≤ i → Short p l n
   laid-short {l} {i} h u = record { is-row = h .is-row; above = λ j w. let y : i ≤ n = h .upto in h .rest j (omega arith) }
@@ -78,3 +80,25 @@ module _ {p n : ℕ} {f : (pr : Prime p) → ℕ → reading p pr .𝓥 .K .El} 
       at : (j : ℕ) → Dec (j < i) → reading p pr .cast (getD l j 0) ≡ f pr j
       at j (yes w) = h .done pr j w
       at j (no w) = let y : i ≤ n = h .upto in ap (reading p pr .cast) (h .rest j (omega arith)) ∙ reading p pr .cast-zero ∙ sym (z j (omega arith))
+
+-- ---- in place of a row
+pub record Swept (p n : ℕ) (f : (pr : Prime p) → ℕ → reading p pr .𝓥 .K .El) (l₀ l : List ℕ) (i : ℕ) : Type 0 where
+  pub is-row : Row p l
+  pub upto : i ≤ n
+  pub done : (pr : Prime p) (j : ℕ) → j < i → reading p pr .cast (getD l j 0) ≡ f pr j
+  pub rest : (j : ℕ) → i ≤ j → getD l j 0 ≡ getD l₀ j 0
+
+module _ {p n : ℕ} {f : (pr : Prime p) → ℕ → reading p pr .𝓥 .K .El} {l₀ : List ℕ} where
+  pub swept-start : Row p l₀ → Swept p n f l₀ l₀ 0
+  swept-start h = record { is-row = h; upto = omega arith; done = λ pr j l. absurd (omega arith); rest = λ j l. refl }
+
+  pub swept-more : (l : List ℕ) (i v : ℕ) → Swept p n f l₀ l i → i < n → n ≤ 32 → v < p → ((pr : Prime p) → reading p pr .cast v ≡ f pr i) → Swept p n f l₀ (set l i v) (i + 1)
+  swept-more l i v h u m b e = record {
+    is-row = set-row p l i v (h .is-row) b;
+    upto = omega arith;
+    done = λ pr j w. set-class pr f l i v j w (h .is-row .size) (omega arith) (e pr) (h .done pr) (ℕ-discrete j i);
+    rest = λ j w. getD-set-other l i j v 0 (λ q. absurd (omega arith)) ∙ h .rest j (omega arith);
+  }
+
+  pub swept-laid : {l : List ℕ} {i : ℕ} → Swept p n f l₀ l i → n ≤ i → Short p l₀ n → Laid p n f l i
+  swept-laid {l} {i} h u s = record { is-row = h .is-row; upto = h .upto; done = h .done; rest = λ j w. h .rest j w ∙ s .above j (omega arith) }

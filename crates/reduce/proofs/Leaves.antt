@@ -2,6 +2,7 @@
 --   cross-class, cross-row    one coefficient of s x − c t^k y, and the whole row
 --   square-less, less-square  numbers below p p
 --   along-low, along-high     terms that vanish
+--   heap-start, heap-more, heap-end    the loop of `plain`
 --   part-floor                the sums `along` are the coefficients of the polynomial part of b r ± c w
 use mathlib.Core.Path.{_≡_, refl, sym, ap, ap₂, _∙_, subst}
 use mathlib.Core.Bool.{Bool, true, false}
@@ -28,7 +29,7 @@ use Rattle.reading.proofs.Floors.{fall-in, fall-out}
 use Rattle.reading.proofs.Turn.{comb, lt-scale}
 use Rattle.residue.specs.Residue.{Modulus}
 use Rattle.reduce.specs.Frame.{Frame, Meaning, Short, rd, pt, side}
-use Rattle.reduce.specs.Leaves.{CrossIn, Crossed, SumIn, Summed, TermsIn, Terms, along, PartIn, PartAtIn, PartAt, partAt, signed, Parted}
+use Rattle.reduce.specs.Leaves.{CrossIn, Crossed, SumIn, Summed, TermsIn, PlainIn, Terms, along, PartIn, PartAtIn, PartAt, partAt, signed, Parted}
 use Rattle.reduce.proofs.Laid.{Laid, laid-short, laid-row}
 
 -- ---- numbers
@@ -44,6 +45,9 @@ less-square (suc p) y z hy hz =
 
 pub square-small : (p : ℕ) → Modulus p → N._*_ p p < 4611686018427387904
 square-small p h = let a : p < 2147483648 = h .small in omega (arith, less-square 2147483648 p p a a)
+
+pub square-16 : (p : ℕ) → p < 65536 → N._*_ p p ≤ 4294967296
+square-16 p h = let l : p ≤ 65536 = omega arith in mul-le-mul l l
 
 module _ {p : ℕ} (ρ : Reading p) where
   open Reading ρ using (𝓥, cast)
@@ -66,11 +70,14 @@ module _ {p : ℕ} (ρ : Reading p) where
       let z : s ≡ N._+_ (N._-_ s q) q = omega arith in
       sym (K .laws .add-zero (cast (N._-_ s q))) ∙ ap (λ x. cast (N._-_ s q) +ᵏ x) (sym (ap cast e ∙ cast-square)) ∙ sym (ρ .cast-add (N._-_ s q) q) ∙ ap cast (sym z)
 
-  -- q − y is − y mod p
-  pub cast-from : (q y : ℕ) → q ≡ N._*_ p p → y ≤ q → cast (N._-_ q y) ≡ -ᵏ cast y
+  pub cast-squares : (k q : ℕ) → q ≡ N._*_ p p → cast (N._*_ k q) ≡ 0ᵏ
+  cast-squares k q e = ρ .cast-mul k q ∙ ap (λ x. cast k *ᵏ x) (ap cast e ∙ cast-square) ∙ solve K (var 0 :* zer) zer tt (cast k ∷ [])
+
+  -- q − y is − y mod p, where p divides q
+  pub cast-from : (q y : ℕ) → cast q ≡ 0ᵏ → y ≤ q → cast (N._-_ q y) ≡ -ᵏ cast y
   cast-from q y e l =
       let z : N._+_ y (N._-_ q y) ≡ q = omega arith in
-      r.neg-unique K (cast y) (cast (N._-_ q y)) (sym (ρ .cast-add y (N._-_ q y)) ∙ ap cast z ∙ ap cast e ∙ cast-square)
+      r.neg-unique K (cast y) (cast (N._-_ q y)) (sym (ρ .cast-add y (N._-_ q y)) ∙ ap cast z ∙ e)
 
   -- ---- s x − c t^k y
   pub cross-class : (s x c v : ℕ) → c ≤ p → cast (N._+_ (N._*_ s x) (N._*_ (N._-_ p c) v) % p) ≡ cast s *ᵏ cast x +ᵏ -ᵏ (cast c *ᵏ cast v)
@@ -212,19 +219,64 @@ module _ {p q : ℕ} {b : List ℕ} {n : ℕ} {s : List ℕ} {d j : ℕ} (g : Te
   pub run-end : (i a : ℕ) → n ≤ i → Run p q b n s d j i a → Terms p q b n s d j a
   run-end i a l h = let u : i ≤ n = h .upto in let e : i ≡ n = omega arith in record { below = h .below; law = λ pr. h .law pr ∙ ap (along (reading p pr) b s d j) e }
 
--- ---- one coefficient of a size
-module _ {F : Frame} {q : ℕ} {b c : List ℕ} {top j : ℕ} (g : PartAtIn F q b c top j) (x y : ℕ)
-    (hx : Terms (F .p) q b (N._-_ top (F .dr)) (F .r) (F .dr) j x) (hy : Terms (F .p) q c (N._-_ top (F .dw)) (F .w) (F .dw) j y) where
+-- the invariant of `plain`: the sum is kept as it is
+module _ {p : ℕ} {b : List ℕ} {n : ℕ} {s : List ℕ} {d j : ℕ} (g : PlainIn p b n s d j) where
+  abbrev Heap : ℕ → ℕ → Type 0
+  Heap i a = Run p (N._+_ (N._*_ i (N._*_ p p)) 1) b n s d j i a
+
+  pub heap-start : (i : ℕ) → i ≡ N._-_ j d → Heap i 0
+  heap-start i e = let h = run-start (g .inp) i e in record { upto = h .upto; from = h .from; below = omega arith; law = h .law }
+
+  pub heap-term : (i : ℕ) → N._*_ (getD b i 0) (getD s (N._-_ (N._+_ d i) j) 0) < N._*_ p p
+  heap-term i = less-square p _ _ (g .inp .hb .each i) (g .inp .hs .each (N._-_ (N._+_ d i) j))
+
+  pub heap-square : N._*_ p p ≤ 4294967296
+  heap-square = square-16 p (g .small)
+
+  pub heap-room : (i a : ℕ) → Heap i a → a ≤ 137438953472
+  heap-room i a h =
+      let u : i ≤ n = h .upto in
+      let f : N._+_ n d ≤ 32 = g .inp .fits in
+      let l : i ≤ 32 = omega arith in
+      let m : N._*_ i (N._*_ p p) ≤ N._*_ 32 4294967296 = mul-le-mul l heap-square in
+      let k : a < N._+_ (N._*_ i (N._*_ p p)) 1 = h .below in
+      omega arith
+
+  pub heap-more : (i a : ℕ) → i < n → Heap i a → Heap (N._+_ i 1) (N._+_ a (N._*_ (getD b i 0) (getD s (N._-_ (N._+_ d i) j) 0)))
+  heap-more i a l h =
+      let f : j ≤ N._+_ d i = h .from in
+      let k : a < N._+_ (N._*_ i (N._*_ p p)) 1 = h .below in
+      let t : N._*_ (getD b i 0) (getD s (N._-_ (N._+_ d i) j) 0) < N._*_ p p = heap-term i in
+      let e : N._*_ (N._+_ i 1) (N._*_ p p) ≡ N._+_ (N._*_ i (N._*_ p p)) (N._*_ p p) = omega arith in record {
+        upto = omega arith;
+        from = omega arith;
+        below = omega arith;
+        law = λ pr. ap (λ v. reading p pr .cast (N._+_ a (N._*_ (getD b i 0) v))) (sym (fall-in s (N._+_ d i) j f)) ∙ along-more (reading p pr) b s d j i a (h .law pr);
+      }
+
+  pub heap-end : (i a : ℕ) → n ≤ i → Heap i a → Terms p (N._+_ (N._*_ 32 (N._*_ p p)) 1) b n s d j a
+  heap-end i a l h =
+      let u : i ≤ n = h .upto in
+      let f : N._+_ n d ≤ 32 = g .inp .fits in
+      let e : i ≡ n = omega arith in
+      let v : i ≤ 32 = omega arith in
+      let w : N._*_ p p ≤ N._*_ p p = omega arith in
+      let m : N._*_ i (N._*_ p p) ≤ N._*_ 32 (N._*_ p p) = mul-le-mul v w in
+      let k : a < N._+_ (N._*_ i (N._*_ p p)) 1 = h .below in
+      record { below = omega arith; law = λ pr. h .law pr ∙ ap (along (reading p pr) b s d j) e }
+
+-- ---- one coefficient of a size, from two sums; p divides q
+module _ {F : Frame} {b c : List ℕ} {top j : ℕ} (g : PartIn F b c top) (q Q x y : ℕ) (none : (pr : Prime (F .p)) → reading (F .p) pr .cast q ≡ reading (F .p) pr .𝓥 .K .ops .𝟎)
+    (hx : Terms (F .p) Q b (N._-_ top (F .dr)) (F .r) (F .dr) j x) (hy : Terms (F .p) Q c (N._-_ top (F .dw)) (F .w) (F .dw) j y) (le : y ≤ q) where
   pos : 0 < F .p
-  pos = let k : 1 < F .p = g .inp .fine .modulus .big in omega arith
+  pos = let k : 1 < F .p = g .fine .modulus .big in omega arith
 
   pub part-minus : {e : Bool} → e ≡ true → PartAt F e b c top j (N._+_ x (N._-_ q y) % F .p)
   part-minus {e} u = subst (λ e. PartAt F e b c top j (N._+_ x (N._-_ q y) % F .p)) (sym u) (record {
     below = mod-lt _ pos;
     law = λ pr.
         let ρ = reading (F .p) pr in
-        let l : y < q = hy .below in
-        ρ .cast-mod (N._+_ x (N._-_ q y)) ∙ ρ .cast-add x (N._-_ q y) ∙ ap₂ (ρ .𝓥 .K .ops .add) (hx .law pr) (cast-from ρ q y (g .is-q) (omega arith) ∙ ap (ρ .𝓥 .K .ops .neg) (hy .law pr));
+        ρ .cast-mod (N._+_ x (N._-_ q y)) ∙ ρ .cast-add x (N._-_ q y) ∙ ap₂ (ρ .𝓥 .K .ops .add) (hx .law pr) (cast-from ρ q y (none pr) le ∙ ap (ρ .𝓥 .K .ops .neg) (hy .law pr));
   })
 
   pub part-plus : {e : Bool} → e ≡ false → PartAt F e b c top j (N._+_ x y % F .p)
@@ -232,3 +284,7 @@ module _ {F : Frame} {q : ℕ} {b c : List ℕ} {top j : ℕ} (g : PartAtIn F q 
     below = mod-lt _ pos;
     law = λ pr. let ρ = reading (F .p) pr in ρ .cast-mod (N._+_ x y) ∙ ρ .cast-add x y ∙ ap₂ (ρ .𝓥 .K .ops .add) (hx .law pr) (hy .law pr);
   })
+
+  -- a number of the same remainder
+  pub part-as : {e : Bool} {u v : ℕ} → v ≡ u → PartAt F e b c top j u → PartAt F e b c top j v
+  part-as {e} q h = subst (λ a. PartAt F e b c top j a) (sym q) h

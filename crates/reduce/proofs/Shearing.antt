@@ -19,11 +19,10 @@ use Rattle.turn.specs.Points.{Pt, Turned, Moved}
 use Rattle.turn.proofs.Turn.{turned-X, turned-Y, moved-start, moved-swap, moved-turn, moved-then, moved-has, full}
 use Rattle.reduce.specs.Frame.{Frame, Fine, Meaning, Point, point, Short, Held, rd, pt, X, Y, Ltμ, Hasμ, shift}
 use Rattle.reduce.specs.Leaves.{Parted}
-use Rattle.reduce.specs.Clear.{Rows, Room, CancelIn, CancelOut, Clearing, Cleared, ShearIn, Shearing, Sheared, Reduced, Movedμ}
+use Rattle.reduce.specs.Clear.{Rows, Room, CancelIn, CancelOut, Clearing, Cleared, ShearIn, Shearing, Sheared, Reduced, Movedμ, Turn}
 use Rattle.reduce.proofs.Clearing.{part-held, rows-of}
 use Rattle.reduce.specs.declared.Pair.{Pair}
 use Rattle.reduce.specs.declared.Ends.{Ends}
-use Rattle.reduce.specs.declared.Turn.{Turn}
 
 -- ---- from the first loop to the second
 module _ {F : Frame} {q : Pair} {top lu : ℕ} {o : Pair} (c : Cleared F q top lu o) where

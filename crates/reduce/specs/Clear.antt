@@ -16,10 +16,10 @@ use Prim.Native.Nat.{ℕ, suc, _+_, _-_, _<_, _≤_}
 use Rattle.reading.specs.Row.{Size}
 use Rattle.reading.proofs.Turn.{comb}
 use Rattle.turn.specs.Points.{Turned, Moved}
+use Rattle.poly.specs.Terms.{Ready}
 use Rattle.reduce.specs.Frame.{Frame, Fine, Meaning, Point, point, Short, Held, rd, pt, X, Y, side, D, Ltμ, Hasμ, shift}
 use Rattle.reduce.specs.declared.Pair.{Pair}
 use Rattle.reduce.specs.declared.Ends.{Ends}
-use Rattle.reduce.specs.declared.Turn.{Turn}
 
 -- the rows of an element below top
 pub record Rows (F : Frame) (top : ℕ) (b c : List ℕ) : Type 0 where
@@ -55,6 +55,22 @@ pub record CancelIn (F : Frame) (e : Bool) (ab ac bb bc : List ℕ) (s c k top l
   pub less : l ≤ 32
   pub drop : Ltμ some (comb (rd some) (rd some .cast s) (rd some .cast c) k (side some e (pt some ab ac)) (side some e (pt some bb bc))) l
 
+-- the same with what a quick remainder needs
+pub record CancelBy (F : Frame) (mul lim : ℕ) (e : Bool) (ab ac az bb bc : List ℕ) (s c k top l : ℕ) : Type 0 where
+  pub inp : CancelIn F e ab ac bb bc s c k top l
+  pub ready : Ready (F .p) mul lim
+  pub hz : Short (F .p) az top
+
+-- an element with the polynomial part z of one of its sizes, and the length of z
+pub record Turn : Type 0 where
+  pub b : List ℕ
+  pub c : List ℕ
+  pub z : List ℕ
+  pub l : ℕ
+
+abbrev pub turn : List ℕ → List ℕ → List ℕ → ℕ → Turn
+turn b c z l = record { b = b; c = c; z = z; l = l }
+
 pub record CancelOut (F : Frame) (e : Bool) (ab ac bb bc : List ℕ) (s c k top : ℕ) (o : Turn) : Type 0 where
   pub held : Held F e top (point (o .b) (o .c) (o .z))
   pub size : Size (o .z) (o .l)
@@ -86,6 +102,19 @@ pub record ClearIn (F : Frame) (q : Pair) (top lu : ℕ) : Type 0 where
   pub ly1 : Ltμ some (Y some (pt some (q .mb) (q .mc))) v1
   pub ly2 : Ltμ some (Y some (pt some (q .nb) (q .nc))) v2
   pub det : Hasμ some (D some (pt some (q .mb) (q .mc)) (pt some (q .nb) (q .nc))) (s + u)
+
+-- the same with what a quick remainder needs
+pub record ClearBy (F : Frame) (mul lim : ℕ) (q : Pair) (top lu : ℕ) : Type 0 where
+  pub inp : ClearIn F q top lu
+  pub ready : Ready (F .p) mul lim
+
+abbrev pub pair : List ℕ → List ℕ → List ℕ → List ℕ → Pair
+pair mb mc nb nc = record { mb = mb; mc = mc; nb = nb; nc = nc }
+
+-- m and n change places where the answer is yes
+abbrev pub swapIf : Bool → Pair → Pair
+swapIf true q = pair (q .nb) (q .nc) (q .mb) (q .mc)
+swapIf false q = q
 
 -- y1 and y2 are the lengths of Y(m), Y(n); x1 and x2 bound those of X
 pub record Clearing (F : Frame) (q : Pair) (top lu : ℕ) (m n : Point) (y1 y2 : ℕ) : Type 0 where
@@ -138,6 +167,16 @@ pub record ShearIn (F : Frame) (q : Pair) (top : ℕ) : Type 0 where
   pub xm : Hasμ some (X some (pt some (q .mb) (q .mc))) x
   pub bm : x < top
   pub xn : Ltμ some (X some (pt some (q .nb) (q .nc))) top
+
+-- the same with what a quick remainder needs, and the rows that X(m), X(n) go into
+pub record ShearBy (F : Frame) (mul lim : ℕ) (q : Pair) (top : ℕ) (mx nx : List ℕ) : Type 0 where
+  pub inp : ShearIn F q top
+  pub ready : Ready (F .p) mul lim
+  pub hmx : Short (F .p) mx top
+  pub hnx : Short (F .p) nx top
+
+abbrev pub ends : List ℕ → List ℕ → List ℕ → List ℕ → List ℕ → List ℕ → ℕ → Ends
+ends mb mc mx nb nc nx lx = record { mb = mb; mc = mc; mx = mx; nb = nb; nc = nc; nx = nx; lx = lx }
 
 pub record Shearing (F : Frame) (q : Pair) (top : ℕ) (m n : Point) (x1 x2 : ℕ) : Type 0 where
   pub room : Room F top

@@ -18,6 +18,7 @@ use Rattle.reading.specs.Made.{reading}
 use Rattle.reading.specs.Row.{Row, Size, row, shiftAt, fallAt, Floor}
 use Rattle.reading.proofs.Turn.{comb}
 use Rattle.residue.specs.Residue.{Modulus}
+use Rattle.poly.specs.Terms.{Ready}
 use Rattle.reduce.specs.Frame.{Frame, Fine, Meaning, Short, rd, pt, side}
 
 -- ---- s x − c t^k y
@@ -30,6 +31,11 @@ pub record CrossIn (p s : ℕ) (x : List ℕ) (c k : ℕ) (y : List ℕ) (n : �
   pub fits : n ≤ 32
   pub low : k ≤ 32
   pub above : (i : ℕ) → n ≤ i → shiftAt y k i ≡ 0
+
+-- the same with what a quick remainder needs
+pub record CrossBy (p m lim s : ℕ) (x : List ℕ) (c k : ℕ) (y : List ℕ) (n : ℕ) : Type 0 where
+  pub inp : CrossIn p s x c k y n
+  pub ready : Ready p m lim
 
 pub record Crossed (p s : ℕ) (x : List ℕ) (c k : ℕ) (y : List ℕ) (n : ℕ) (z : List ℕ) : Type 0 where
   pub short : Short p z n
@@ -60,6 +66,10 @@ pub record TermsIn (p q : ℕ) (b : List ℕ) (n : ℕ) (s : List ℕ) (d j : �
   pub fits : n + d ≤ 32
   pub high : j ≤ n + d
 
+pub record PlainIn (p : ℕ) (b : List ℕ) (n : ℕ) (s : List ℕ) (d j : ℕ) : Type 0 where
+  pub inp : TermsIn p (p * p) b n s d j
+  pub small : p < 65536
+
 pub record Terms (p q : ℕ) (b : List ℕ) (n : ℕ) (s : List ℕ) (d j r : ℕ) : Type 0 where
   pub below : r < q
   pub law : (pr : Prime p) → reading p pr .cast r ≡ along (reading p pr) b s d j n
@@ -77,6 +87,21 @@ pub record PartAtIn (F : Frame) (q : ℕ) (b c : List ℕ) (top j : ℕ) : Type 
   pub inp : PartIn F b c top
   pub is-q : q ≡ F .p * F .p
   pub high : j < top
+
+-- the same with what a quick remainder needs, into z
+pub record PartBy (F : Frame) (m lim : ℕ) (b c : List ℕ) (top : ℕ) (z : List ℕ) : Type 0 where
+  pub inp : PartIn F b c top
+  pub ready : Ready (F .p) m lim
+  pub hz : Short (F .p) z top
+
+pub record PartAtBy (F : Frame) (m lim q : ℕ) (b c : List ℕ) (top j : ℕ) : Type 0 where
+  pub inp : PartAtIn F q b c top j
+  pub ready : Ready (F .p) m lim
+
+pub record QuickAtIn (F : Frame) (m lim q : ℕ) (b c : List ℕ) (top j : ℕ) : Type 0 where
+  pub inp : PartAtIn F q b c top j
+  pub ready : Ready (F .p) m lim
+  pub small : F .p < 65536
 
 -- x + y or x − y
 abbrev pub signed : {A : Type 0} → Ops A → Bool → A → A → A

@@ -1,14 +1,17 @@
 // The reduction of two elements b r + c w to a reduced pair, on rows of 32 coefficients, lowest first, each below p.
-// Rows are lent; what is made comes back by value. Loops run over true lengths: top is one more than the largest degree
+// Rows are lent, and turned in place. Loops run over true lengths: top is one more than the largest degree
 // of a size, so that rows b end before top - dr and rows c before top - dw.
 // Every contract speaks of the polynomial that a row stands for; none speaks of coefficients.
+use poly::Rapid;
+use poly::rapid_of;
+use poly::rest;
 use poly::size_from;
 ghost use mathlib.Core.Path.{_≡_};
 ghost use Prim.Native.Nat.{_+_, _*_, _-_, _%_, _<_, _≤_};
 ghost use Rattle.reading.specs.Row.{shiftAt};
 ghost use Rattle.reduce.specs.Given.{given};
-ghost use Rattle.reduce.specs.Clear.{CancelIn, CancelOut, ClearIn, Cleared, ShearIn, Sheared, Reduced};
-ghost use Rattle.reduce.specs.Leaves.{CrossIn, Crossed, SumIn, Summed, TermsIn, Terms, PartIn, PartAtIn, PartAt, Parted, Led};
+ghost use Rattle.reduce.specs.Clear.{CancelBy, CancelOut, ClearIn, ClearBy, Cleared, ShearBy, Sheared, Reduced, turn, pair, ends, swapIf};
+ghost use Rattle.reduce.specs.Leaves.{CrossBy, Crossed, SumIn, Summed, TermsIn, Terms, PlainIn, PartIn, PartBy, PartAtIn, PartAtBy, QuickAtIn, PartAt, Parted, Led};
 
 // A modulus, the degrees of two series, and the bound of sizes: one more than the largest degree that may occur
 pub struct Bounds {
@@ -49,7 +52,21 @@ fn terms(p: u64, q: u64, b: &[u64; 32], n: usize, s: &[u64; 32], d: usize, j: us
     a
 }
 
-// The coefficient at t^j of b r + c w, or of b r - c w
+// The same where the sum fits as it is, for p below 2^16
+fn plain(p: u64, b: &[u64; 32], n: usize, s: &[u64; 32], d: usize, j: usize) -> u64
+    requires { ⌜ PlainIn p (now b) n (now s) d j ⌝ }
+    ensures { λ r. ⌜ Terms p (32 * (p * p) + 1) (now (b .entry)) n (now (s .entry)) d j r ⌝ }
+{
+    let mut i = over(j, d);
+    let mut a: u64 = 0;
+    while i < n {
+        a += b[i] * s[d + i - j];
+        i += 1;
+    }
+    a
+}
+
+// The coefficient at t^j of b r + c w, or of b r - c w, for every p
 fn part_at(
     f: Bounds,
     q: u64,
@@ -76,7 +93,83 @@ fn part_at(
     }
 }
 
-// The polynomial part of b r + c w, or of b r - c w
+// The same for p below 2^16
+fn quick_at(
+    f: Bounds,
+    fast: Rapid,
+    q: u64,
+    minus: bool,
+    b: &[u64; 32],
+    c: &[u64; 32],
+    r: &[u64; 32],
+    w: &[u64; 32],
+    j: usize,
+) -> u64
+    requires { ⌜ QuickAtIn (given f (now r) (now w)) (fast .m) (fast .lim) q (now b) (now c) (f .top) j ⌝ }
+    ensures { λ v. ⌜ PartAt (given f (now (r .entry)) (now (w .entry))) minus (now (b .entry)) (now (c .entry)) (f .top) j v ⌝ }
+{
+    let p = f.p;
+    let dr = f.dr;
+    let dw = f.dw;
+    let top = f.top;
+    let x = plain(p, b, top - dr, r, dr, j);
+    let y = plain(p, c, top - dw, w, dw, j);
+    if minus {
+        rest(p, fast, x + (32 * q - y))
+    } else {
+        rest(p, fast, x + y)
+    }
+}
+
+// The one or the other
+fn digit(
+    f: Bounds,
+    fast: Rapid,
+    q: u64,
+    minus: bool,
+    b: &[u64; 32],
+    c: &[u64; 32],
+    r: &[u64; 32],
+    w: &[u64; 32],
+    j: usize,
+) -> u64
+    requires { ⌜ PartAtBy (given f (now r) (now w)) (fast .m) (fast .lim) q (now b) (now c) (f .top) j ⌝ }
+    ensures { λ v. ⌜ PartAt (given f (now (r .entry)) (now (w .entry))) minus (now (b .entry)) (now (c .entry)) (f .top) j v ⌝ }
+{
+    let p = f.p;
+    if p < 65536 {
+        quick_at(f, fast, q, minus, b, c, r, w, j)
+    } else {
+        part_at(f, q, minus, b, c, r, w, j)
+    }
+}
+
+// The polynomial part of b r + c w, or of b r - c w, into z
+fn part_in(
+    f: Bounds,
+    fast: Rapid,
+    minus: bool,
+    b: &[u64; 32],
+    c: &[u64; 32],
+    r: &[u64; 32],
+    w: &[u64; 32],
+    z: &mut [u64; 32],
+)
+    requires { ⌜ PartBy (given f (now r) (now w)) (fast .m) (fast .lim) (now b) (now c) (f .top) (now z) ⌝ }
+    ensures { λ _. ⌜ Parted (given f (now (r .entry)) (now (w .entry))) minus (now (b .entry)) (now (c .entry)) (f .top) (now (z .exit)) ⌝ }
+{
+    let p = f.p;
+    let top = f.top;
+    let q = p * p;
+    let mut j: usize = 0;
+    while j < top {
+        let v = digit(f, fast, q, minus, b, c, r, w, j);
+        z[j] = v;
+        j += 1;
+    }
+}
+
+// The same as a row of its own
 fn part(
     f: Bounds,
     minus: bool,
@@ -88,16 +181,9 @@ fn part(
     requires { ⌜ PartIn (given f (now r) (now w)) (now b) (now c) (f .top) ⌝ }
     ensures { λ z. ⌜ Parted (given f (now (r .entry)) (now (w .entry))) minus (now (b .entry)) (now (c .entry)) (f .top) z ⌝ }
 {
-    let p = f.p;
-    let top = f.top;
-    let q = p * p;
+    let fast = rapid_of(f.p);
     let mut z: [u64; 32] = [0; 32];
-    let mut j: usize = 0;
-    while j < top {
-        let v = part_at(f, q, minus, b, c, r, w, j);
-        z[j] = v;
-        j += 1;
-    }
+    part_in(f, fast, minus, b, c, r, w, &mut z);
     z
 }
 
@@ -127,20 +213,28 @@ fn shifted(y: &[u64; 32], k: usize, i: usize) -> u64
     if i < k { 0 } else { y[i - k] }
 }
 
-// s x - c t^k y, of n terms
-fn cross(p: u64, s: u64, x: &[u64; 32], c: u64, k: usize, y: &[u64; 32], n: usize) -> [u64; 32]
-    requires { ⌜ CrossIn p s (now x) c k (now y) n ⌝ }
-    ensures { λ z. ⌜ Crossed p s (now (x .entry)) c k (now (y .entry)) n z ⌝ }
+// s x - c t^k y, of n terms, in place of x
+fn cross(
+    p: u64,
+    fast: Rapid,
+    s: u64,
+    x: &mut [u64; 32],
+    c: u64,
+    k: usize,
+    y: &[u64; 32],
+    n: usize,
+)
+    requires { ⌜ CrossBy p (fast .m) (fast .lim) s (now x) c k (now y) n ⌝ }
+    ensures { λ _. ⌜ Crossed p s (now (x .entry)) c k (now (y .entry)) n (now (x .exit)) ⌝ }
 {
     let e = p - c;
-    let mut z: [u64; 32] = [0; 32];
     let mut i: usize = 0;
     while i < n {
         let v = shifted(y, k, i);
-        z[i] = (s * x[i] + e * v) % p;
+        let a = rest(p, fast, s * x[i] + e * v);
+        x[i] = a;
         i += 1;
     }
-    z
 }
 
 // Two elements b r + c w
@@ -162,123 +256,104 @@ pub struct Ends {
     pub lx: usize,
 }
 
-// An element with the polynomial part z of one of its sizes, and the length of z
-struct Turn {
-    b: [u64; 32],
-    c: [u64; 32],
-    z: [u64; 32],
-    l: usize,
-}
-
-// s a - c t^k b, whose size ends before l
+// s a - c t^k b in place of a, with the polynomial part az of a size, which ends before l; its length
 fn canceled(
     f: Bounds,
+    fast: Rapid,
     minus: bool,
     r: &[u64; 32],
     w: &[u64; 32],
     s: u64,
-    ab: &[u64; 32],
-    ac: &[u64; 32],
+    ab: &mut [u64; 32],
+    ac: &mut [u64; 32],
+    az: &mut [u64; 32],
     c: u64,
     k: usize,
     bb: &[u64; 32],
     bc: &[u64; 32],
     l: usize,
-) -> Turn
-    requires { ⌜ CancelIn (given f (now r) (now w)) minus (now ab) (now ac) (now bb) (now bc) s c k (f .top) l ⌝ }
-    ensures { λ o. ⌜ CancelOut (given f (now (r .entry)) (now (w .entry))) minus (now (ab .entry)) (now (ac .entry)) (now (bb .entry)) (now (bc .entry)) s c k (f .top) o ⌝ }
+) -> usize
+    requires { ⌜ CancelBy (given f (now r) (now w)) (fast .m) (fast .lim) minus (now ab) (now ac) (now az) (now bb) (now bc) s c k (f .top) l ⌝ }
+    ensures { λ m. ⌜ CancelOut (given f (now (r .entry)) (now (w .entry))) minus (now (ab .entry)) (now (ac .entry)) (now (bb .entry)) (now (bc .entry)) s c k (f .top) (turn (now (ab .exit)) (now (ac .exit)) (now (az .exit)) m) ⌝ }
 {
     let p = f.p;
     let dr = f.dr;
     let dw = f.dw;
     let top = f.top;
-    let nb = cross(p, s, ab, c, k, bb, top - dr);
-    let nc = cross(p, s, ac, c, k, bc, top - dw);
-    let z = part(f, minus, &nb, &nc, r, w);
-    let m = size_from(&z, l);
-    Turn {
-        b: nb,
-        c: nc,
-        z,
-        l: m,
-    }
+    cross(p, fast, s, ab, c, k, bb, top - dr);
+    cross(p, fast, s, ac, c, k, bc, top - dw);
+    part_in(f, fast, minus, ab, ac, r, w, az);
+    size_from(az, l)
 }
 
-// Leading terms of Y are canceled until one Y lies below the denominator's degree, lu - 1; that element comes first.
-fn clear_y(f: Bounds, r: &[u64; 32], w: &[u64; 32], q: Pair, lu: usize) -> Pair
-    requires { ⌜ ClearIn (given f (now r) (now w)) q (f .top) lu ⌝ }
-    ensures { λ o. ⌜ Cleared (given f (now (r .entry)) (now (w .entry))) q (f .top) lu o ⌝ }
+// Leading terms of Y are canceled until one Y lies below the denominator's degree, lu - 1: that of n where the answer is yes.
+fn clear_y(
+    f: Bounds,
+    fast: Rapid,
+    r: &[u64; 32],
+    w: &[u64; 32],
+    mb: &mut [u64; 32],
+    mc: &mut [u64; 32],
+    nb: &mut [u64; 32],
+    nc: &mut [u64; 32],
+    lu: usize,
+) -> bool
+    requires { ⌜ ClearBy (given f (now r) (now w)) (fast .m) (fast .lim) (pair (now mb) (now mc) (now nb) (now nc)) (f .top) lu ⌝ }
+    ensures { λ o. ⌜ Cleared (given f (now (r .entry)) (now (w .entry))) (pair (now (mb .entry)) (now (mc .entry)) (now (nb .entry)) (now (nc .entry))) (f .top) lu (swapIf o (pair (now (mb .exit)) (now (mc .exit)) (now (nb .exit)) (now (nc .exit)))) ⌝ }
 {
     let top = f.top;
-    let mut mb = q.mb;
-    let mut mc = q.mc;
-    let mut nb = q.nb;
-    let mut nc = q.nc;
-    let mut my = part(f, true, &mb, &mc, r, w);
-    let mut ny = part(f, true, &nb, &nc, r, w);
+    let mut my: [u64; 32] = [0; 32];
+    let mut ny: [u64; 32] = [0; 32];
+    part_in(f, fast, true, mb, mc, r, w, &mut my);
+    part_in(f, fast, true, nb, nc, r, w, &mut ny);
     let mut y1 = size_from(&my, top);
     let mut y2 = size_from(&ny, top);
     while lu <= y1 {
         if y2 < lu {
-            return Pair {
-                mb: nb,
-                mc: nc,
-                nb: mb,
-                nc: mc,
-            };
+            return true;
         } else {
             let s = my[y1 - 1];
             let c = ny[y2 - 1];
             if y1 < y2 {
-                let t = canceled(f, true, r, w, s, &nb, &nc, c, y2 - y1, &mb, &mc, y2 - 1);
-                nb = t.b;
-                nc = t.c;
-                ny = t.z;
-                y2 = t.l;
+                let t = canceled(f, fast, true, r, w, s, nb, nc, &mut ny, c, y2 - y1, mb, mc, y2 - 1);
+                y2 = t;
             } else {
-                let t = canceled(f, true, r, w, c, &mb, &mc, s, y1 - y2, &nb, &nc, y1 - 1);
-                mb = t.b;
-                mc = t.c;
-                my = t.z;
-                y1 = t.l;
+                let t = canceled(f, fast, true, r, w, c, mb, mc, &mut my, s, y1 - y2, nb, nc, y1 - 1);
+                y1 = t;
             }
         }
     }
-    Pair { mb, mc, nb, nc }
+    false
 }
 
-// Then leading terms of n's X, until it lies below m's.
-fn clear_x(f: Bounds, r: &[u64; 32], w: &[u64; 32], q: Pair) -> Ends
-    requires { ⌜ ShearIn (given f (now r) (now w)) q (f .top) ⌝ }
-    ensures { λ o. ⌜ Sheared (given f (now (r .entry)) (now (w .entry))) q (f .top) o ⌝ }
+// Then leading terms of n's X, until it lies below m's; the length of m's.
+fn clear_x(
+    f: Bounds,
+    fast: Rapid,
+    r: &[u64; 32],
+    w: &[u64; 32],
+    mb: &[u64; 32],
+    mc: &[u64; 32],
+    mx: &mut [u64; 32],
+    nb: &mut [u64; 32],
+    nc: &mut [u64; 32],
+    nx: &mut [u64; 32],
+) -> usize
+    requires { ⌜ ShearBy (given f (now r) (now w)) (fast .m) (fast .lim) (pair (now mb) (now mc) (now nb) (now nc)) (f .top) (now mx) (now nx) ⌝ }
+    ensures { λ l. ⌜ Sheared (given f (now (r .entry)) (now (w .entry))) (pair (now (mb .entry)) (now (mc .entry)) (now (nb .entry)) (now (nc .entry))) (f .top) (ends (now (mb .entry)) (now (mc .entry)) (now (mx .exit)) (now (nb .exit)) (now (nc .exit)) (now (nx .exit)) l) ⌝ }
 {
     let top = f.top;
-    let mb = q.mb;
-    let mc = q.mc;
-    let mut nb = q.nb;
-    let mut nc = q.nc;
-    let mx = part(f, false, &mb, &mc, r, w);
-    let mut nx = part(f, false, &nb, &nc, r, w);
-    let x1 = size_from(&mx, top);
-    let mut x2 = size_from(&nx, top);
+    part_in(f, fast, false, mb, mc, r, w, mx);
+    part_in(f, fast, false, nb, nc, r, w, nx);
+    let x1 = size_from(mx, top);
+    let mut x2 = size_from(nx, top);
     while x1 <= x2 {
         let s = mx[x1 - 1];
         let c = nx[x2 - 1];
-        let t = canceled(f, false, r, w, s, &nb, &nc, c, x2 - x1, &mb, &mc, x2 - 1);
-        nb = t.b;
-        nc = t.c;
-        nx = t.z;
-        x2 = t.l;
+        let t = canceled(f, fast, false, r, w, s, nb, nc, nx, c, x2 - x1, mb, mc, x2 - 1);
+        x2 = t;
     }
-    Ends {
-        mb,
-        mc,
-        mx,
-        nb,
-        nc,
-        nx,
-        lx: x1,
-    }
+    x1
 }
 
 // A pair with the span of q, deg X(n) < deg X(m) and deg Y(m) < lu - 1 <= deg Y(n)
@@ -286,6 +361,35 @@ pub fn reduced(f: Bounds, r: &[u64; 32], w: &[u64; 32], q: Pair, lu: usize) -> E
     requires { ⌜ ClearIn (given f (now r) (now w)) q (f .top) lu ⌝ }
     ensures { λ o. ⌜ Reduced (given f (now (r .entry)) (now (w .entry))) q (f .top) lu o ⌝ }
 {
-    let a = clear_y(f, r, w, q, lu);
-    clear_x(f, r, w, a)
+    let fast = rapid_of(f.p);
+    let mut mb = q.mb;
+    let mut mc = q.mc;
+    let mut nb = q.nb;
+    let mut nc = q.nc;
+    let mut mx: [u64; 32] = [0; 32];
+    let mut nx: [u64; 32] = [0; 32];
+    let swap = clear_y(f, fast, r, w, &mut mb, &mut mc, &mut nb, &mut nc, lu);
+    if swap {
+        let l = clear_x(f, fast, r, w, &nb, &nc, &mut nx, &mut mb, &mut mc, &mut mx);
+        Ends {
+            mb: nb,
+            mc: nc,
+            mx: nx,
+            nb: mb,
+            nc: mc,
+            nx: mx,
+            lx: l,
+        }
+    } else {
+        let l = clear_x(f, fast, r, w, &mb, &mc, &mut mx, &mut nb, &mut nc, &mut nx);
+        Ends {
+            mb,
+            mc,
+            mx,
+            nb,
+            nc,
+            nx,
+            lx: l,
+        }
+    }
 }

@@ -1,8 +1,9 @@
 -- `reduce::part_at` meets its contract: `part-minus`, `part-plus`.
-use mathlib.Core.Path.{_≡_}
+use mathlib.Core.Path.{_≡_, ap, _∙_}
 use Prim.Native.Nat.{ℕ, _*_, _≤_, _<_}
 use native.Mathlib.Omega.{arith}
-use Rattle.reduce.proofs.Leaves.{square-small, part-minus, part-plus}
+use Rattle.reading.specs.Made.{reading}
+use Rattle.reduce.proofs.Leaves.{square-small, cast-square, part-minus, part-plus}
 use Rattle.reduce.proofs.part_at.Statement.{statement}
 use Rattle.reduce.proofs.part_at.Tie as tie
 
@@ -63,10 +64,16 @@ rem-result-2 : tie.Need-rem-result-2
 rem-result-2 c = let b : 1 < c .before .before .before .args .f .p = c .before .before .before .pre .inp .fine .modulus .big in omega arith
 
 returns : tie.Need-returns
-returns c = part-minus (c .before .before .before .pre) _ _ (c .before .before .terms .ensures) (c .before .terms2 .ensures) (c .if1 .taken)
+returns c =
+    let s = c .before .before .before in
+    let y : c .before .terms2 .result < s .args .q = c .before .terms2 .ensures .below in
+    part-minus (s .pre .inp) (s .args .q) _ _ _ (λ pr. ap (reading (s .args .f .p) pr .cast) (s .pre .is-q) ∙ cast-square (reading (s .args .f .p) pr)) (c .before .before .terms .ensures) (c .before .terms2 .ensures) (omega arith) (c .if1 .taken)
 
 returns-2 : tie.Need-returns-2
-returns-2 c = part-plus (c .before .before .before .pre) _ _ (c .before .before .terms .ensures) (c .before .terms2 .ensures) (c .if1 .left)
+returns-2 c =
+    let s = c .before .before .before in
+    let y : c .before .terms2 .result < s .args .q = c .before .terms2 .ensures .below in
+    part-plus (s .pre .inp) (s .args .q) _ _ _ (λ pr. ap (reading (s .args .f .p) pr .cast) (s .pre .is-q) ∙ cast-square (reading (s .args .f .p) pr)) (c .before .before .terms .ensures) (c .before .terms2 .ensures) (omega arith) (c .if1 .left)
 
 pub part-at-spec : {M : Type 1} → statement M
 part-at-spec =
