@@ -214,16 +214,7 @@ fn shifted(y: &[u64; 32], k: usize, i: usize) -> u64
 }
 
 // s x - c t^k y, of n terms, in place of x
-fn cross(
-    p: u64,
-    fast: Rapid,
-    s: u64,
-    x: &mut [u64; 32],
-    c: u64,
-    k: usize,
-    y: &[u64; 32],
-    n: usize,
-)
+fn cross(p: u64, fast: Rapid, s: u64, x: &mut [u64; 32], c: u64, k: usize, y: &[u64; 32], n: usize)
     requires { ⌜ CrossBy p (fast .m) (fast .lim) s (now x) c k (now y) n ⌝ }
     ensures { λ _. ⌜ Crossed p s (now (x .entry)) c k (now (y .entry)) n (now (x .exit)) ⌝ }
 {
@@ -315,10 +306,40 @@ fn clear_y(
             let s = my[y1 - 1];
             let c = ny[y2 - 1];
             if y1 < y2 {
-                let t = canceled(f, fast, true, r, w, s, nb, nc, &mut ny, c, y2 - y1, mb, mc, y2 - 1);
+                let t = canceled(
+                    f,
+                    fast,
+                    true,
+                    r,
+                    w,
+                    s,
+                    nb,
+                    nc,
+                    &mut ny,
+                    c,
+                    y2 - y1,
+                    mb,
+                    mc,
+                    y2 - 1,
+                );
                 y2 = t;
             } else {
-                let t = canceled(f, fast, true, r, w, c, mb, mc, &mut my, s, y1 - y2, nb, nc, y1 - 1);
+                let t = canceled(
+                    f,
+                    fast,
+                    true,
+                    r,
+                    w,
+                    c,
+                    mb,
+                    mc,
+                    &mut my,
+                    s,
+                    y1 - y2,
+                    nb,
+                    nc,
+                    y1 - 1,
+                );
                 y1 = t;
             }
         }
@@ -350,7 +371,22 @@ fn clear_x(
     while x1 <= x2 {
         let s = mx[x1 - 1];
         let c = nx[x2 - 1];
-        let t = canceled(f, fast, false, r, w, s, nb, nc, nx, c, x2 - x1, mb, mc, x2 - 1);
+        let t = canceled(
+            f,
+            fast,
+            false,
+            r,
+            w,
+            s,
+            nb,
+            nc,
+            nx,
+            c,
+            x2 - x1,
+            mb,
+            mc,
+            x2 - 1,
+        );
         x2 = t;
     }
     x1
