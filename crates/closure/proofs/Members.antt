@@ -32,7 +32,7 @@ use Rattle.book_bytes.proofs.Tests.{answer-yes, answer-no}
 use Rattle.generators.specs.Rows.{Seven}
 use Rattle.generators.specs.Quotients.{Inverts, Det, Quotients}
 use Rattle.reduce.specs.Frame.{Short}
-use Rattle.accepts.specs.Tests.{InsideIn, InsideAt, MemberIn, MemberAt}
+use Rattle.closure.specs.Lattice.{InsideIn, InsideAt, MemberIn, MemberAt}
 
 pub by-inverse : {p il : ℕ} {a b : List ℕ} → Modulus p → Row p a → Row p b → Inverts p b il → DivIn p a b il
 by-inverse m ha hb h = record { modulus = m; ha = ha; hb = hb; hi = h .below; inv = h .law }

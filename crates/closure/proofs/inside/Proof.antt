@@ -1,11 +1,11 @@
--- `accepts::inside` meets its contract: the last rest.
+-- `closure::inside` meets its contract: the last rest.
 use borrow.Author.Needs.{needs}
 use Rattle.book_bytes.proofs.Tests.{answer-yes, answer-no}
-use Rattle.accepts.proofs.Members.{by-inverse, room-of, inside-yes, inside-no}
-use Rattle.accepts.proofs.inside.Statement.{statement}
-use Rattle.accepts.proofs.inside.Tie as tie
-use Rattle.accepts.proofs.inside.Reads as reads
-use Rattle.accepts.proofs.inside.Lts as lts
+use Rattle.closure.proofs.Members.{by-inverse, room-of, inside-yes, inside-no}
+use Rattle.closure.proofs.inside.Statement.{statement}
+use Rattle.closure.proofs.inside.Tie as tie
+use Rattle.closure.proofs.inside.Reads as reads
+use Rattle.closure.proofs.inside.Lts as lts
 
 divide-requires : tie.Need-divide-requires
 divide-requires c κs = let i = c .pre in by-inverse (i .modulus) (i .hb) (i .hu .is-row) (i .by-u)
