@@ -34,7 +34,7 @@ use Rattle.opened.proofs.Ground.{frameOf, frame-is, fine, r-reads, w-reads, mod
 use Rattle.opened.proofs.Lists.{field-holds, g-row, h-row, gh-row, holds-of}
 use Rattle.book_bytes.specs.Decides.{Decides}
 use Rattle.book_bytes.proofs.Tests.{answer-no, settled}
-use Rattle.accepts.specs.Closed.{Closed, Given, Room, UnderIn, Under}
+use Rattle.closure.specs.Closed.{Closed, Given, Room, UnderIn, Under}
 use Rattle.accepts.specs.Tests.{Below, Narrow, NarrowIn, ShapedIn, Shaped, Numbers, AloneIn, Alone}
 use Rattle.accepts.specs.Answer.{Seventeen, PassIn, Passes, Accepts}
 
