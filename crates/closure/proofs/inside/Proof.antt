@@ -1,4 +1,5 @@
 -- `closure::inside` meets its contract: the last rest.
+use native.Mathlib.Omega.{arith}
 use borrow.Author.Needs.{needs}
 use Rattle.book_bytes.proofs.Tests.{answer-yes, answer-no}
 use Rattle.closure.proofs.Members.{by-inverse, room-of, inside-yes, inside-no}
@@ -32,10 +33,10 @@ size-requires : tie.Need-size-requires
 size-requires c κs = search needs
 
 returns : tie.Need-returns
-returns c = (λ pr. answer-yes (inside-yes pr (c .before .before .before .before .before .before .before .before .before .before .before .before .before .before .before .before .before .before .before .pre) (c .before .before .before .before .before .before .before .before .before .before .before .before .before .before .before .before .before .before .divide .ensures) (c .before .before .before .before .before .before .before .before .before .before .before .before .before .before .before .before .before .divide2 .ensures) (c .before .before .before .before .before .before .before .before .before .before .before .before .before .mul .ensures) (c .before .before .before .before .before .before .before .before .before .before .before .mul2 .ensures) (c .before .before .before .before .before .before .before .before .add .ensures) (c .before .before .before .before .before .before .sub .ensures) (c .before .before .before .before .divide3 .ensures) (c .before .size .ensures) (c .if1 .taken)))
+returns c = (λ pr. answer-yes (inside-yes pr (c .before .before .before .before .before .before .before .before .before .before .before .before .before .before .before .before .before .before .before .pre) (c .before .before .before .before .before .before .before .before .before .before .before .before .before .before .before .before .before .before .divide .ensures) (c .before .before .before .before .before .before .before .before .before .before .before .before .before .before .before .before .before .divide2 .ensures) (c .before .before .before .before .before .before .before .before .before .before .before .before .before .mul .ensures) (c .before .before .before .before .before .before .before .before .before .before .before .mul2 .ensures) (c .before .before .before .before .before .before .before .before .add .ensures) (c .before .before .before .before .before .before .sub .ensures) (c .before .before .before .before .divide3 .ensures) (c .before .size .ensures) (omega (arith, c .if1 .taken))))
 
 returns-2 : tie.Need-returns-2
-returns-2 c = (λ pr. answer-no (inside-no pr (c .before .before .before .before .before .before .before .before .before .before .before .before .before .before .before .before .before .before .before .pre) (c .before .before .before .before .before .before .before .before .before .before .before .before .before .before .before .before .before .before .divide .ensures) (c .before .before .before .before .before .before .before .before .before .before .before .before .before .before .before .before .before .divide2 .ensures) (c .before .before .before .before .before .before .before .before .before .before .before .before .before .mul .ensures) (c .before .before .before .before .before .before .before .before .before .before .before .mul2 .ensures) (c .before .before .before .before .before .before .before .before .add .ensures) (c .before .before .before .before .before .before .sub .ensures) (c .before .before .before .before .divide3 .ensures) (c .before .size .ensures) (c .if1 .left)))
+returns-2 c = (λ pr. answer-no (inside-no pr (c .before .before .before .before .before .before .before .before .before .before .before .before .before .before .before .before .before .before .before .pre) (c .before .before .before .before .before .before .before .before .before .before .before .before .before .before .before .before .before .before .divide .ensures) (c .before .before .before .before .before .before .before .before .before .before .before .before .before .before .before .before .before .divide2 .ensures) (c .before .before .before .before .before .before .before .before .before .before .before .before .before .mul .ensures) (c .before .before .before .before .before .before .before .before .before .before .before .mul2 .ensures) (c .before .before .before .before .before .before .before .before .add .ensures) (c .before .before .before .before .before .before .sub .ensures) (c .before .before .before .before .divide3 .ensures) (c .before .size .ensures) (λ e. c .if1 .left (omega (arith, e)))))
 
 pub inside-spec : {M : Type 1} → statement M
 inside-spec = tie.close (tie.spec divide-requires divide-requires-2 mul-requires mul-requires-2 add-requires sub-requires divide-requires-3 size-requires returns returns-2)
