@@ -23,7 +23,7 @@ use Rattle.record.specs.Record.{setting, basisOf, IsRecord}
 use Rattle.series.specs.Answer.{Prefix}
 use Rattle.series.specs.declared.Cubic.{Cubic}
 use Rattle.reduce.specs.Frame.{Frame, Fine, Short}
-use Rattle.generators.specs.Rows.{Seven, AreRows, rowsOf}
+use Rattle.generators.specs.Rows.{Seven, seven, AreRows, rowsOf}
 use Rattle.generators.proofs.Products.{Sizes, sizes, monic-inverts}
 use Rattle.basis.specs.Store.{Loaded, SevenLoaded}
 use Rattle.basis.proofs.Place.{row-short}
@@ -233,6 +233,9 @@ module _ {c : Cubic} {b : Seven} (i : PassIn c b) where
 -- ---- the 119 numbers
 short-of : (q : ℕ) {B : List ℕ} → Below q B → {j : ℕ} {r : List ℕ} → Loaded B j r → Short q r 17
 short-of q e k = record { is-row = k .is-row q e; above = k .above }
+
+pub loaded-of : {B m0 m1 m2 n0 n1 n2 u : List ℕ} → Loaded B 0 m0 → Loaded B 1 m1 → Loaded B 2 m2 → Loaded B 3 n0 → Loaded B 4 n1 → Loaded B 5 n2 → Loaded B 6 u → SevenLoaded B (seven m0 m1 m2 n0 n1 n2 u)
+loaded-of h0 h1 h2 k0 k1 k2 hu = record { m0 = h0; m1 = h1; m2 = h2; n0 = k0; n1 = k1; n2 = k2; u = hu }
 
 module _ {c : Cubic} {B : List ℕ} where
   pub not-below : {o : Bool} → o ≡ false → Decides o (Below (c .field .p) B) → Accepts c B false
