@@ -35,11 +35,23 @@ fn told(m: unit::Made) {
     line_end();
 }
 
-fn show(p: u64, g: &[u64], h: &[u64], budget: u64, rows: &mut [u16], scratch: &mut [u16]) {
+fn answer(p: u64, g: &[u64], h: &[u64], budget: u64, rows: &mut [u16], scratch: &mut [u16]) {
     let m = unit::unit(p, g, h, budget, rows, scratch);
     told(m);
     numbers(rows);
     numbers(scratch);
+}
+
+// The unit into the first n of 150 numbers, with m numbers of scratch.
+fn show(p: u64, g: &[u64], h: &[u64], budget: u64, n: usize, m: usize) {
+    let mut rows = [9u16; 150];
+    let mut scratch = [8u16; 150];
+    if n <= 150 {
+        if m <= 150 {
+            let z: usize = 0;
+            answer(p, g, h, budget, &mut rows[z..n], &mut scratch[z..m]);
+        }
+    }
 }
 
 fn differs(x: u16, v: u16) -> u64
@@ -104,164 +116,64 @@ fn worked_in_000() {
     line_end();
 }
 
-// G = t³ + 4, H = 1 over 5: the inverse is t + 4r.
-fn first() {
-    let mut rows = [9u16; 18];
-    let mut scratch = [8u16; 18];
-    show(5, &[4u64, 0, 0, 1], &[1u64], 1000, &mut rows, &mut scratch);
+// Worked by hand.
+fn by_hand() {
+    // G = t³ + 4, H = 1 over 5: the inverse is t + 4r.
+    show(5, &[4u64, 0, 0, 1], &[1u64], 1000, 18, 18);
+    // G = t, H = t + 1 over 5: the inverse is 4 + 3r + 2w.
+    show(5, &[0u64, 1], &[1u64, 1], 1000, 18, 18);
+    // G = t³ + t, H = 1 over 5: the inverse is 4 + 2tr + 3w; 5 coefficients are room enough ..
+    show(5, &[0u64, 1, 0, 1], &[1u64], 1000, 30, 30);
+    // .. and 4 are not.
+    show(5, &[0u64, 1, 0, 1], &[1u64], 1000, 24, 24);
+    // More room: zeros above.
+    show(5, &[0u64, 1, 0, 1], &[1u64], 1000, 42, 42);
 }
 
-// G = t, H = t + 1 over 5: the inverse is 4 + 3r + 2w.
-fn second() {
-    let mut rows = [9u16; 18];
-    let mut scratch = [8u16; 18];
-    show(5, &[0u64, 1], &[1u64, 1], 1000, &mut rows, &mut scratch);
+// Too few steps, too little room.
+fn steps() {
+    // Two steps close it ..
+    show(5, &[0u64, 1, 0, 1], &[1u64], 2, 30, 30);
+    // .. and one does not, which comes before the room.
+    show(5, &[0u64, 1, 0, 1], &[1u64], 1, 24, 24);
+    // No step closes nothing.
+    show(5, &[0u64, 1, 0, 1], &[1u64], 0, 30, 30);
+    // No room is within the rule of lengths.
+    show(5, &[0u64, 1, 0, 1], &[1u64], 1000, 0, 0);
+    // 10 before 11.
+    show(5, &[0u64, 1, 0, 1], &[1u64], 0, 0, 0);
 }
 
-// G = t³ + t, H = 1 over 5: the inverse is 4 + 2tr + 3w; 5 coefficients are room enough ..
-fn third() {
-    let mut rows = [9u16; 30];
-    let mut scratch = [8u16; 30];
-    show(5, &[0u64, 1, 0, 1], &[1u64], 1000, &mut rows, &mut scratch);
+// Lengths and budget out of their rule; what comes before that.
+fn lengths() {
+    // Slices of unequal length.
+    show(5, &[0u64, 1, 0, 1], &[1u64], 1000, 30, 36);
+    // A length that 6 does not divide.
+    show(5, &[0u64, 1, 0, 1], &[1u64], 1000, 31, 31);
+    // A budget over 1,000,000, which comes before 10 and 11 ..
+    show(5, &[0u64, 1, 0, 1], &[1u64], 1000001, 24, 24);
+    // .. and after 1 to 8.
+    show(7, &[0u64, 1], &[1u64, 1], 1000001, 7, 8);
+    // t⁵ + 1 over 5 is a fifth power.
+    show(5, &[1u64, 0, 0, 0, 0, 1], &[2u64, 0, 1], 1000, 18, 18);
 }
 
-// .. and 4 are not.
-fn too_narrow() {
-    let mut rows = [9u16; 24];
-    let mut scratch = [8u16; 24];
-    show(5, &[0u64, 1, 0, 1], &[1u64], 1000, &mut rows, &mut scratch);
-}
-
-// More room: zeros above.
-fn more_room() {
-    let mut rows = [9u16; 42];
-    let mut scratch = [8u16; 42];
-    show(5, &[0u64, 1, 0, 1], &[1u64], 1000, &mut rows, &mut scratch);
-}
-
-// Two steps close it ..
-fn just_enough_steps() {
-    let mut rows = [9u16; 30];
-    let mut scratch = [8u16; 30];
-    show(5, &[0u64, 1, 0, 1], &[1u64], 2, &mut rows, &mut scratch);
-}
-
-// .. and one does not, which comes before the room.
-fn too_few_steps() {
-    let mut rows = [9u16; 24];
-    let mut scratch = [8u16; 24];
-    show(5, &[0u64, 1, 0, 1], &[1u64], 1, &mut rows, &mut scratch);
-}
-
-// No step closes nothing.
-fn no_steps() {
-    let mut rows = [9u16; 30];
-    let mut scratch = [8u16; 30];
-    show(5, &[0u64, 1, 0, 1], &[1u64], 0, &mut rows, &mut scratch);
-}
-
-// No room is within the rule of lengths.
-fn no_room() {
-    let mut rows = [9u16; 0];
-    let mut scratch = [8u16; 0];
-    show(5, &[0u64, 1, 0, 1], &[1u64], 1000, &mut rows, &mut scratch);
-}
-
-// 10 before 11.
-fn no_room_no_steps() {
-    let mut rows = [9u16; 0];
-    let mut scratch = [8u16; 0];
-    show(5, &[0u64, 1, 0, 1], &[1u64], 0, &mut rows, &mut scratch);
-}
-
-// Slices of unequal length.
-fn uneven() {
-    let mut rows = [9u16; 30];
-    let mut scratch = [8u16; 36];
-    show(5, &[0u64, 1, 0, 1], &[1u64], 1000, &mut rows, &mut scratch);
-}
-
-// A length that 6 does not divide.
-fn no_six() {
-    let mut rows = [9u16; 31];
-    let mut scratch = [8u16; 31];
-    show(5, &[0u64, 1, 0, 1], &[1u64], 1000, &mut rows, &mut scratch);
-}
-
-// A budget over 1,000,000, which comes before 10 and 11 ..
-fn large_budget() {
-    let mut rows = [9u16; 24];
-    let mut scratch = [8u16; 24];
-    show(
-        5,
-        &[0u64, 1, 0, 1],
-        &[1u64],
-        1000001,
-        &mut rows,
-        &mut scratch,
-    );
-}
-
-// .. and after 1 to 8.
-fn wrong_prime() {
-    let mut rows = [9u16; 7];
-    let mut scratch = [8u16; 8];
-    show(7, &[0u64, 1], &[1u64, 1], 1000001, &mut rows, &mut scratch);
-}
-
-// t⁵ + 1 over 5 is a fifth power.
-fn square_factor() {
-    let mut rows = [9u16; 18];
-    let mut scratch = [8u16; 18];
-    show(
-        5,
-        &[1u64, 0, 0, 0, 0, 1],
-        &[2u64, 0, 1],
-        1000,
-        &mut rows,
-        &mut scratch,
-    );
-}
-
-// M³ - 2 for M of degree 1 over 11: M² + Mr + w.
-fn cube_less_constant_1() {
-    let mut rows = [9u16; 18];
-    let mut scratch = [8u16; 18];
-    show(11, &[3u64, 5, 9, 1], &[1u64], 1000, &mut rows, &mut scratch);
-}
-
-// M³ - 5 for M of degree 2 over 17: M² + Mr + w.
-fn cube_less_constant_2() {
-    let mut rows = [9u16; 30];
-    let mut scratch = [8u16; 30];
-    show(
-        17,
-        &[13u64, 0, 3, 0, 3, 0, 1],
-        &[1u64],
-        1000,
-        &mut rows,
-        &mut scratch,
-    );
-}
-
-// M³ - 7 for M of degree 3 over 23: M² + Mr + w.
-fn cube_less_constant_3() {
-    let mut rows = [9u16; 42];
-    let mut scratch = [8u16; 42];
+// D = M³ - a: one step.
+fn constants() {
+    // M³ - 2 for M of degree 1 over 11: M² + Mr + w.
+    show(11, &[3u64, 5, 9, 1], &[1u64], 1000, 18, 18);
+    // M³ - 5 for M of degree 2 over 17: M² + Mr + w.
+    show(17, &[13u64, 0, 3, 0, 3, 0, 1], &[1u64], 1000, 30, 30);
+    // M³ - 7 for M of degree 3 over 23: M² + Mr + w.
     show(
         23,
         &[1u64, 12, 6, 13, 12, 3, 6, 3, 0, 1],
         &[1u64],
         1000,
-        &mut rows,
-        &mut scratch,
+        42,
+        42,
     );
-}
-
-// M³ - 65517 for M of degree 4 over 65519: M² + Mr + w.
-fn cube_less_constant_4() {
-    let mut rows = [9u16; 54];
-    let mut scratch = [8u16; 54];
+    // M³ - 65517 for M of degree 4 over 65519: M² + Mr + w.
     show(
         65519,
         &[
@@ -281,78 +193,33 @@ fn cube_less_constant_4() {
         ],
         &[1u64],
         1000,
-        &mut rows,
-        &mut scratch,
+        54,
+        54,
     );
+    // The same for H in the place of G, over 11: r and w exchanged.
+    show(11, &[1u64], &[3u64, 5, 9, 1], 1000, 18, 18);
+    // The same for H in the place of G, over 17: r and w exchanged.
+    show(17, &[1u64], &[13u64, 0, 3, 0, 3, 0, 1], 1000, 30, 30);
 }
 
-// The same for H in the place of G, over 11: r and w exchanged.
-fn exchanged_1() {
-    let mut rows = [9u16; 18];
-    let mut scratch = [8u16; 18];
-    show(11, &[1u64], &[3u64, 5, 9, 1], 1000, &mut rows, &mut scratch);
-}
-
-// The same for H in the place of G, over 17: r and w exchanged.
-fn exchanged_2() {
-    let mut rows = [9u16; 30];
-    let mut scratch = [8u16; 30];
-    show(
-        17,
-        &[1u64],
-        &[13u64, 0, 3, 0, 3, 0, 1],
-        1000,
-        &mut rows,
-        &mut scratch,
-    );
-}
-
-// M³ - 3M for M of degree 1 over 5: two steps.
-fn cube_less_multiple_1() {
-    let mut rows = [9u16; 30];
-    let mut scratch = [8u16; 30];
-    show(5, &[3u64, 0, 3, 1], &[1u64], 1000, &mut rows, &mut scratch);
-}
-
-// M³ - 3M for M of degree 1 over 11: two steps.
-fn cube_less_multiple_2() {
-    let mut rows = [9u16; 30];
-    let mut scratch = [8u16; 30];
-    show(11, &[0u64, 8, 0, 1], &[1u64], 1000, &mut rows, &mut scratch);
-}
-
-// M³ - 5M for M of degree 2 over 17: two steps.
-fn cube_less_multiple_3() {
-    let mut rows = [9u16; 54];
-    let mut scratch = [8u16; 54];
-    show(
-        17,
-        &[15u64, 7, 13, 13, 9, 3, 1],
-        &[1u64],
-        1000,
-        &mut rows,
-        &mut scratch,
-    );
-}
-
-// M³ - 11M for M of degree 3 over 29: two steps.
-fn cube_less_multiple_4() {
-    let mut rows = [9u16; 78];
-    let mut scratch = [8u16; 78];
+// D = M³ - aM: two steps.
+fn multiples() {
+    // M³ - 3M for M of degree 1 over 5: two steps.
+    show(5, &[3u64, 0, 3, 1], &[1u64], 1000, 30, 30);
+    // M³ - 3M for M of degree 1 over 11: two steps.
+    show(11, &[0u64, 8, 0, 1], &[1u64], 1000, 30, 30);
+    // M³ - 5M for M of degree 2 over 17: two steps.
+    show(17, &[15u64, 7, 13, 13, 9, 3, 1], &[1u64], 1000, 54, 54);
+    // M³ - 11M for M of degree 3 over 29: two steps.
     show(
         29,
         &[19u64, 26, 19, 27, 24, 19, 3, 12, 0, 1],
         &[1u64],
         1000,
-        &mut rows,
-        &mut scratch,
+        78,
+        78,
     );
-}
-
-// M³ - 12345M for M of degree 4 over 65519: two steps.
-fn cube_less_multiple_5() {
-    let mut rows = [9u16; 102];
-    let mut scratch = [8u16; 102];
+    // M³ - 12345M for M of degree 4 over 65519: two steps.
     show(
         65519,
         &[
@@ -372,98 +239,51 @@ fn cube_less_multiple_5() {
         ],
         &[1u64],
         1000,
-        &mut rows,
-        &mut scratch,
+        102,
+        102,
     );
 }
 
-// M³ - F for F of degree 1 dividing M of degree 2 over 5: three steps.
-fn cube_less_divisor_1() {
-    let mut rows = [9u16; 66];
-    let mut scratch = [8u16; 66];
-    show(
-        5,
-        &[0u64, 4, 0, 1, 3, 3, 1],
-        &[1u64],
-        1000,
-        &mut rows,
-        &mut scratch,
-    );
-}
-
-// M³ - F for F of degree 2 dividing M of degree 3 over 11: three steps.
-fn cube_less_divisor_2() {
-    let mut rows = [9u16; 90];
-    let mut scratch = [8u16; 90];
+// D = M³ - F where F divides M: three steps.
+fn divisors() {
+    // M³ - F for F of degree 1 dividing M of degree 2 over 5: three steps.
+    show(5, &[0u64, 4, 0, 1, 3, 3, 1], &[1u64], 1000, 66, 66);
+    // M³ - F for F of degree 2 dividing M of degree 3 over 11: three steps.
     show(
         11,
         &[0u64, 10, 10, 0, 0, 0, 1, 3, 3, 1],
         &[1u64],
         1000,
-        &mut rows,
-        &mut scratch,
+        90,
+        90,
     );
-}
-
-// M³ - F for F of degree 1 dividing M of degree 4 over 17: three steps.
-fn cube_less_divisor_3() {
-    let mut rows = [9u16; 138];
-    let mut scratch = [8u16; 138];
+    // M³ - F for F of degree 1 dividing M of degree 4 over 17: three steps.
     show(
         17,
         &[0u64, 16, 0, 10, 0, 0, 10, 0, 0, 9, 0, 0, 1],
         &[1u64],
         1000,
-        &mut rows,
-        &mut scratch,
+        138,
+        138,
     );
-}
-
-// M³ - F for F of degree 1 dividing M of degree 3 over 65519: three steps.
-fn cube_less_divisor_4() {
-    let mut rows = [9u16; 102];
-    let mut scratch = [8u16; 102];
+    // M³ - F for F of degree 1 dividing M of degree 3 over 65519: three steps.
     show(
         65519,
         &[0u64, 1, 0, 8, 12, 18, 13, 9, 3, 1],
         &[1u64],
         1000,
-        &mut rows,
-        &mut scratch,
+        102,
+        102,
     );
 }
 
 fn main() {
-    first();
-    second();
-    third();
-    too_narrow();
-    more_room();
-    just_enough_steps();
-    too_few_steps();
-    no_steps();
-    no_room();
-    no_room_no_steps();
-    uneven();
-    no_six();
-    large_budget();
-    wrong_prime();
-    square_factor();
-    cube_less_constant_1();
-    cube_less_constant_2();
-    cube_less_constant_3();
-    cube_less_constant_4();
-    exchanged_1();
-    exchanged_2();
-    cube_less_multiple_1();
-    cube_less_multiple_2();
-    cube_less_multiple_3();
-    cube_less_multiple_4();
-    cube_less_multiple_5();
-    cube_less_divisor_1();
-    cube_less_divisor_2();
-    cube_less_divisor_3();
-    cube_less_divisor_4();
+    by_hand();
+    steps();
+    lengths();
+    constants();
+    multiples();
+    divisors();
     too_long();
     worked_in_000();
 }
