@@ -1,2 +1,4 @@
 pub mod Fields
+pub mod Floors
+pub mod Bases
 pub mod Trying

@@ -87,13 +87,21 @@ module _ (p : ℕ) where
     c = β *ˡ b .M .c +ˡ γ *ˡ b .N .c;
   }
 
-  -- v lies in the lattice, with the coordinates β and γ
+  -- the coordinates of v, as quotients by e and U
+  abbrev pub βOf : Rows → Tri (List ℕ) → List ℕ
+  βOf b v = quotient p (v .b *ˡ b .N .c +ˡ -ˡ (v .c *ˡ b .N .b)) (detL b)
+
+  abbrev pub γOf : Rows → Tri (List ℕ) → List ℕ
+  γOf b v = quotient p (v .c *ˡ b .M .b +ˡ -ˡ (v .b *ˡ b .M .c)) (detL b)
+
+  abbrev pub αOf : Rows → Tri (List ℕ) → List ℕ → List ℕ → List ℕ
+  αOf b v β γ = quotient p (v .a +ˡ -ˡ (β *ˡ b .M .a +ˡ γ *ˡ b .N .a)) (b .U)
+
   abbrev pub liesBy : Rows → Tri (List ℕ) → List ℕ → List ℕ → Bool
-  liesBy b v β γ = alikeT p v (linL b (quotient p (v .a +ˡ -ˡ (β *ˡ b .M .a +ˡ γ *ˡ b .N .a)) (b .U)) β γ)
+  liesBy b v β γ = alikeT p v (linL b (αOf b v β γ) β γ)
 
   abbrev pub lies : Rows → Tri (List ℕ) → Bool
-  lies b v =
-      liesBy b v (quotient p (v .b *ˡ b .N .c +ˡ -ˡ (v .c *ˡ b .N .b)) (detL b)) (quotient p (v .c *ˡ b .M .b +ˡ -ˡ (v .b *ˡ b .M .c)) (detL b))
+  lies b v = liesBy b v (βOf b v) (γOf b v)
 
   -- ---- elements
   abbrev pub pure : List ℕ → Tri (List ℕ)
@@ -127,20 +135,22 @@ module _ (p : ℕ) where
   hasTop l = ends l (suc (last l)) && some (getD l (last l) 0)
 
   module _ (G H r w : List ℕ) where
-    abbrev pub high : ℕ
-    high = degR (length G - 1) (length H - 1)
+    -- the polynomial parts of X and Y of an element
+    abbrev pub xPart : Tri (List ℕ) → List ℕ
+    xPart v = plusPart p (v .b) (v .c) r w (degR (length G - 1) (length H - 1)) (degW (length G - 1) (length H - 1))
 
-    abbrev pub wide : ℕ
-    wide = degW (length G - 1) (length H - 1)
+    abbrev pub yPart : Tri (List ℕ) → List ℕ
+    yPart v = minusPart p (v .b) (v .c) r w (degR (length G - 1) (length H - 1)) (degW (length G - 1) (length H - 1))
+
+    abbrev pub short : Tri (List ℕ) → Bool
+    short v = ends (v .b) 17 && ends (v .c) 17
 
     abbrev pub sizes : Rows → Bool
-    sizes b = shaped b
-        (plusPart p (b .M .b) (b .M .c) r w high wide) (minusPart p (b .M .b) (b .M .c) r w high wide)
-        (plusPart p (b .N .b) (b .N .c) r w high wide) (minusPart p (b .N .b) (b .N .c) r w high wide)
+    sizes b = shaped b (xPart (b .M)) (yPart (b .M)) (xPart (b .N)) (yPart (b .N))
 
     abbrev pub good : Rows → List Bool
     good b =
-        every (begins G H r w) ∷ leb enough (length r) ∷ ends (b .M .b) 17 ∷ ends (b .M .c) 17 ∷ ends (b .N .b) 17 ∷ ends (b .N .c) 17
+        every (begins G H r w) ∷ leb enough (length r) ∷ short (b .M) ∷ short (b .N)
         ∷ sizes b ∷ hasTop (detL b) ∷ apart (b .U) (b .M .c)
         ∷ lies b (by G H rootR (pure (b .U))) ∷ lies b (by G H rootR (b .M)) ∷ lies b (by G H rootR (b .N))
         ∷ lies b (by G H rootW (pure (b .U))) ∷ lies b (by G H rootW (b .M)) ∷ lies b (by G H rootW (b .N)) ∷ []
