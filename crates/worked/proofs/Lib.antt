@@ -1,4 +1,5 @@
 pub mod Fields
 pub mod Floors
 pub mod Bases
-pub mod Trying
+pub mod Steps
+
