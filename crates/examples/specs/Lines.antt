@@ -1,0 +1,105 @@
+-- A line of the table of worked examples: which function, which input, which answer.
+--   Input            p, G and H
+--   element A B C    A + B r + C w
+--   Lists            the lists that a refusal is spoken of: whatever G and H, or an empty G with whatever H
+--   sixRows c E F    E0, E1, E2, F0, F1, F2, each c coefficients with zeros above
+--   Line             a line; Holds, what it says: any outcome that meets the function's contract at that input is the line's
+--   AllHold          all of a list of lines hold
+-- A polynomial is a list of coefficients, lowest first. The contracts' definitions are those of crates field, series, bases, stepped, walk,
+-- unit and book; `Rows` and `stored` (crate worked) write a basis and its record of 119 numbers.
+use mathlib.Core.Path.{_≡_}
+use mathlib.Core.List.{List, [], _∷_, _++_}
+use Prim.Native.Nat.{ℕ, _*_}
+use lib.ListN.{length, take, replicate}
+use Rattle.cubic.specs.Tri.{Tri}
+use Rattle.ideals.specs.Element.{norm}
+use Rattle.field.specs.Refusal.{Accepted}
+use Rattle.field.specs.Opening.{Opens, nothing}
+use Rattle.field.specs.declared.Opened.{Opened}
+use Rattle.record.specs.Record.{setting, polyOf}
+use Rattle.series.specs.Answer as filled
+use Rattle.bases.specs.Answer.{Orders}
+use Rattle.bases.specs.declared.Ordered.{Ordered}
+use Rattle.stepped.specs.Answer.{Answers}
+use Rattle.stepped.specs.declared.Stepped.{Stepped}
+use Rattle.walk.specs.Walk.{Walks}
+use Rattle.walk.specs.declared.Walked.{Walked}
+use Rattle.unit.specs.Unit.{six, Makes}
+use Rattle.unit.specs.declared.Made.{Made}
+use Rattle.book.specs.Answer.{answerSays, Tells}
+use Rattle.book.specs.declared.Answer.{Answer}
+use Rattle.book.specs.declared.Answer.the-variants.{Yes, Refused}
+use Rattle.book.specs.declared.Reason.the-variants.{Mark}
+use Rattle.worked.specs.Rows.{Rows, stored}
+
+pub record Input : Type 0 where
+  pub p : ℕ
+  pub G : List ℕ
+  pub H : List ℕ
+
+abbrev pub element : List ℕ → List ℕ → List ℕ → Tri (List ℕ)
+element A B C = record { a = A; b = B; c = C }
+
+pub data Lists : Type 0 where
+  whatever : Lists
+  empty-G : Lists
+
+abbrev pub wide : ℕ → List ℕ → List ℕ
+wide c l = take c (l ++ replicate c 0)
+
+abbrev pub sixRows : ℕ → Tri (List ℕ) → Tri (List ℕ) → List ℕ
+sixRows c E F = wide c (E .a) ++ (wide c (E .b) ++ (wide c (E .c) ++ (wide c (F .a) ++ (wide c (F .b) ++ wide c (F .c)))))
+
+abbrev pub made : ℕ → ℕ → ℕ → Made
+made n period regulator = record { refusal = n; period = record { 0 = period }; regulator = record { 0 = regulator } }
+
+pub data Line : Type 0 where
+  -- opening p with these lists is refused with this number
+  refuses : (p : ℕ) (lists : Lists) (number : ℕ) → Line
+  -- the first coefficients of r and of w
+  series : (k : Input) (r w : List ℕ) → Line
+  -- the basis of O
+  order : (k : Input) (basis : Rows) → Line
+  -- the step from a basis: the degree of m, and the next basis
+  steps : (k : Input) (from : Rows) (degree : ℕ) (basis : Rows) → Line
+  -- a walk within a budget closes: the steps, the sum of the degrees, the last basis
+  closes : (k : Input) (budget : ℕ) (from : Rows) (steps sum : ℕ) (basis : Rows) → Line
+  -- it does not, and is refused 10: the sum and the basis reached
+  spends : (k : Input) (budget : ℕ) (from : Rows) (sum : ℕ) (basis : Rows) → Line
+  -- the unit in rows of c coefficients: period, regulator, the unit and its inverse
+  unit : (k : Input) (budget c period regulator : ℕ) (E F : Tri (List ℕ)) → Line
+  -- its norm
+  unit-norm : (k : Input) (budget c : ℕ) (N : List ℕ) → Line
+  -- c is too little room: refused 11
+  narrow : (k : Input) (budget c : ℕ) → Line
+  -- the empty book of 6 bytes passes; so many bytes are refused 13 for their mark
+  empty-book : Line
+  no-book : (bytes : ℕ) → Line
+
+abbrev pub Refuses : ℕ → List ℕ → List ℕ → ℕ → Type 0
+Refuses p G H n = (o : Opened) → Opens p G H o → o ≡ record { refusal = n; field = nothing }
+
+abbrev pub Holds : Line → Type 0
+Holds (refuses p whatever n) = (G H : List ℕ) → Refuses p G H n
+Holds (refuses p empty-G n) = (H : List ℕ) → Refuses p [] H n
+Holds (series k r w) = (r₀ w₀ r′ w′ : List ℕ) (n : ℕ) → length r₀ ≡ length r → length w₀ ≡ length r
+    → filled.Answer (k .p) (k .G) (k .H) r₀ w₀ r′ w′ n → (n ≡ 0) × (r′ ≡ r) × (w′ ≡ w)
+Holds (order k b) = (o : Ordered) → Orders (k .p) (k .G) (k .H) o → o ≡ record { refusal = 0; basis = stored b }
+Holds (steps k from d b) = (s : Stepped) → Answers (k .p) (k .G) (k .H) (stored from) s → s ≡ record { refusal = 0; degree = d; basis = stored b }
+Holds (closes k n from s d b) = (v : Walked) → Walks (k .p) (k .G) (k .H) n (stored from) v → v ≡ record { refusal = 0; steps = s; sum = d; basis = stored b }
+Holds (spends k n from d b) = (v : Walked) → Walks (k .p) (k .G) (k .H) n (stored from) v → v ≡ record { refusal = 10; steps = n; sum = d; basis = stored b }
+Holds (unit k n c l h E F) = (rows scratch : List ℕ) → length rows ≡ 6 * c → length scratch ≡ 6 * c
+    → (m : Made) (rows′ scratch′ : List ℕ) → Makes (k .p) (k .G) (k .H) n rows scratch m rows′ scratch′
+    → (m ≡ made 0 l h) × (rows′ ≡ sixRows c E F) × (scratch′ ≡ replicate (6 * c) 0)
+Holds (unit-norm k n c N) = (rows scratch : List ℕ) → length rows ≡ 6 * c → length scratch ≡ 6 * c
+    → (m : Made) (rows′ scratch′ : List ℕ) → Makes (k .p) (k .G) (k .H) n rows scratch m rows′ scratch′
+    → (A : Accepted (k .p) (k .G) (k .H)) → norm (setting A) (six A c 0 rows′) ≡ polyOf A N
+Holds (narrow k n c) = (rows scratch : List ℕ) → length rows ≡ 6 * c → length scratch ≡ 6 * c
+    → (m : Made) (rows′ scratch′ : List ℕ) → Makes (k .p) (k .G) (k .H) n rows scratch m rows′ scratch′
+    → (m ≡ made 11 0 0) × (rows′ ≡ rows) × (scratch′ ≡ scratch)
+Holds empty-book = (a : Answer) → Tells (80 ∷ 67 ∷ 70 ∷ 49 ∷ 0 ∷ 0 ∷ []) (answerSays a) → a ≡ Yes
+Holds (no-book n) = (s : List ℕ) → length s ≡ n → (a : Answer) → Tells s (answerSays a) → a ≡ Refused Mark
+
+abbrev pub AllHold : List (ℕ × Line) → Type 0
+AllHold [] = Unit {0}
+AllHold ((n, l) ∷ ls) = Holds l × AllHold ls
