@@ -46,7 +46,7 @@ use Rattle.worked.specs.Tests.{every, last, some, αOf, βOf, γOf, lies
 use Rattle.worked.proofs.Fields.{every-at, series-of}
 use Rattle.worked.proofs.Floors.{lead-floor, lt-floor, has-floor, has-top, cast-two, floor-double}
 
-or-cases : (a b : Bool) → T (a || b) → T a ⊎ T b
+pub or-cases : (a b : Bool) → T (a || b) → T a ⊎ T b
 or-cases true b t = inl tt
 or-cases false b t = inr t
 

@@ -60,7 +60,7 @@ module _ {p : ℕ} {G H : List ℕ} (A : Accepted p G H) (r w : List ℕ) where
     good-at [] t = good-rows A r w b g
     good-at (c ∷ cs) t = good-rows A r w c (every-at (step p G H r w (at b cs) c) (and-r (walks p G H r w b cs) _ t) 0)
 
-    degree-at : (cs : List Rows) (c : Rows) → T (walks p G H r w b cs) → T (every (step p G H r w (at b cs) c)) → Degree (setting A) (basisL A (at b cs)) (degreeL (at b cs))
+    pub degree-at : (cs : List Rows) (c : Rows) → T (walks p G H r w b cs) → T (every (step p G H r w (at b cs) c)) → Degree (setting A) (basisL A (at b cs)) (degreeL (at b cs))
     degree-at cs c t s =
         let k : (i : ℕ) → T (getD (step p G H r w (at b cs) c) i true) = every-at (step p G H r w (at b cs) c) s in
         degree-M0 S (basisL A (at b cs)) (good-at cs t) (has-top ρ (at b cs .M .a) (k 2)) (has-top ρ (at b cs .U) (k 3))

@@ -1,0 +1,82 @@
+-- The lines that need no basis: refusals, series, the book.
+--   refuses-one, series-sound, empty-book-holds, no-book-sound
+use mathlib.Core.Path.{_≡_, refl, sym, ap, _∙_, subst}
+use mathlib.Core.Logic.{_≢_, inl, inr}
+use mathlib.Core.Bool.{Bool, true, false, _&&_, _||_}
+use mathlib.Core.List.{List, [], _∷_}
+use Prim.Native.Nat.{ℕ, zero, suc, _+_, _*_, _%_, _<_, _≤_}
+use native.Mathlib.Omega.{arith}
+use lib.Dec.{T, eqb, ltb, leb, eqb→eq, ltb→lt, leb→le}
+use lib.ListN.{length, getD}
+use Rattle.fp.proofs.Trial.{primeb, primeb-sound}
+use Rattle.prime.specs.Table.{largest}
+use Rattle.field.specs.Refusal.{Fault1, Refusal, Accepted}
+use Rattle.field.specs.Opening.{Opens, nothing}
+use Rattle.field.specs.declared.Opened.{Opened}
+use Rattle.field.proofs.Accept.{accepted-none}
+use Rattle.field.proofs.Opening.{opens-one}
+use Rattle.series.specs.Answer as filled
+use Rattle.series.proofs.Answer.{done, answer-one}
+use Rattle.book_bytes.specs.Bytes.{val}
+use Rattle.book.specs.Book.{Marked, Listed, count, ends}
+use Rattle.book.specs.Book as book
+use Rattle.book.specs.Answer.{answerSays, Tells, mark, fine}
+use Rattle.book.specs.declared.Answer.{Answer}
+use Rattle.book.specs.declared.Answer.the-variants.{Yes, Refused}
+use Rattle.book.specs.declared.Reason.the-variants.{Mark}
+use Rattle.book.proofs.One as one
+use Rattle.worked.specs.Tests.{every, accepts, begins}
+use Rattle.worked.proofs.Fields.{every-at, accepted-of, series-of}
+use Rattle.worked.proofs.Bases.{or-cases}
+use Rattle.examples.specs.Lines.{Input, Refuses, whatever, empty-G, refuses, series, empty-book, no-book, Holds}
+use Rattle.examples.specs.Decide.{Hints, refused, field, decide}
+
+-- ---- refusals 1 and 2
+refused-is : (p n : ℕ) → T (refused p n) → (G H : List ℕ) → Refusal p G H n
+unfolding Refusal
+refused-is p zero t G H = absurd t
+refused-is p (suc zero) t G H = elim (or-cases (ltb p 5) (ltb largest p) t) [
+  | inl a ↦ inl (inl (ltb→lt p 5 a), refl)
+  | inr a ↦ inl (inr (inl (ltb→lt 65535 p a)), refl)
+]
+refused-is p (suc (suc zero)) t G H = inr (good, inl (eqb→eq (p % 3) 1 (at 3), refl))
+  where
+    at : (i : ℕ) → T (getD (primeb p ∷ leb 5 p ∷ leb p largest ∷ eqb (p % 3) 1 ∷ []) i true)
+    at = every-at (primeb p ∷ leb 5 p ∷ leb p largest ∷ eqb (p % 3) 1 ∷ []) t
+
+    good : Fault1 p → ⊥
+    good (inl f) = omega (arith, leb→le 5 p (at 1))
+    good (inr (inl f)) = omega (arith, leb→le p 65535 (at 2))
+    good (inr (inr f)) = f (primeb-sound p (at 0))
+refused-is p (suc (suc (suc n))) t G H = absurd t
+
+refused-some : (p n : ℕ) → T (refused p n) → n ≢ 0
+refused-some p zero t e = t
+refused-some p (suc n) t e = omega arith
+
+pub refuses-one : (p n : ℕ) → T (refused p n) → (G H : List ℕ) → Refuses p G H n
+refuses-one p n t G H o h = opens-one o (record { refusal = n; field = nothing }) h (record { number = refused-is p n t G H; zeros = λ f. refl; opened = λ e. absurd (refused-some p n t e) })
+
+-- ---- series
+pub series-sound : (k : Input) (r w : List ℕ) (h : Hints) → T (decide (series k r w) h) → Holds (series k r w)
+series-sound k r w h t r₀ w₀ r′ w′ n sr sw a =
+    let list : List Bool = field k h ∷ every (begins (k .p) (k .G) (k .H) r w) ∷ leb (length r) 4096 ∷ [] in
+    let at : (i : ℕ) → T (getD list i true) = every-at list t in
+    let A : Accepted (k .p) (k .G) (k .H) = accepted-of (k .p) (k .G) (k .H) (at 0) in
+    let l : length r ≤ 4096 = leb→le (length r) 4096 (at 2) in
+    answer-one r′ w′ r w a (done (accepted-none (k .p) (k .G) (k .H) A) (record { even = sw ∙ sym sr; short = omega arith }) (record { size = sym sr; series = series-of (k .p) (k .G) (k .H) r w (at 1) }))
+
+-- ---- the book
+empty-passes : book.Accepted (80 ∷ 67 ∷ 70 ∷ 49 ∷ 0 ∷ 0 ∷ [])
+unfolding val ends
+empty-passes = record {
+  marked = record { low = omega arith; high = omega arith; mark = refl };
+  listed = record { starts = λ i l. absurd (omega (arith, l)); whole = refl };
+  good = λ i l. absurd (omega (arith, l));
+}
+
+pub empty-book-holds : Holds empty-book
+empty-book-holds a t = one.answer-one a Yes (one.tells-one (80 ∷ 67 ∷ 70 ∷ 49 ∷ 0 ∷ 0 ∷ []) t (fine empty-passes refl))
+
+pub no-book-sound : (n : ℕ) → T (ltb n 6) → Holds (no-book n)
+no-book-sound n t s e a u = one.answer-one a (Refused Mark) (one.tells-one s u (mark (λ m. let l : n < 6 = ltb→lt n 6 t in omega (arith, m .low)) refl))
