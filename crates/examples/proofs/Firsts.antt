@@ -28,7 +28,7 @@ use Rattle.book.proofs.One as one
 use Rattle.worked.specs.Tests.{every, accepts, begins}
 use Rattle.worked.proofs.Fields.{every-at, accepted-of, series-of}
 use Rattle.worked.proofs.Bases.{or-cases}
-use Rattle.examples.specs.Lines.{Input, Refuses, whatever, empty-G, refuses, series, empty-book, no-book, Holds}
+use Rattle.examples.specs.Lines.{Input, Only, Refuses, whatever, empty-G, refuses, series, empty-book, no-book, Holds}
 use Rattle.examples.specs.Decide.{Hints, refused, field, decide}
 
 -- ---- refusals 1 and 2
@@ -55,16 +55,19 @@ refused-some p zero t e = t
 refused-some p (suc n) t e = omega arith
 
 pub refuses-one : (p n : ℕ) → T (refused p n) → (G H : List ℕ) → Refuses p G H n
-refuses-one p n t G H o h = opens-one o (record { refusal = n; field = nothing }) h (record { number = refused-is p n t G H; zeros = λ f. refl; opened = λ e. absurd (refused-some p n t e) })
+refuses-one p n t G H =
+    let m : Opens p G H (record { refusal = n; field = nothing }) = record { number = refused-is p n t G H; zeros = λ f. refl; opened = λ e. absurd (refused-some p n t e) } in
+    record { meets = m; alone = λ o h. opens-one o (record { refusal = n; field = nothing }) h m }
 
 -- ---- series
 pub series-sound : (k : Input) (r w : List ℕ) (h : Hints) → T (decide (series k r w) h) → Holds (series k r w)
-series-sound k r w h t r₀ w₀ r′ w′ n sr sw a =
+series-sound k r w h t r₀ w₀ sr sw =
     let list : List Bool = field k h ∷ every (begins (k .p) (k .G) (k .H) r w) ∷ leb (length r) 4096 ∷ [] in
     let at : (i : ℕ) → T (getD list i true) = every-at list t in
     let A : Accepted (k .p) (k .G) (k .H) = accepted-of (k .p) (k .G) (k .H) (at 0) in
     let l : length r ≤ 4096 = leb→le (length r) 4096 (at 2) in
-    answer-one r′ w′ r w a (done (accepted-none (k .p) (k .G) (k .H) A) (record { even = sw ∙ sym sr; short = omega arith }) (record { size = sym sr; series = series-of (k .p) (k .G) (k .H) r w (at 1) }))
+    let m : filled.Answer (k .p) (k .G) (k .H) r₀ w₀ r w 0 = done (accepted-none (k .p) (k .G) (k .H) A) (record { even = sw ∙ sym sr; short = omega arith }) (record { size = sym sr; series = series-of (k .p) (k .G) (k .H) r w (at 1) }) in
+    record { meets = m; alone = λ o a. let (x, y, z) = answer-one (o .1) (o .2) r w a m in λ i. (x i, y i, z i) }
 
 -- ---- the book
 empty-passes : book.Accepted (80 ∷ 67 ∷ 70 ∷ 49 ∷ 0 ∷ 0 ∷ [])
@@ -75,8 +78,12 @@ empty-passes = record {
   good = λ i l. absurd (omega (arith, l));
 }
 
+-- the check of a book has one answer
+tells : (s : List ℕ) (a : Answer) → Tells s (answerSays a) → Only (λ a. Tells s (answerSays a)) a
+tells s a t = record { meets = t; alone = λ b u. one.answer-one b a (one.tells-one s u t) }
+
 pub empty-book-holds : Holds empty-book
-empty-book-holds a t = one.answer-one a Yes (one.tells-one (80 ∷ 67 ∷ 70 ∷ 49 ∷ 0 ∷ 0 ∷ []) t (fine empty-passes refl))
+empty-book-holds = tells (80 ∷ 67 ∷ 70 ∷ 49 ∷ 0 ∷ 0 ∷ []) Yes (fine empty-passes refl)
 
 pub no-book-sound : (n : ℕ) → T (ltb n 6) → Holds (no-book n)
-no-book-sound n t s e a u = one.answer-one a (Refused Mark) (one.tells-one s u (mark (λ m. let l : n < 6 = ltb→lt n 6 t in omega (arith, m .low)) refl))
+no-book-sound n t s e = tells s (Refused Mark) (mark (λ m. let l : n < 6 = ltb→lt n 6 t in omega (arith, m .low)) refl)

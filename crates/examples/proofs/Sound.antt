@@ -20,9 +20,9 @@ sound (order k b) h t = order-sound k h b t
 sound (steps k a d b) h t = steps-sound k h a d b t
 sound (closes k n a s d b) h t = closes-sound k h n a s d b t
 sound (spends k n a d b) h t = spends-sound k h n a d b t
-sound (unit k n c l e E F) h t = unit-sound k h n c l e E F t
-sound (unit-norm k n c N) h t = norm-sound k h n c N t
-sound (narrow k n c) h t = narrow-sound k h n c t
+sound (unit k c l e E F) h t = unit-sound k h c l e E F t
+sound (unit-norm k c l N) h t = norm-sound k h c l N t
+sound (narrow k c l) h t = narrow-sound k h c l t
 sound empty-book h t = empty-book-holds
 sound (no-book n) h t = no-book-sound n t
 

@@ -12,7 +12,7 @@ use Rattle.cubicfield.specs.First.{conv}
 use Rattle.cubicfield.specs.Prefix.{partAt, plusPart, minusPart}
 use Rattle.worked.specs.Rows.{Rows}
 use Rattle.examples.specs.Lines.{element, AllHold}
-use Rattle.examples.specs.Table.{k₁, b₁, b₂, b₃, b₄, table}
+use Rattle.examples.specs.Table.{b₁, b₂, b₃, b₄, e₃, f₃, table}
 use Rattle.examples.specs.Decide.{Hints, decideAll}
 use Rattle.examples.proofs.Sound.{all-sound}
 
@@ -45,8 +45,8 @@ h₃ = record {
   w = 1 ∷ 0 ∷ 4 ∷ 0 ∷ 1 ∷ 0 ∷ 4 ∷ 0 ∷ 1 ∷ 0 ∷ 1 ∷ 0 ∷ 4 ∷ 0 ∷ 1 ∷ 0 ∷ 4 ∷ 0 ∷ 1 ∷ 0 ∷ 0 ∷ 0 ∷ 0 ∷ 0 ∷ 0 ∷ 0 ∷ [];
   start = b₃;
   passed = b₃ ∷ b₄ ∷ [];
-  E = element (4 ∷ 0 ∷ 1 ∷ 0 ∷ 1 ∷ []) (0 ∷ 4 ∷ 0 ∷ 1 ∷ []) (2 ∷ 0 ∷ 1 ∷ []);
-  F = element (4 ∷ []) (0 ∷ 2 ∷ []) (3 ∷ []);
+  E = e₃;
+  F = f₃;
 }
 
 -- the same field, after the first step

@@ -60,13 +60,13 @@ module _ (k : Input) (h : Hints) where
   orders b = field ∷ every (isRecord b) ∷ isOne (b .U) ∷ []
 
   abbrev pub goesOn : Rows → ℕ → Rows → List Bool
-  goesOn a d b = field ∷ every (isRecord a) ∷ every (isRecord b) ∷ every (step (k .p) (k .G) (k .H) (h .r) (h .w) a b) ∷ eqb (degreeL a) d ∷ []
+  goesOn a d b = field ∷ every (isRecord a) ∷ every (kept (k .p) (stored b) b) ∷ every (step (k .p) (k .G) (k .H) (h .r) (h .w) a b) ∷ eqb (degreeL a) d ∷ []
 
   -- a walk from the record of a to that of b
   abbrev pub walked : ℕ → Rows → ℕ → ℕ → Rows → List Bool
   walked n a s d b =
       field ∷ leb n most ∷ every (isRecord a) ∷ isWalk a ∷ eqb (length (h .passed)) s ∷ eqb (total a (h .passed)) d
-      ∷ every (kept (k .p) (stored b) (at a (h .passed))) ∷ isGood (at a (h .passed)) ∷ []
+      ∷ every (kept (k .p) (stored b) (at a (h .passed))) ∷ []
 
   abbrev pub closing : ℕ → Rows → ℕ → ℕ → Rows → List Bool
   closing n a s d b = every (walked n a s d b) ∷ closed (k .p) (h .passed) ∷ leb s n ∷ []
@@ -74,9 +74,9 @@ module _ (k : Input) (h : Hints) where
   abbrev pub spending : ℕ → Rows → ℕ → Rows → List Bool
   spending n a d b = every (walked n a n d b) ∷ unclosed (k .p) (h .passed) ∷ []
 
-  -- the walk from the order, which closes after l steps
-  abbrev pub fromOrder : ℕ → ℕ → ℕ → List Bool
-  fromOrder n c l = field ∷ leb n most ∷ leb c longest ∷ isGood (h .start) ∷ isOne (h .start .U) ∷ isWalk (h .start) ∷ closed (k .p) (h .passed) ∷ eqb (length (h .passed)) l ∷ leb l n ∷ []
+  -- the walk from the order, which closes after l steps; c is within its rule
+  abbrev pub fromOrder : ℕ → ℕ → List Bool
+  fromOrder c l = field ∷ leb c longest ∷ isGood (h .start) ∷ isOne (h .start .U) ∷ isWalk (h .start) ∷ closed (k .p) (h .passed) ∷ eqb (length (h .passed)) l ∷ []
 
   abbrev pub rowsAt : ℕ → ℕ → List ℕ → Tri (List ℕ)
   rowsAt c i l = record { a = cut i c l; b = cut (i + c) c l; c = cut (i + c + c) c l }
@@ -84,9 +84,9 @@ module _ (k : Input) (h : Hints) where
   abbrev pub isSix : ℕ → Tri (List ℕ) → Tri (List ℕ) → List ℕ → List Bool
   isSix c E F l = eqb (length l) (6 * c) ∷ below (k .p) l ∷ alikeT (k .p) (rowsAt c 0 l) E ∷ alikeT (k .p) (rowsAt c (c + c + c) l) F ∷ []
 
-  abbrev pub makes : ℕ → ℕ → ℕ → ℕ → Tri (List ℕ) → Tri (List ℕ) → List Bool
-  makes n c l e E F =
-      every (fromOrder n c l) ∷ eqb (e + e) (total (h .start) (h .passed)) ∷ ltb (total (h .start) (h .passed)) c
+  abbrev pub makes : ℕ → ℕ → ℕ → Tri (List ℕ) → Tri (List ℕ) → List Bool
+  makes c l e E F =
+      every (fromOrder c l) ∷ eqb (e + e) (total (h .start) (h .passed)) ∷ ltb (total (h .start) (h .passed)) c
       ∷ every (isUnit (k .p) (k .G) (k .H) (h .start) (h .passed) E F) ∷ every (isSix c E F (sixRows c E F)) ∷ []
 
 abbrev pub decide : Line → Hints → Bool
@@ -96,10 +96,10 @@ decide (order k b) h = every (orders k h b)
 decide (steps k a d b) h = every (goesOn k h a d b)
 decide (closes k n a s d b) h = every (closing k h n a s d b)
 decide (spends k n a d b) h = every (spending k h n a d b)
-decide (unit k n c l e E F) h = every (makes k h n c l e E F)
-decide (unit-norm k n c N) h =
-    every (every (makes k h n c (length (h .passed)) (total (h .start) (h .passed) / 2) (h .E) (h .F)) ∷ alike (k .p) (normT (lists (k .p)) (k .G) (k .H) (h .E)) N ∷ [])
-decide (narrow k n c) h = every (every (fromOrder k h n c (length (h .passed))) ∷ leb c (total (h .start) (h .passed)) ∷ [])
+decide (unit k c l e E F) h = every (makes k h c l e E F)
+decide (unit-norm k c l N) h =
+    every (every (makes k h c l (total (h .start) (h .passed) / 2) (h .E) (h .F)) ∷ alike (k .p) (normT (lists (k .p)) (k .G) (k .H) (h .E)) N ∷ [])
+decide (narrow k c l) h = every (every (fromOrder k h c l) ∷ leb c (total (h .start) (h .passed)) ∷ [])
 decide empty-book h = true
 decide (no-book n) h = ltb n 6
 

@@ -1,6 +1,7 @@
 -- P1 to P12 of document 01 ("Worked by hand, p = 5"), each line with its number. `table-holds` in proofs/Table.antt: every line holds.
 use mathlib.Core.List.{List, [], _∷_}
 use Prim.Native.Nat.{ℕ}
+use Rattle.cubic.specs.Tri.{Tri}
 use Rattle.worked.specs.Rows.{Rows}
 use Rattle.examples.specs.Lines.{Input, element, whatever, empty-G, Line, refuses, series, order, steps, closes, spends, unit, unit-norm, narrow, empty-book, no-book}
 
@@ -48,27 +49,34 @@ b₄ = record {
   U = 0 ∷ 1 ∷ [];
 }
 
+-- the unit of k₃ and its inverse
+abbrev pub e₃ : Tri (List ℕ)
+e₃ = element (4 ∷ 0 ∷ 1 ∷ 0 ∷ 1 ∷ []) (0 ∷ 4 ∷ 0 ∷ 1 ∷ []) (2 ∷ 0 ∷ 1 ∷ [])
+
+abbrev pub f₃ : Tri (List ℕ)
+f₃ = element (4 ∷ []) (0 ∷ 2 ∷ []) (3 ∷ [])
+
 abbrev pub table : List (ℕ × Line)
 table =
     (1, order k₁ b₁)
     -- "inverse of the unit t+4r"; the unit is m
-    ∷ (2, unit k₁ 1000 3 1 1 (b₁ .M) (element (0 ∷ 1 ∷ []) (4 ∷ []) []))
+    ∷ (2, unit k₁ 3 1 1 (b₁ .M) (element (0 ∷ 1 ∷ []) (4 ∷ []) []))
     ∷ (3, order k₂ b₂)
     -- "norm 4, inverse 4+3r+2w"
-    ∷ (4, unit-norm k₂ 1000 3 (4 ∷ []))
-    ∷ (4, unit k₂ 1000 3 1 1 (b₂ .M) (element (4 ∷ []) (3 ∷ []) (2 ∷ [])))
+    ∷ (4, unit-norm k₂ 3 1 (4 ∷ []))
+    ∷ (4, unit k₂ 3 1 1 (b₂ .M) (element (4 ∷ []) (3 ∷ []) (2 ∷ [])))
     -- "r begins 1,0,2,0,1 and w 1,0,4,0,1"
     ∷ (5, series k₃ (1 ∷ 0 ∷ 2 ∷ 0 ∷ 1 ∷ []) (1 ∷ 0 ∷ 4 ∷ 0 ∷ 1 ∷ []))
     ∷ (6, order k₃ b₃)
     ∷ (7, steps k₃ b₃ 3 b₄)
     -- "unit inverse 4+2tr+3w"
-    ∷ (8, unit k₃ 1000 5 2 2 (element (4 ∷ 0 ∷ 1 ∷ 0 ∷ 1 ∷ []) (0 ∷ 4 ∷ 0 ∷ 1 ∷ []) (2 ∷ 0 ∷ 1 ∷ [])) (element (4 ∷ []) (0 ∷ 2 ∷ []) (3 ∷ [])))
+    ∷ (8, unit k₃ 5 2 2 e₃ f₃)
     -- "B = 1 refused 10 with sum 3; B = 2 closes, sum 4"
     ∷ (9, spends k₃ 1 b₃ 3 b₄)
     ∷ (9, closes k₃ 2 b₃ 2 4 b₃)
     -- "c = 4 refused 11, c = 5 does"
-    ∷ (10, narrow k₃ 1000 4)
-    ∷ (10, unit k₃ 1000 5 2 2 (element (4 ∷ 0 ∷ 1 ∷ 0 ∷ 1 ∷ []) (0 ∷ 4 ∷ 0 ∷ 1 ∷ []) (2 ∷ 0 ∷ 1 ∷ [])) (element (4 ∷ []) (0 ∷ 2 ∷ []) (3 ∷ [])))
+    ∷ (10, narrow k₃ 4 2)
+    ∷ (10, unit k₃ 5 2 2 e₃ f₃)
     -- "p = 65,537 and 3 refused 1; p = 7 with empty G refused 2"
     ∷ (11, refuses 65537 whatever 1)
     ∷ (11, refuses 3 whatever 1)

@@ -1,5 +1,6 @@
 -- Walks and units by computed tests.
 --   chain-of      the chain of a written walk
+--   good-at       where it stands is a good basis
 --   open-of       no count so far closes
 --   closing-of    the last one does, and is the first
 --   start-of      a good basis with U = 1 is that of the order
@@ -56,7 +57,7 @@ module _ {p : ℕ} {G H : List ℕ} (A : Accepted p G H) (r w : List ℕ) where
 
   infixl 70 _⊗_ _⊠_
   module _ (b : Rows) (g : T (every (good p G H r w b))) where
-    good-at : (cs : List Rows) → T (walks p G H r w b cs) → Good (setting A) (basisL A (at b cs))
+    pub good-at : (cs : List Rows) → T (walks p G H r w b cs) → Good (setting A) (basisL A (at b cs))
     good-at [] t = good-rows A r w b g
     good-at (c ∷ cs) t = good-rows A r w c (every-at (step p G H r w (at b cs) c) (and-r (walks p G H r w b cs) _ t) 0)
 

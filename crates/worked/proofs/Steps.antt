@@ -26,9 +26,9 @@ use Rattle.record.specs.Record.{part, setting, polyOf, basisOf, IsRecord}
 use Rattle.reckon.specs.Lists.{alike, alikeT}
 use Rattle.reckon.proofs.Meaning.{el, el-alike, poly-alike}
 use Rattle.worked.specs.Rows.{Rows}
-use Rattle.worked.specs.Tests.{every, below, lies, pure, by, over, backBy, meets, into, onto, goes, good, kept}
+use Rattle.worked.specs.Tests.{every, below, lies, pure, by, over, backBy, meets, into, onto, goes, kept}
 use Rattle.worked.proofs.Fields.{every-at, below-sound}
-use Rattle.worked.proofs.Bases.{basisL, lies-in, pure-is, by-is, good-rows}
+use Rattle.worked.proofs.Bases.{basisL, lies-in, pure-is, by-is}
 
 module _ (S : Setting) (B B′ : Basis S) where
   open Ops (O S .ops) using (add as _⊕_, mul as _⊗_)
@@ -97,8 +97,8 @@ module _ {p : ℕ} {G H : List ℕ} (A : Accepted p G H) where
       let e₆ : polyOf A (part 6 B) ≡ polyOf A (b .U) = poly-alike p (A .prime) (part 6 B) (b .U) (at 8) in
       λ i. record { U = e₆ i; M = record { a = e₀ i; b = e₁ i; c = e₂ i }; N = record { a = e₃ i; b = e₄ i; c = e₅ i } }
 
-pub record-of : {p : ℕ} {G H : List ℕ} (r w B : List ℕ) (b : Rows) → Accepted p G H → T (every (kept p B b)) → T (every (good p G H r w b)) → IsRecord p G H B
-record-of {p} {G} {H} r w B b A k g =
+pub record-of : {p : ℕ} {G H : List ℕ} (B : List ℕ) (b : Rows) → Accepted p G H → T (every (kept p B b)) → ((A : Accepted p G H) → Good (setting A) (basisL A b)) → IsRecord p G H B
+record-of {p} {G} {H} B b A k g =
     let at : (i : ℕ) → T (getD (kept p B b) i true) = every-at (kept p B b) k in
     record {
       size = eqb→eq (length B) 119 (at 0);
@@ -106,5 +106,5 @@ record-of {p} {G} {H} r w B b A k g =
         | yes l ↦ below-sound p B (at 1) i l
         | no l ↦ let z : getD B i 0 ≡ 0 = List·getD-eq-default B 0 {n = i} (omega arith) in omega (arith, A .low)
       ];
-      good = λ A′. subst (Good (setting A′)) (sym (basis-is A′ B b k)) (good-rows A′ r w b g);
+      good = λ A′. subst (Good (setting A′)) (sym (basis-is A′ B b k)) (g A′);
     }
