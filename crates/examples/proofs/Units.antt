@@ -118,10 +118,10 @@ module _ (k : Input) (h : Hints) where
     made-only n u b rows scratch er es =
         let p : length (h .passed) ≡ l = eqb→eq (length (h .passed)) l (q c l (s 0) 6) in
         let m : Makes (k .p) (k .G) (k .H) n rows scratch (made 0 l e) (sixRows c E F) (replicate (6 * c) 0) =
-            answer-of c l (s 0) n rows scratch (made 0 l e) (sixRows c E F) (replicate (6 * c) 0)
-            (unitAnswer.made c (length (h .passed)) (total (h .start) (h .passed)) (lent-of c l (s 0) n b rows scratch er es) (omega arith) (finds-of c l (s 0))
-            (ltb→lt (total (h .start) (h .passed)) c (s 2))
-            (record { number = refl; period = sym p; regulator = eqb→eq (e + e) (total (h .start) (h .passed)) (s 1); rows-hold = rows-hold; scratch-blank = ap (λ i. replicate i 0) (sym es) })) in
+        answer-of c l (s 0) n rows scratch (made 0 l e) (sixRows c E F) (replicate (6 * c) 0)
+        (unitAnswer.made c (length (h .passed)) (total (h .start) (h .passed)) (lent-of c l (s 0) n b rows scratch er es) (omega arith) (finds-of c l (s 0))
+        (ltb→lt (total (h .start) (h .passed)) c (s 2))
+        (record { number = refl; period = sym p; regulator = eqb→eq (e + e) (total (h .start) (h .passed)) (s 1); rows-hold = rows-hold; scratch-blank = ap (λ i. replicate i 0) (sym es) })) in
         only k n rows scratch (made 0 l e) (sixRows c E F) (replicate (6 * c) 0) m
 
     norm-is : (A : Accepted (k .p) (k .G) (k .H)) → norm (setting A) (six A c 0 (sixRows c E F)) ≡ polyOf A (normT (lists (k .p)) (k .G) (k .H) E)

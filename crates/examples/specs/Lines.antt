@@ -17,15 +17,11 @@ use Rattle.cubic.specs.Tri.{Tri}
 use Rattle.ideals.specs.Element.{norm}
 use Rattle.field.specs.Refusal.{Accepted}
 use Rattle.field.specs.Opening.{Opens, nothing}
-use Rattle.field.specs.declared.Opened.{Opened}
 use Rattle.record.specs.Record.{setting, polyOf}
 use Rattle.series.specs.Answer as filled
 use Rattle.bases.specs.Answer.{Orders}
-use Rattle.bases.specs.declared.Ordered.{Ordered}
 use Rattle.stepped.specs.Answer.{Answers}
-use Rattle.stepped.specs.declared.Stepped.{Stepped}
 use Rattle.walk.specs.Walk.{most, Walks}
-use Rattle.walk.specs.declared.Walked.{Walked}
 use Rattle.unit.specs.Unit.{six, Makes}
 use Rattle.unit.specs.declared.Made.{Made}
 use Rattle.book.specs.Answer.{answerSays, Tells}

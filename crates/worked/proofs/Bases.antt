@@ -167,8 +167,11 @@ module _ {p : ℕ} {G H : List ℕ} (A : Accepted p G H) where
             | inl k ↦ inl (ltb→lt u y k)
             | inr k ↦ let i : ℕ = last nx in
                 let e : T (ends nx (suc i) && some p (getD nx i 0)) = and-r (ltb u i) (ends nx (suc i) && some p (getD nx i 0)) k in
-                inr (i, ltb→lt u i (and-l (ltb u i) (ends nx (suc i) && some p (getD nx i 0)) k),
-                has-floor ρ (X S (el p (A .prime) (b .N))) nx i fnx (and-l (ends nx (suc i)) (some p (getD nx i 0)) e) (and-r (ends nx (suc i)) (some p (getD nx i 0)) e))
+                inr (
+                  i,
+                  ltb→lt u i (and-l (ltb u i) (ends nx (suc i) && some p (getD nx i 0)) k),
+                  has-floor ρ (X S (el p (A .prime) (b .N))) nx i fnx (and-l (ends nx (suc i)) (some p (getD nx i 0)) e) (and-r (ends nx (suc i)) (some p (getD nx i 0)) e),
+                )
           ];
           rank = λ e. d.has-not-zero (ρ .𝓥) (d.has-eq (ρ .𝓥) (has-top ρ (detL p b) top) (ap (λ z. z .0) (det-is b) ∙ e));
           seven = λ k ku ka kb kc la lb lc. coprime-list p (A .prime) (bezout p (b .U) (b .M .c) .0) (bezout p (b .U) (b .M .c) .1) (b .U) (b .M .c) one k ku kc;
