@@ -1,10 +1,10 @@
 -- The lines that need no basis: refusals, series, the book.
 --   refuses-one, series-sound, empty-book-holds, no-book-sound
-use mathlib.Core.Path.{_≡_, refl, sym, ap, _∙_, subst}
+use mathlib.Core.Path.{refl, sym, _∙_}
 use mathlib.Core.Logic.{_≢_, inl, inr}
-use mathlib.Core.Bool.{Bool, true, false, _&&_, _||_}
+use mathlib.Core.Bool.{Bool, true}
 use mathlib.Core.List.{List, [], _∷_}
-use Prim.Native.Nat.{ℕ, zero, suc, _+_, _*_, _%_, _<_, _≤_}
+use Prim.Native.Nat.{ℕ, zero, suc, _%_, _<_, _≤_}
 use native.Mathlib.Omega.{arith}
 use lib.Dec.{T, eqb, ltb, leb, eqb→eq, ltb→lt, leb→le}
 use lib.ListN.{length, getD}
@@ -12,23 +12,22 @@ use Rattle.fp.proofs.Trial.{primeb, primeb-sound}
 use Rattle.prime.specs.Table.{largest}
 use Rattle.field.specs.Refusal.{Fault1, Refusal, Accepted}
 use Rattle.field.specs.Opening.{Opens, nothing}
-use Rattle.field.specs.declared.Opened.{Opened}
 use Rattle.field.proofs.Accept.{accepted-none}
 use Rattle.field.proofs.Opening.{opens-one}
 use Rattle.series.specs.Answer as filled
 use Rattle.series.proofs.Answer.{done, answer-one}
 use Rattle.book_bytes.specs.Bytes.{val}
-use Rattle.book.specs.Book.{Marked, Listed, count, ends}
+use Rattle.book.specs.Book.{ends}
 use Rattle.book.specs.Book as book
 use Rattle.book.specs.Answer.{answerSays, Tells, mark, fine}
 use Rattle.book.specs.declared.Answer.{Answer}
 use Rattle.book.specs.declared.Answer.the-variants.{Yes, Refused}
 use Rattle.book.specs.declared.Reason.the-variants.{Mark}
 use Rattle.book.proofs.One as one
-use Rattle.worked.specs.Tests.{every, accepts, begins}
+use Rattle.worked.specs.Tests.{every, begins}
 use Rattle.worked.proofs.Fields.{every-at, accepted-of, series-of}
 use Rattle.worked.proofs.Bases.{or-cases}
-use Rattle.examples.specs.Lines.{Input, Only, Refuses, whatever, empty-G, refuses, series, empty-book, no-book, Holds}
+use Rattle.examples.specs.Lines.{Input, Only, Refuses, series, empty-book, no-book, Holds}
 use Rattle.examples.specs.Decide.{Hints, refused, field, decide}
 
 -- ---- refusals 1 and 2

@@ -1,11 +1,10 @@
 -- The lines of bases, steps and walks.
 --   order-sound, steps-sound, closes-sound, spends-sound
 -- Each line's own answer meets the contract; the contract has one answer.
-use mathlib.Core.Path.{_≡_, refl, sym, ap, ap₂, _∙_, subst}
-use mathlib.Core.Bool.{Bool, true, false, _&&_}
+use mathlib.Core.Path.{_≡_, refl, sym, subst}
+use mathlib.Core.Bool.{true}
 use mathlib.Core.List.{List, [], _∷_}
-use Prim.Native.Nat.{ℕ, zero, suc, _+_, _≤_}
-use native.Mathlib.Omega.{arith}
+use Prim.Native.Nat.{ℕ}
 use lib.Dec.{T, eqb, leb, eqb→eq, leb→le}
 use lib.ListN.{length, getD}
 use Rattle.fp.proofs.Trial.{and-l, and-r}
@@ -15,28 +14,24 @@ use Rattle.ideals.specs.Ideal.{Basis}
 use Rattle.ideals.specs.Next.{Next, Start}
 use Rattle.chain.specs.Chain.{Degree, Chain, Closing, Open}
 use Rattle.record.specs.Record.{setting, basisOf, IsRecord}
-use Rattle.bases.specs.Answer.{IsFirst, Orders}
-use Rattle.bases.specs.declared.Ordered.{Ordered}
+use Rattle.bases.specs.Answer.{Orders}
 use Rattle.bases.proofs.Answer.{orders-one}
-use Rattle.step.specs.Steps.{Steps}
 use Rattle.stepped.specs.Answer as stepped
 use Rattle.stepped.specs.Answer.{Answers}
-use Rattle.stepped.specs.declared.Stepped.{Stepped}
 use Rattle.stepped.proofs.Answers.{answers-one}
 use Rattle.walk.specs.Walk as walk
 use Rattle.walk.specs.Walk.{Walks}
-use Rattle.walk.specs.declared.Walked.{Walked}
 use Rattle.walk.proofs.Walk.{walks-one}
 use Rattle.reckon.specs.Lists.{alike}
 use Rattle.worked.specs.Rows.{Rows, stored}
-use Rattle.worked.specs.Tests.{every, accepts, good, kept, goes}
+use Rattle.worked.specs.Tests.{every, goes}
 use Rattle.worked.specs.Walks.{at, degreeL, total, unclosed, step, walks}
 use Rattle.worked.proofs.Fields.{every-at, accepted-of}
 use Rattle.worked.proofs.Bases.{basisL, good-rows}
 use Rattle.worked.proofs.Steps.{next-rows, basis-is, record-of}
 use Rattle.worked.proofs.Chains.{good-at, chain-of, degree-at, open-of, closing-of, start-of}
 use Rattle.examples.specs.Lines.{Input, order, steps, closes, spends, Holds}
-use Rattle.examples.specs.Decide.{Hints, closed, field, isGood, isRecord, isOne, isWalk, orders, goesOn, walked, closing, spending, decide}
+use Rattle.examples.specs.Decide.{Hints, closed, field, isGood, isRecord, orders, goesOn, walked, closing, spending, decide}
 
 module _ (k : Input) (h : Hints) where
   pub field-of : T (field k h) → Accepted (k .p) (k .G) (k .H)

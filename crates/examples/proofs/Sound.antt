@@ -1,7 +1,6 @@
 -- A passed test proves its line.
 --   sound        one line
 --   all-sound    a list of lines
-use mathlib.Core.Bool.{Bool, true, false, _&&_}
 use mathlib.Core.List.{List, [], _∷_}
 use Prim.Native.Nat.{ℕ}
 use lib.Dec.{T}

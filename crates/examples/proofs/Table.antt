@@ -2,18 +2,14 @@
 --   hints         what the tests are helped with: the series of each of the three fields, and the bases passed
 --   table-holds   every line of the table holds: by one computation
 use mathlib.Core.List.{List, [], _∷_}
-use mathlib.Core.Bool.{Bool, true}
-use lib.Dec.{T}
-use Prim.Native.Nat.{ℕ}
 use Rattle.fp.proofs.Trial.{primeb}
 use Rattle.reading.specs.Row.{tab, fallAt}
 use Rattle.reading.specs.Sum.{sumTo}
 use Rattle.cubicfield.specs.First.{conv}
 use Rattle.cubicfield.specs.Prefix.{partAt, plusPart, minusPart}
-use Rattle.worked.specs.Rows.{Rows}
 use Rattle.examples.specs.Lines.{element, AllHold}
 use Rattle.examples.specs.Table.{b₁, b₂, b₃, b₄, e₃, f₃, table}
-use Rattle.examples.specs.Decide.{Hints, decideAll}
+use Rattle.examples.specs.Decide.{Hints}
 use Rattle.examples.proofs.Sound.{all-sound}
 
 -- G = t³+4, H = 1

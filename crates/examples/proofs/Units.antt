@@ -1,20 +1,19 @@
 -- The lines of units.
 --   finds-of            from the order the chain closes
 --   unit-sound, norm-sound, narrow-sound
-use mathlib.Core.Path.{_≡_, refl, sym, ap, ap₂, _∙_, subst}
-use mathlib.Core.Bool.{Bool, true, false, _&&_}
+use mathlib.Core.Path.{_≡_, refl, sym, ap, _∙_, subst}
+use mathlib.Core.Bool.{true}
 use mathlib.Core.List.{List, [], _∷_}
-use Prim.Native.Nat.{ℕ, zero, suc, _+_, _*_, _/_, _<_, _≤_}
+use Prim.Native.Nat.{ℕ, _+_, _*_, _/_, _<_, _≤_}
 use native.Mathlib.Omega.{arith}
 use native.Mathlib.Decide.{decLt}
 use lib.Dec.{T, eqb, ltb, leb, eqb→eq, ltb→lt, leb→le}
 use lib.ListN.{length, getD, replicate, List·getD-eq-default}
-use Rattle.ring.specs.Ring.{Ops}
 use Rattle.cubic.specs.Tri.{Tri, Nm, X, normT}
 use Rattle.fp.proofs.Trial.{and-l, and-r}
 use Rattle.field.specs.Refusal.{Accepted}
 use Rattle.field.proofs.Accept.{accepted-none}
-use Rattle.ideals.specs.Element.{O, norm}
+use Rattle.ideals.specs.Element.{norm}
 use Rattle.ideals.specs.Ideal.{Basis}
 use Rattle.ideals.specs.Next.{Start}
 use Rattle.chain.specs.Chain.{Closing}
@@ -26,10 +25,10 @@ use Rattle.unit.specs.Unit as unitAnswer
 use Rattle.unit.specs.Unit.{six, Lent, Finds, Makes, Goes}
 use Rattle.unit.specs.declared.Made.{Made}
 use Rattle.unit.proofs.Once.{Same, makes-one}
-use Rattle.reckon.specs.Lists.{lists, alike, alikeT}
+use Rattle.reckon.specs.Lists.{lists, alike}
 use Rattle.reckon.proofs.Meaning.{hom-eval, poly-hom, poly-alike, el, el-alike}
 use Rattle.worked.specs.Rows.{Rows}
-use Rattle.worked.specs.Tests.{every, below}
+use Rattle.worked.specs.Tests.{every}
 use Rattle.worked.specs.Walks.{total, unclosed, walks, isUnit}
 use Rattle.worked.proofs.Fields.{every-at, below-sound}
 use Rattle.worked.proofs.Bases.{basisL}

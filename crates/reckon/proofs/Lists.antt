@@ -6,16 +6,16 @@
 --   ends-sound, lead-list, lt-list, has-list   zeros from a place on; degree and leading coefficient
 use mathlib.Core.Path.{_≡_, refl, sym, ap, ap₂, _∙_, subst}
 use mathlib.Core.Logic.{_≢_}
-use mathlib.Core.Bool.{Bool, true, false, _&&_, not}
+use mathlib.Core.Bool.{not}
 use mathlib.Core.List.{List, [], _∷_}
 use Prim.Native.Nat.{ℕ, zero, suc, _≤_, _<_, _%_}
 use Prim.Native.Nat as N
-use native.Mathlib.Nat.{mod-lt, zero-mod}
+use native.Mathlib.Nat.{mod-lt}
 use native.Mathlib.Omega.{arith}
 use lib.Dec.{T, eqb, eqb→eq, eqb-refl, T-not}
 use lib.ListN.{length, getD}
 use Rattle.ring.proofs.Laws as r
-use Rattle.ring.specs.Ring.{Ops, CRing}
+use Rattle.ring.specs.Ring.{Ops}
 use Rattle.ring.proofs.Solve.{var, one, zer, minus as minusE, _:+_, _:*_, solve}
 use Rattle.fp.proofs.Trial.{and-l, and-r}
 use Rattle.valued.specs.Val.{Valued}

@@ -5,7 +5,7 @@
 --   poly-alike, el-alike       the tests
 --   coprime-list, squarefree-list   u a + v b = 1, u a + v a′ = 1
 use mathlib.Core.Path.{_≡_, refl, sym, ap, ap₂, _∙_, subst}
-use mathlib.Core.Bool.{Bool, true, false, _&&_}
+use mathlib.Core.Bool.{_&&_}
 use mathlib.Core.List.{List, [], _∷_, map}
 use Prim.Native.Nat.{ℕ, zero, suc}
 use lib.Dec.{T}
@@ -16,17 +16,15 @@ use Rattle.cubic.specs.Tri.{Tri, M, X, Y}
 use Rattle.cubic.specs.Order.{triops}
 use Rattle.fp.specs.Fp.{Prime}
 use Rattle.fp.proofs.Trial.{and-l, and-r}
-use Rattle.valued.specs.Val.{Valued}
-use Rattle.valued.specs.Polynomial.{polys, Poly, Divides, IsUnit, Squarefree, Coprime}
+use Rattle.valued.specs.Polynomial.{polys, Poly, Divides, Squarefree, Coprime}
 use Rattle.valued.specs.Gcd.{IsGcd}
 use Rattle.valued.proofs.Polynomial.{P-path}
 use Rattle.valued.proofs.Coprime.{coprime-unit}
 use Rattle.reading.specs.Reading.{Reading}
 use Rattle.reading.specs.Made.{reading, derivation}
-use Rattle.reading.specs.Row.{row}
 use Rattle.reading.proofs.Square.{∂, squarefree-unit}
 use Rattle.poly.specs.Factors.{polynomial}
-use Rattle.reckon.specs.Lists.{cut, plus, times, minus, slope, lists, alike, alikeT}
+use Rattle.reckon.specs.Lists.{cut, plus, slope, lists, alike, alikeT}
 use Rattle.reckon.proofs.Lists.{row-nil, row-one, row-plus, row-times, row-minus, row-cut, row-slope, alike-sound}
 
 -- ---- maps that keep the operations

@@ -7,7 +7,7 @@
 --   ends                        zeros from a place on
 --   alikeT                      the same for triples
 -- That these are the operations of the polynomials, and the tests sound, is in proofs/Lists.antt and proofs/Meaning.antt.
-use mathlib.Core.Bool.{Bool, true, false, _&&_}
+use mathlib.Core.Bool.{Bool, true, _&&_}
 use mathlib.Core.List.{List, [], _∷_}
 use Prim.Native.Nat.{ℕ, zero, suc, _+_, _*_, _-_, _%_}
 use lib.Dec.{eqb}

@@ -3,7 +3,7 @@
 --   lies-in             an element in its lattice
 --   good-rows           it is the scaled reduced basis of a reduced ideal
 use mathlib.Core.Path.{_≡_, refl, sym, ap, ap₂, _∙_, subst}
-use mathlib.Core.Logic.{_≢_, _⊎_, inl, inr}
+use mathlib.Core.Logic.{_⊎_, inl, inr}
 use mathlib.Core.Bool.{Bool, true, false, _&&_, _||_}
 use mathlib.Core.List.{List, [], _∷_}
 use Prim.Native.Nat.{ℕ, suc, _-_, _<_, _≤_}
@@ -13,23 +13,20 @@ use lib.ListN.{length, getD}
 use Rattle.ring.specs.Ring.{Ops}
 use Rattle.ring.proofs.Solve.{Expr, var, minus as minusE, _:+_, _:*_}
 use Rattle.cubic.specs.Tri.{Tri}
-use Rattle.cubic.specs.Order.{triops}
 use Rattle.fp.proofs.Trial.{and-l, and-r}
-use Rattle.valued.specs.Val.{Valued}
-use Rattle.valued.specs.Degree.{Has, Lt}
 use Rattle.valued.specs.Polynomial.{polys}
 use Rattle.valued.proofs.Degree as d
 use Rattle.reading.specs.Reading.{Reading}
 use Rattle.reading.specs.Made.{reading}
-use Rattle.reading.specs.Row.{row, Floor}
+use Rattle.reading.specs.Row.{Floor}
 use Rattle.field.specs.Refusal.{Accepted}
 use Rattle.cubicfield.specs.SeriesOf.{SeriesOf}
 use Rattle.cubicfield.specs.Prefix.{enough, plusPart, minusPart}
-use Rattle.cubicfield.proofs.Root.{degR, degW, root-r, root-w}
+use Rattle.cubicfield.proofs.Root.{degR, degW}
 use Rattle.cubicfield.proofs.Prefix.{prefix-is-enough}
 use Rattle.ideals.specs.Setting.{Setting}
 use Rattle.ideals.specs.Element.{O, sc, el-r, el-w, X, Y, Z}
-use Rattle.ideals.specs.Ideal.{Basis, In, det, lin}
+use Rattle.ideals.specs.Ideal.{Basis, In, det}
 use Rattle.ideals.specs.Basis.{Good}
 use Rattle.ideals.proofs.Sizes.{O-path}
 use Rattle.ideals.proofs.Lattice.{lin-a, lin-b, lin-c, by-r, by-w, by-r-poly, by-w-poly}
@@ -37,12 +34,12 @@ use Rattle.ideals.proofs.Check.{Coords, coords-of}
 use Rattle.ideals.proofs.Tests.{Tests, good-of, times-r, times-w}
 use Rattle.record.specs.Record.{setting, polyOf}
 use Rattle.reckon.specs.Lists.{ends}
-use Rattle.reckon.specs.Quotients.{quotient, bezout}
+use Rattle.reckon.specs.Quotients.{bezout}
 use Rattle.reckon.specs.Lists as L
 use Rattle.reckon.proofs.Lists.{ends-sound, lead-list}
 use Rattle.reckon.proofs.Meaning.{hom-eval, poly-hom, el, el-hom, el-alike, coprime-list}
 use Rattle.worked.specs.Rows.{Rows}
-use Rattle.worked.specs.Tests.{every, last, some, αOf, βOf, γOf, lies, linL, detL, pure, rootR, rootW, by, large, shapedAt, double, hasTop, xPart, yPart, short, sizes, apart, good}
+use Rattle.worked.specs.Tests.{every, last, some, αOf, βOf, γOf, lies, linL, detL, pure, rootR, rootW, by, shapedAt, double, hasTop, xPart, yPart, short, sizes, apart, good}
 use Rattle.worked.proofs.Fields.{every-at, series-of}
 use Rattle.worked.proofs.Floors.{lead-floor, lt-floor, has-floor, has-top, cast-two, floor-double}
 

@@ -5,40 +5,37 @@
 --   closing-of    the last one does, and is the first
 --   start-of      a good basis with U = 1 is that of the order
 --   unit-of       the unit of a closing walk from the order
-use mathlib.Core.Path.{_≡_, refl, sym, ap, ap₂, _∙_, subst}
+use mathlib.Core.Path.{_≡_, refl, sym, ap, ap₂, _∙_}
 use mathlib.Core.Logic.{_≢_}
-use mathlib.Core.Bool.{Bool, true, false, _&&_}
+use mathlib.Core.Bool.{true, _&&_}
 use mathlib.Core.List.{List, [], _∷_}
-use Prim.Native.Nat.{ℕ, zero, suc, _+_, _-_, _<_, _≤_}
+use Prim.Native.Nat.{ℕ, zero, suc, _-_, _<_}
 use native.Mathlib.Omega.{arith}
 use lib.Dec.{T, eqb, ltb, eqb→eq, ltb→lt}
 use lib.ListN.{length, getD}
 use Rattle.ring.specs.Ring.{Ops}
 use Rattle.cubic.specs.Tri.{Tri}
 use Rattle.fp.proofs.Trial.{and-l, and-r}
-use Rattle.valued.specs.Val.{Valued}
-use Rattle.valued.specs.Degree.{Has, Leads}
-use Rattle.valued.specs.Polynomial.{polys, IsUnit}
+use Rattle.valued.specs.Polynomial.{polys}
 use Rattle.valued.proofs.Degree as d
 use Rattle.reading.specs.Reading.{Reading}
 use Rattle.reading.specs.Made.{reading}
 use Rattle.field.specs.Refusal.{Accepted}
 use Rattle.ideals.specs.Setting.{Setting}
 use Rattle.ideals.specs.Element.{O, sc}
-use Rattle.ideals.specs.Ideal.{Basis}
 use Rattle.ideals.specs.Basis.{Good}
-use Rattle.ideals.specs.Next.{Next, Start}
+use Rattle.ideals.specs.Next.{Start}
 use Rattle.chain.specs.Chain.{Degree, Chain, here, then, tops, bottoms, Open, Closing}
 use Rattle.chain.specs.Unit.{UnitOf}
 use Rattle.chain.proofs.Walk.{degree-M0, closes, open-none, open-more}
 use Rattle.chain.proofs.Closing.{start-of-one}
 use Rattle.record.specs.Record.{setting, polyOf}
-use Rattle.reckon.specs.Lists.{lists, alike, alikeT, ends}
+use Rattle.reckon.specs.Lists.{lists, alike}
 use Rattle.reckon.specs.Quotients.{inverse}
 use Rattle.reckon.proofs.Lists.{lead-list}
 use Rattle.reckon.proofs.Meaning.{poly-hom, poly-alike, el, el-hom, el-alike}
 use Rattle.worked.specs.Rows.{Rows}
-use Rattle.worked.specs.Tests.{every, last, hasTop, pure, by, good, goes}
+use Rattle.worked.specs.Tests.{every, last, hasTop, pure, by, good}
 use Rattle.worked.specs.Walks.{at, degreeL, total, unclosed, step, walks, topsL, bottomsL, leadOf, isUnitBy, isUnit}
 use Rattle.worked.proofs.Fields.{every-at}
 use Rattle.worked.proofs.Floors.{has-top}

@@ -3,17 +3,16 @@
 --   below-sound, upTo-sound   numbers below p; a test at all numbers below n
 --   accepted-of               an accepted field
 --   series-of                 the first coefficients of its two series
-use mathlib.Core.Path.{_≡_, refl, sym, ap, _∙_, subst}
+use mathlib.Core.Path.{_≡_, sym, subst}
 use mathlib.Core.Logic.{_≢_}
-use mathlib.Core.Bool.{Bool, true, false, _&&_, not}
+use mathlib.Core.Bool.{Bool, true, not}
 use mathlib.Core.List.{List, [], _∷_}
-use Prim.Native.Nat.{ℕ, zero, suc, _+_, _*_, _-_, _%_, _<_, _≤_}
+use Prim.Native.Nat.{ℕ, zero, suc, _+_, _-_, _%_, _<_, _≤_}
 use native.Mathlib.Omega.{arith}
 use native.Mathlib.Decide.{ℕ-discrete}
 use lib.Dec.{T, eqb, ltb, leb, eqb→eq, ltb→lt, leb→le, eqb-refl, T-not}
 use lib.ListN.{length, getD}
-use Rattle.fp.specs.Fp.{Prime}
-use Rattle.fp.proofs.Trial.{and-l, and-r, primeb, primeb-sound}
+use Rattle.fp.proofs.Trial.{and-l, and-r, primeb-sound}
 use Rattle.field.specs.Refusal.{Degree, Accepted}
 use Rattle.cubicfield.specs.SeriesOf.{top, entry, prod, SeriesOf}
 use Rattle.reckon.specs.Lists.{slope}

@@ -2,8 +2,7 @@
 --   lead-floor, lt-floor, has-floor   a list's last number is the leading coefficient; a list's end bounds the degree
 --   has-top                           the degree of a list's own polynomial
 --   floor-double                      2a − x is the polynomial part of 2a − b r − c w, where x is that of b r + c w
-use mathlib.Core.Path.{_≡_, refl, sym, ap, ap₂, _∙_}
-use mathlib.Core.Bool.{_&&_}
+use mathlib.Core.Path.{_≡_, sym, ap, ap₂, _∙_}
 use mathlib.Core.List.{List, [], _∷_}
 use Prim.Native.Nat.{ℕ, suc}
 use native.Mathlib.Omega.{arith}

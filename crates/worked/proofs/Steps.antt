@@ -3,30 +3,29 @@
 --   next-rows      the same of written rows
 --   basis-is       the record's seven polynomials are those of the rows
 --   record-of      it is a record of the field
-use mathlib.Core.Path.{_≡_, refl, sym, ap, ap₂, _∙_, subst}
-use mathlib.Core.Bool.{Bool, true, false, _&&_}
+use mathlib.Core.Path.{_≡_, sym, ap, _∙_, subst}
+use mathlib.Core.Bool.{true}
 use mathlib.Core.List.{List, [], _∷_}
-use Prim.Native.Nat.{ℕ, suc, _-_, _<_, _≤_}
+use Prim.Native.Nat.{ℕ, _-_}
 use native.Mathlib.Omega.{arith}
 use native.Mathlib.Decide.{decLt}
-use lib.Dec.{T, eqb, leb, eqb→eq}
+use lib.Dec.{T, eqb, eqb→eq}
 use lib.ListN.{length, getD, List·getD-eq-default}
 use Rattle.ring.specs.Ring.{Ops}
-use Rattle.ring.proofs.Solve.{var, one, hyp, _:+_, _:*_, solve-by}
+use Rattle.ring.proofs.Solve.{var, hyp, _:+_, _:*_, solve-by}
 use Rattle.cubic.specs.Tri.{Tri}
 use Rattle.fp.proofs.Trial.{and-l, and-r}
 use Rattle.field.specs.Refusal.{Accepted}
 use Rattle.ideals.specs.Setting.{Setting}
 use Rattle.ideals.specs.Element.{O, sc}
-use Rattle.ideals.specs.Ideal.{Basis, In, lin}
+use Rattle.ideals.specs.Ideal.{Basis, In}
 use Rattle.ideals.specs.Basis.{Good}
 use Rattle.ideals.specs.Next.{Next}
 use Rattle.ideals.proofs.Lattice.{in-U, in-M, in-add, in-scale}
 use Rattle.record.specs.Record.{part, setting, polyOf, basisOf, IsRecord}
-use Rattle.reckon.specs.Lists.{alike, alikeT}
 use Rattle.reckon.proofs.Meaning.{el, el-alike, poly-alike}
 use Rattle.worked.specs.Rows.{Rows}
-use Rattle.worked.specs.Tests.{every, below, lies, pure, by, over, backBy, meets, into, onto, goes, kept}
+use Rattle.worked.specs.Tests.{every, lies, pure, by, over, backBy, meets, into, onto, goes, kept}
 use Rattle.worked.proofs.Fields.{every-at, below-sound}
 use Rattle.worked.proofs.Bases.{basisL, lies-in, pure-is, by-is}
 

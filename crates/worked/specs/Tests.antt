@@ -8,7 +8,7 @@
 --   divides, goes          an exact quotient; one basis is the next of another (Steps: `next-rows`)
 --   kept                   a record holds these rows (Steps: `record-of`)
 -- β, γ and α are found by long division (crate reckon) and then tested.
-use mathlib.Core.Bool.{Bool, true, false, _&&_, _||_, not}
+use mathlib.Core.Bool.{Bool, true, _&&_, _||_, not}
 use mathlib.Core.List.{List, [], _∷_}
 use Prim.Native.Nat.{ℕ, zero, suc, _+_, _*_, _-_, _%_}
 use lib.Dec.{eqb, ltb, leb}

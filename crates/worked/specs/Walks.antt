@@ -5,12 +5,11 @@
 --   unclosed, closes  no U so far is 1; and then it is (`open-of`, `closing-of`)
 --   topsL, bottomsL   the products of the M and of the U passed
 --   isUnit            E is the product of the m passed with E0 monic, and F its inverse (proofs/Units: `unit-of`)
-use mathlib.Core.Bool.{Bool, true, false, _&&_}
+use mathlib.Core.Bool.{Bool, true, _&&_}
 use mathlib.Core.List.{List, [], _∷_}
 use Prim.Native.Nat.{ℕ, suc, _+_, _-_}
 use lib.Dec.{eqb, ltb}
-use lib.ListN.{length, getD}
-use Rattle.ring.specs.Ring.{Ops}
+use lib.ListN.{getD}
 use Rattle.cubic.specs.Tri.{Tri}
 use Rattle.reckon.specs.Lists.{lists, alike, alikeT, ends}
 use Rattle.reckon.specs.Quotients.{inverse}
