@@ -1,2 +1,3 @@
+pub mod Numbered
 pub mod Demand2
 pub mod Demand3
