@@ -49,7 +49,7 @@ module _ {p : ℕ} {G H : List ℕ} {e : Expanded} (opens : Expands p G H e) (z 
   pub field-of : Accepted p G H
   field-of = accepted p G H (subst (Refusal p G H) z (opens .number))
 
-  pub known-of : Known (e .cubic)
+  abbrev pub known-of : Known (e .cubic)
   known-of = record { p = p; G = G; H = H; accepted = field-of; prefix = opens .opened z }
 
 -- ---- the ends of `step`
@@ -69,7 +69,6 @@ module _ {p : ℕ} {G H B : List ℕ} {e : Expanded} (opens : Expands p G H e) w
 
     module _ (t : good ≡ true) where
       pub next-of : NextIn (e .cubic) B
-      unfolding known-of
       next-of = record { known = known-of opens z; is-record = decided .yes! t }
 
       pub answers-next : (o : Advance) → NextOut (e .cubic) B o → Answers p G H B (record { refusal = 0; degree = o .degree; basis = o .basis })
