@@ -1,30 +1,9 @@
 // Units and their inverses: those worked by hand, families whose units are known, and the refusals. Each field gives the number, period and
 // regulator, the first slice and the scratch, and is compared with stdout. Before the call one slice holds 9 and the other 8 throughout.
+use printed::line_end;
+use printed::number;
+use printed::numbers;
 ghost use Prim.Native.Nat.{_≤_};
-
-fn number(n: u64) {
-    let blank = [b' '];
-    io::print_decimal(1, n);
-    io::write_all(1, &blank);
-}
-
-fn wide(x: u16) -> u64 {
-    x as u64
-}
-
-fn line_end() {
-    let end = [b'\n'];
-    io::write_all(1, &end);
-}
-
-fn numbers(s: &[u16]) {
-    let mut i: usize = 0;
-    while i < s.len() {
-        number(wide(s[i]));
-        i += 1;
-    }
-    line_end();
-}
 
 fn told(m: unit::Made) {
     let l = m.period;
