@@ -170,7 +170,7 @@ fn part_in(
 }
 
 // The same as a row of its own
-fn part(
+pub fn part(
     f: Bounds,
     minus: bool,
     b: &[u64; 32],
