@@ -25,7 +25,7 @@ use Rattle.reading.proofs.Floors.{zero-row}
 use Rattle.poly.specs.Leaf.{Cut, Summed, Difference, Product}
 use Rattle.poly.proofs.Leaf.{summed, difference, size-one, zeros-row, zeros-size}
 use Rattle.poly.proofs.Terms.{product, term-none}
-use Rattle.sized.specs.Sized.{signAt, signOf, MixIn, Mixed, Reach, DetBy, DetOut}
+use Rattle.sized.specs.Sized.{signAt, signOf, MixIn, Mixed, Reach, TimesBy, DetBy, DetOut}
 
 pub record Over (p n : ℕ) (f : ℕ → ℕ) (r₀ r : List ℕ) (k : ℕ) : Type 0 where
   pub size : length r ≡ n
@@ -109,19 +109,41 @@ module _ {p mul lim : ℕ} {x : List ℕ} {n : ℕ} {y : List ℕ} {m : ℕ} {r 
           let d = summed p r (prods p x n y) o (record { modulus = h .modulus; hx = h .hr; hy = prods-are .is-row }) (over-end p 32 _ r o k g (λ j u w. kept false j (past k j l u))) in
           (d .is-row, λ pr. let c = reading p pr .𝓥 .L .ops in d .law pr ∙ ap (λ a. c .add (row (reading p pr) r) a) (prods-are .law pr))
 
--- ---- determinants
-module _ {p mul lim : ℕ} {x : List ℕ} {nx : ℕ} {y : List ℕ} {ny : ℕ} {z : List ℕ} {nz : ℕ} {v : List ℕ} {nv : ℕ} {r : List ℕ} (h : DetBy p mul lim x nx y ny z nz v nv r) where
-  pub det-first : MixIn p mul lim x nx y ny r
-  det-first = record {
+-- ---- into a row of zeros
+module _ {p mul lim : ℕ} {x : List ℕ} {n : ℕ} {y : List ℕ} {m : ℕ} {r : List ℕ} (h : TimesBy p mul lim x n y m r) where
+  pub times-first : MixIn p mul lim x n y m r
+  times-first = record {
     modulus = h .modulus;
     ready = h .ready;
     hx = h .hx;
     hy = h .hy;
     sx = h .sx;
     sy = h .sy;
-    fits = h .left;
+    fits = h .fits;
     hr = subst (Row p) (sym (h .blank)) (zeros-row p (h .modulus .big));
   }
+
+  module _ {o : List ℕ} (g : Mixed p false x n y m r o) where
+    pub times-product : Product p x y o
+    times-product = record {
+      is-row = g .is-row;
+      law = λ pr. let R = reading p pr .𝓥 .L in
+          g .law pr ∙ ap (λ a. R .ops .add a (R .ops .mul (row (reading p pr) x) (row (reading p pr) y))) (ap (row (reading p pr)) (h .blank) ∙ zero-row (reading p pr) (replicate 32 0) zeros-size) ∙ laws.zero-add′ R _;
+    }
+
+    pub times-past : (i : ℕ) → n + m ≤ i + 1 → getD o i 0 ≡ 0
+    times-past i u = g .above i u ∙ ap (λ l. getD l i 0) (h .blank) ∙ zeros-at 32 i
+
+    pub times-cut : (k t : ℕ) → Reach (n + m) k t → Cut o t
+    times-cut k t c = record { size = g .is-row .size; fits = c .fits; above = λ i u. let a : n + m ≤ t + 1 = c .past-a in times-past i (omega arith) }
+
+-- ---- determinants
+module _ {p mul lim : ℕ} {x : List ℕ} {nx : ℕ} {y : List ℕ} {ny : ℕ} {z : List ℕ} {nz : ℕ} {v : List ℕ} {nv : ℕ} {r : List ℕ} (h : DetBy p mul lim x nx y ny z nz v nv r) where
+  as-times : TimesBy p mul lim x nx y ny r
+  as-times = record { modulus = h .modulus; ready = h .ready; hx = h .hx; hy = h .hy; sx = h .sx; sy = h .sy; fits = h .left; blank = h .blank }
+
+  pub det-first : MixIn p mul lim x nx y ny r
+  det-first = times-first as-times
 
   pub det-second : {o : List ℕ} → Mixed p false x nx y ny r o → MixIn p mul lim z nz v nv o
   det-second g = record { modulus = h .modulus; ready = h .ready; hx = h .hz; hy = h .hv; sx = h .sz; sy = h .sv; fits = h .right; hr = g .is-row }
@@ -132,15 +154,13 @@ module _ {p mul lim : ℕ} {x : List ℕ} {nx : ℕ} {y : List ℕ} {ny : ℕ} {
       size = k .is-row .size;
       fits = c .fits;
       above = λ i u. let a : nx + ny ≤ t + 1 = c .past-a in let b : nz + nv ≤ t + 1 = c .past-b in
-          k .above i (omega arith) ∙ g .above i (omega arith) ∙ ap (λ l. getD l i 0) (h .blank) ∙ zeros-at 32 i;
+          k .above i (omega arith) ∙ times-past as-times g i (omega arith);
     }
 
     pub det-made : (l : ℕ) → Size w l → DetOut p x y z v w l
     det-made l s = record {
       is-row = k .is-row;
-      law = λ pr. let R = reading p pr .𝓥 .L in
-          k .law pr
-          ∙ ap (λ a. R .ops .add a (R .ops .neg (R .ops .mul (row (reading p pr) z) (row (reading p pr) v))))
-          (g .law pr ∙ ap (λ a. R .ops .add a (R .ops .mul (row (reading p pr) x) (row (reading p pr) y))) (ap (row (reading p pr)) (h .blank) ∙ zero-row (reading p pr) (replicate 32 0) zeros-size) ∙ laws.zero-add′ R _);
+      law = λ pr. let c = reading p pr .𝓥 .L .ops in
+          k .law pr ∙ ap (λ a. c .add a (c .neg (c .mul (row (reading p pr) z) (row (reading p pr) v)))) (times-product as-times g .law pr);
       size = s;
     }

@@ -2,6 +2,7 @@
 --   signAt p e v   v, or p − v where e is true
 --   mix_in         Mixed: r ± x y, with r left as it was past the product
 --   reach          Reach: a place past two products
+--   times_in       TimesOut: x y (`Product` of crate poly) and its length
 --   det_in         DetOut: x y − z v and its length
 --   quotient_in    QuotientOut: the quotient and its length (`Quotient` and `Exact` of crate poly)
 use mathlib.Core.Path.{_≡_}
@@ -16,6 +17,7 @@ use Rattle.residue.specs.Residue.{Modulus}
 use Rattle.reading.specs.Reading.{Reading}
 use Rattle.reading.specs.Made.{reading}
 use Rattle.reading.specs.Row.{Row, Size, row}
+use Rattle.poly.specs.Leaf.{Product}
 use Rattle.poly.specs.Terms.{Ready}
 use Rattle.poly.specs.Division.{DivIn, Quotient, Exact}
 
@@ -52,6 +54,20 @@ pub record Reach (a b r : ℕ) : Type 0 where
   pub fits : r ≤ 32
   pub past-a : a ≤ r + 1
   pub past-b : b ≤ r + 1
+
+pub record TimesBy (p mul lim : ℕ) (x : List ℕ) (n : ℕ) (y : List ℕ) (m : ℕ) (r : List ℕ) : Type 0 where
+  pub modulus : Modulus p
+  pub ready : Ready p mul lim
+  pub hx : Row p x
+  pub hy : Row p y
+  pub sx : Size x n
+  pub sy : Size y m
+  pub fits : n + m ≤ 33
+  pub blank : r ≡ replicate 32 0
+
+pub record TimesOut (p : ℕ) (x y o : List ℕ) (l : ℕ) : Type 0 where
+  pub product : Product p x y o
+  pub size : Size o l
 
 pub record DetBy (p mul lim : ℕ) (x : List ℕ) (nx : ℕ) (y : List ℕ) (ny : ℕ) (z : List ℕ) (nz : ℕ) (v : List ℕ) (nv : ℕ) (r : List ℕ) : Type 0 where
   pub modulus : Modulus p

@@ -6,7 +6,7 @@ use poly::place;
 use poly::size_from;
 ghost use mathlib.Core.Path.{_≡_};
 ghost use Prim.Native.Nat.{_≤_};
-ghost use Rattle.sized.specs.Sized.{signAt, MixIn, Mixed, ReachIn, Reach, DetBy, DetOut, QuotientBy, QuotientOut};
+ghost use Rattle.sized.specs.Sized.{signAt, MixIn, Mixed, ReachIn, Reach, TimesBy, TimesOut, DetBy, DetOut, QuotientBy, QuotientOut};
 
 // v, or p - v
 fn signed(p: u64, minus: bool, v: u64) -> u64
@@ -47,6 +47,24 @@ fn reach(a: usize, b: usize) -> usize
 {
     let t = if a < b { b } else { a };
     if t == 0 { 0 } else { t - 1 }
+}
+
+// x y into the zero row r; its length.
+pub fn times_in(
+    p: u64,
+    q: Rapid,
+    x: &[u64; 32],
+    n: usize,
+    y: &[u64; 32],
+    m: usize,
+    r: &mut [u64; 32],
+) -> usize
+    requires { ⌜ TimesBy p (q .m) (q .lim) (now x) n (now y) m (now r) ⌝ }
+    ensures { λ l. ⌜ TimesOut p (now (x .entry)) (now (y .entry)) (now (r .exit)) l ⌝ }
+{
+    mix_in(p, q, false, x, n, y, m, r);
+    let t = reach(n + m, 0);
+    size_from(r, t)
 }
 
 // x y - z v into the zero row r; its length.
