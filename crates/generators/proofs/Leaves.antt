@@ -1,6 +1,7 @@
 -- Determinants, coordinates and the common factor: from what the calls hand out to the contracts.
 use mathlib.Core.Path.{_≡_, refl, sym, ap, ap₂, _∙_, subst}
 use mathlib.Core.Logic.{_≢_}
+use mathlib.Core.Bool.{true}
 use mathlib.Core.List.{List, [], _∷_}
 use Prim.Native.Nat.{ℕ, zero, suc, _+_, _*_, _-_, _%_, _<_, _≤_}
 use native.Mathlib.Nat.{mul-comm}
@@ -8,7 +9,7 @@ use native.Mathlib.Omega.{arith}
 use lib.ListN.{length, getD}
 use Rattle.ring.proofs.Laws as rg
 use Rattle.ring.specs.Ring.{Ops, CRing}
-use Rattle.ring.proofs.Solve.{var, hyp, one, minus, _:+_, _:*_, solve-by}
+use Rattle.ring.proofs.Solve.{var, hyp, one, minus, _:+_, _:*_, solve, solve-by}
 use Rattle.fp.specs.Fp.{Prime}
 use Rattle.valued.specs.Val.{Valued}
 use Rattle.valued.specs.Degree.{Has, Lt}
@@ -28,6 +29,8 @@ use Rattle.reading.proofs.Floors.{zero-row}
 use Rattle.poly.specs.Leaf.{MulIn, Product, Summed, Difference}
 use Rattle.poly.specs.Division.{DivIn, Exact}
 use Rattle.poly.specs.Factors.{polynomial, Common}
+use Rattle.sized.specs.Sized.{Mixed, DetOut}
+use Rattle.generators.specs.Known.{three}
 use Rattle.poly.proofs.Leaf.{size-one}
 use Rattle.generators.specs.Rows.{Seven, AreRows}
 use Rattle.generators.specs.Quotients.{Fits, Inverts, DetIn, Det, Quotients, CoordsIn, Coordinates, FourRows, Content, fourDet, CutIn, Without, CutOff}
@@ -40,6 +43,9 @@ det-of p x y z v a b r ha hb h = record {
   is-row = h .is-row;
   law = λ pr. let o = reading p pr .𝓥 .L .ops in h .law pr ∙ ap₂ (λ s t. o .add s (o .neg t)) (ha .law pr) (hb .law pr);
 }
+
+pub det-out : {p : ℕ} {x y z v o : List ℕ} {l : ℕ} → DetOut p x y z v o l → Det p x y z v o
+det-out h = record { is-row = h .is-row; law = h .law }
 
 -- ---- coordinates
 module _ {p : ℕ} {va vb vc : List ℕ} {b : Seven} {e : List ℕ} {ie : ℕ} (c : CoordsIn p va vb vc b e ie)
@@ -89,6 +95,22 @@ module _ {p : ℕ} {va vb vc : List ℕ} {b : Seven} {e : List ℕ} {ie : ℕ} (
           → row (reading p pr) z ≡ (let o = reading p pr .𝓥 .L .ops in o .add (o .mul β′ (row (reading p pr) (b .m0))) (o .mul γ′ (row (reading p pr) (b .n0))))
       below pr q = let o = reading p pr .𝓥 .L .ops in
           hz .law pr ∙ ap₂ (λ s t. o .add s t) (hx .law pr ∙ ap (λ s. o .mul s (row (reading p pr) (b .m0))) (β-is pr q)) (hy .law pr ∙ ap (λ s. o .mul s (row (reading p pr) (b .n0))) (γ-is pr q))
+
+  -- the same, where the two products are taken off one after the other
+  pub coords-made : {h k α : List ℕ} {nβ nm nγ nn : ℕ} → Mixed p true β nβ (b .m0) nm va h → Mixed p true γ nγ (b .n0) nn h k → Exact p k (b .u) α → Coordinates p va vb vc b e (three α β γ)
+  coords-made {h} {k} {α} g₁ g₂ ha = record {
+    ha = ha .is-row;
+    hb = hβ .is-row;
+    hc = hγ .is-row;
+    law = λ pr α′ β′ γ′ q. (ha .law pr α′ (q .α-poly) (sym (q .U-α) ∙ sym (off pr q)), β-is pr q, γ-is pr q);
+  }
+    where
+      off : (pr : Prime p) {α′ β′ γ′ : reading p pr .𝓥 .L .El} → Quotients pr va vb vc b e α′ β′ γ′
+          → row (reading p pr) k ≡ (let o = reading p pr .𝓥 .L .ops in o .add (row (reading p pr) va) (o .neg (o .add (o .mul β′ (row (reading p pr) (b .m0))) (o .mul γ′ (row (reading p pr) (b .n0))))))
+      off pr {α′} {β′} {γ′} q = let L = reading p pr .𝓥 .L in let o = L .ops in let R = row (reading p pr) in
+          g₂ .law pr
+          ∙ ap₂ (λ s t. o .add s (o .neg (o .mul t (R (b .n0))))) (g₁ .law pr ∙ ap (λ s. o .add (R va) (o .neg (o .mul s (R (b .m0))))) (β-is pr q)) (γ-is pr q)
+          ∙ solve L (var 0 :+ minus (var 1 :* var 2) :+ minus (var 3 :* var 4)) (var 0 :+ minus (var 1 :* var 2 :+ var 3 :* var 4)) tt (R va ∷ β′ ∷ R (b .m0) ∷ γ′ ∷ R (b .n0) ∷ [])
 
 -- ---- the common factor
 -- a row of length 1 is a unit

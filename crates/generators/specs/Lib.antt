@@ -1,3 +1,4 @@
 pub mod Rows
 pub mod Quotients
+pub mod Known
 pub mod Generated

@@ -1,7 +1,15 @@
 // The generators of the next ideal, on rows: r m and w m in coordinates by exact quotients, and what they have in common taken off.
+use poly::Rapid;
+use poly::rapid_of;
+use poly::size;
+use sized::det_in;
+use sized::mix_in;
+use sized::quotient_in;
+use sized::times_in;
 ghost use mathlib.Core.Path.{_≡_};
 ghost use Rattle.generators.specs.Rows.{seven};
 ghost use Rattle.generators.specs.Quotients.{DetIn, Det, CoordsIn, Coordinates, FourRows, Content, CutIn, CutOff, PairsIn, Paired};
+ghost use Rattle.generators.specs.Known.{three, Wide, AreLengths, CoordsBy, CoordsOut};
 ghost use Rattle.generators.specs.Generated.{GeneratorsIn, AreGenerators};
 
 // x y - z v
@@ -50,6 +58,99 @@ pub fn coords(
     let h = poly::sub(p, va, &z);
     let a = poly::exact(p, &h, u, 1);
     Three { a, b, c }
+}
+
+// The lengths of the seven rows of a basis.
+pub struct Lengths {
+    pub m0: usize,
+    pub m1: usize,
+    pub m2: usize,
+    pub n0: usize,
+    pub n1: usize,
+    pub n2: usize,
+    pub u: usize,
+}
+
+fn lengths_of(
+    m0: &[u64; 32],
+    m1: &[u64; 32],
+    m2: &[u64; 32],
+    n0: &[u64; 32],
+    n1: &[u64; 32],
+    n2: &[u64; 32],
+    u: &[u64; 32],
+) -> Lengths
+    requires { ⌜ Wide (seven (now m0) (now m1) (now m2) (now n0) (now n1) (now n2) (now u)) ⌝ }
+    ensures { λ l. ⌜ AreLengths (seven (now (m0 .entry)) (now (m1 .entry)) (now (m2 .entry)) (now (n0 .entry)) (now (n1 .entry)) (now (n2 .entry)) (now (u .entry))) l ⌝ }
+{
+    let a = size(m0);
+    let b = size(m1);
+    let c = size(m2);
+    let d = size(n0);
+    let e = size(n1);
+    let f = size(n2);
+    let g = size(u);
+    Lengths {
+        m0: a,
+        m1: b,
+        m2: c,
+        n0: d,
+        n1: e,
+        n2: f,
+        u: g,
+    }
+}
+
+// The lengths of three coordinates.
+pub struct Spans {
+    pub a: usize,
+    pub b: usize,
+    pub c: usize,
+}
+
+// The same coordinates where the lengths are known, into three zero rows.
+fn coords_in(
+    p: u64,
+    q: Rapid,
+    va: &[u64; 32],
+    vb: &[u64; 32],
+    nb: usize,
+    vc: &[u64; 32],
+    nc: usize,
+    m0: &[u64; 32],
+    m1: &[u64; 32],
+    m2: &[u64; 32],
+    n0: &[u64; 32],
+    n1: &[u64; 32],
+    n2: &[u64; 32],
+    u: &[u64; 32],
+    l: Lengths,
+    e: &[u64; 32],
+    le: usize,
+    ie: u64,
+    a: &mut [u64; 32],
+    b: &mut [u64; 32],
+    c: &mut [u64; 32],
+) -> Spans
+    requires { ⌜ CoordsBy p (q .m) (q .lim) (now va) (now vb) nb (now vc) nc (seven (now m0) (now m1) (now m2) (now n0) (now n1) (now n2) (now u)) l (now e) le ie (three (now a) (now b) (now c)) ⌝ }
+    ensures { λ o. ⌜ CoordsOut p (now (va .entry)) (now (vb .entry)) (now (vc .entry)) (seven (now (m0 .entry)) (now (m1 .entry)) (now (m2 .entry)) (now (n0 .entry)) (now (n1 .entry)) (now (n2 .entry)) (now (u .entry))) (now (e .entry)) (three (now (a .exit)) (now (b .exit)) (now (c .exit))) o ⌝ }
+{
+    let mut s: [u64; 32] = [0; 32];
+    let mut t: [u64; 32] = [0; 32];
+    let mut h = *va;
+    let ls = det_in(p, q, vb, nb, n2, l.n2, vc, nc, n1, l.n1, &mut s);
+    let lb = quotient_in(p, q, &s, ls, e, le, ie, b);
+    let lt = det_in(p, q, vc, nc, m1, l.m1, vb, nb, m2, l.m2, &mut t);
+    let lc = quotient_in(p, q, &t, lt, e, le, ie, c);
+    mix_in(p, q, true, b, lb, m0, l.m0, &mut h);
+    mix_in(p, q, true, c, lc, n0, l.n0, &mut h);
+    let lh = size(&h);
+    let la = quotient_in(p, q, &h, lh, u, l.u, 1, a);
+    Spans {
+        a: la,
+        b: lb,
+        c: lc,
+    }
 }
 
 // A greatest common divisor of four. Usually the first two have none, and it ends there.
@@ -183,18 +284,28 @@ pub fn divided(
     requires { ⌜ GeneratorsIn p (now g) (now h) (now gh) ie (seven (now m0) (now m1) (now m2) (now n0) (now n1) (now n2) (now u)) ⌝ }
     ensures { λ o. ⌜ AreGenerators p (now (g .entry)) (now (h .entry)) (now (gh .entry)) (seven (now (m0 .entry)) (now (m1 .entry)) (now (m2 .entry)) (now (n0 .entry)) (now (n1 .entry)) (now (n2 .entry)) (now (u .entry))) o ⌝ }
 {
-    let e = det(p, m1, n2, m2, n1);
-    let m1h = poly::mul(p, m1, h);
-    let m2g = poly::mul(p, m2, g);
-    let m1gh = poly::mul(p, m1, gh);
-    let m2gh = poly::mul(p, m2, gh);
-    let x = coords(p, &m2gh, m0, &m1h, m0, m1, m2, n0, n1, n2, u, &e, ie);
-    let y = coords(p, &m1gh, &m2g, m0, m0, m1, m2, n0, n1, n2, u, &e, ie);
-    let xa = x.a;
-    let xb = x.b;
-    let xc = x.c;
-    let ya = y.a;
-    let yb = y.b;
-    let yc = y.c;
+    let q = rapid_of(p);
+    let l = lengths_of(m0, m1, m2, n0, n1, n2, u);
+    let lg = size(g);
+    let lh = size(h);
+    let lgh = size(gh);
+    let mut e: [u64; 32] = [0; 32];
+    let le = det_in(p, q, m1, l.m1, n2, l.n2, m2, l.m2, n1, l.n1, &mut e);
+    let mut m1h: [u64; 32] = [0; 32];
+    let z1 = times_in(p, q, m1, l.m1, h, lh, &mut m1h);
+    let mut m2g: [u64; 32] = [0; 32];
+    let z2 = times_in(p, q, m2, l.m2, g, lg, &mut m2g);
+    let mut m1gh: [u64; 32] = [0; 32];
+    let z3 = times_in(p, q, m1, l.m1, gh, lgh, &mut m1gh);
+    let mut m2gh: [u64; 32] = [0; 32];
+    let z4 = times_in(p, q, m2, l.m2, gh, lgh, &mut m2gh);
+    let mut xa: [u64; 32] = [0; 32];
+    let mut xb: [u64; 32] = [0; 32];
+    let mut xc: [u64; 32] = [0; 32];
+    let x = coords_in(p, q, &m2gh, m0, l.m0, &m1h, z1, m0, m1, m2, n0, n1, n2, u, l, &e, le, ie, &mut xa, &mut xb, &mut xc);
+    let mut ya: [u64; 32] = [0; 32];
+    let mut yb: [u64; 32] = [0; 32];
+    let mut yc: [u64; 32] = [0; 32];
+    let y = coords_in(p, q, &m1gh, &m2g, z2, m0, l.m0, m0, m1, m2, n0, n1, n2, u, l, &e, le, ie, &mut ya, &mut yb, &mut yc);
     pairs(p, &xa, &xb, &xc, &ya, &yb, &yc)
 }

@@ -1,47 +1,92 @@
 -- `generators::divided` meets its contract.
-use borrow.Author.Needs.{needs}
-use Rattle.generators.proofs.Products.{e-room, m1-h, m2-g, m1-gh, m2-gh}
+use mathlib.Core.Path.{refl}
+use Rattle.generators.proofs.Leaves.{det-out}
+use Rattle.generators.proofs.Products.{modulus, e-room, m1-h, m2-g, m1-gh, m2-gh}
 use Rattle.generators.proofs.Generate.{x-in, y-in, pairs-in, are-generators}
+use borrow.Author.Needs.{needs}
 use Rattle.generators.proofs.divided.Statement.{statement}
 use Rattle.generators.proofs.divided.Tie as tie
 
-det-requires : tie.Need-det-requires
-det-requires c κs = e-room (c .pre)
+rapid-of-requires : tie.Need-rapid-of-requires
+rapid-of-requires c κs = modulus (c .pre)
 
-mul-requires : tie.Need-mul-requires
-mul-requires c κs = m1-h (c .before .pre)
+lengths-of-requires : tie.Need-lengths-of-requires
+lengths-of-requires c κs = let r = c .before .pre .rows in record { m0 = r .m0 .size; m1 = r .m1 .size; m2 = r .m2 .size; n0 = r .n0 .size; n1 = r .n1 .size; n2 = r .n2 .size; u = r .u .size }
 
-mul-requires-2 : tie.Need-mul-requires-2
-mul-requires-2 c κs = m2-g (c .before .before .pre)
+size-requires : tie.Need-size-requires
+size-requires c κs = c .before .before .pre .hg .size
 
-mul-requires-3 : tie.Need-mul-requires-3
-mul-requires-3 c κs = m1-gh (c .before .before .before .pre)
+size-requires-2 : tie.Need-size-requires-2
+size-requires-2 c κs = c .before .before .before .pre .hh .size
 
-mul-requires-4 : tie.Need-mul-requires-4
-mul-requires-4 c κs = m2-gh (c .before .before .before .before .pre)
+size-requires-3 : tie.Need-size-requires-3
+size-requires-3 c κs = c .before .before .before .before .pre .hgh .size
 
-coords-requires : tie.Need-coords-requires
-coords-requires c κs = x-in (c .before .before .before .before .before .before .before .before .pre) (c .before .before .before .before .before .before .before .det .ensures) (c .before .before .before .before .before .before .mul .ensures) (c .before .before .before .before .before .mul2 .ensures) (c .before .before .before .before .mul3 .ensures) (c .before .before .before .mul4 .ensures)
+det-in-requires : tie.Need-det-in-requires
+det-in-requires c κs =
+    let h = e-room (c .before .before .before .before .before .before .pre) in
+    let l = c .before .before .before .before .lengths-of .ensures in
+    record { modulus = h .modulus; ready = c .before .before .before .before .before .rapid-of .ensures; hx = h .hx; hy = h .hy; hz = h .hz; hv = h .hv; sx = l .m1; sy = l .n2; sz = l .m2; sv = l .n1; left = h .left _ _ (l .m1) (l .n2); right = h .right _ _ (l .m2) (l .n1); blank = refl }
 
-coords-requires-2 : tie.Need-coords-requires-2
-coords-requires-2 c κs = y-in (c .before .before .before .before .before .before .before .before .before .before .before .before .pre) (c .before .before .before .before .before .before .before .before .before .before .before .det .ensures) (c .before .before .before .before .before .before .before .before .before .before .mul .ensures) (c .before .before .before .before .before .before .before .before .before .mul2 .ensures) (c .before .before .before .before .before .before .before .before .mul3 .ensures) (c .before .before .before .before .before .before .before .mul4 .ensures)
+times-in-requires : tie.Need-times-in-requires
+times-in-requires c κs =
+    let h = m1-h (c .before .before .before .before .before .before .before .before .pre) in
+    let a = c .before .before .before .before .before .before .lengths-of .ensures .m1 in
+    let b = c .before .before .before .before .size2 .ensures in
+    record { modulus = h .modulus; ready = c .before .before .before .before .before .before .before .rapid-of .ensures; hx = h .hx; hy = h .hy; sx = a; sy = b; fits = h .room _ _ a b; blank = refl }
+
+times-in-requires-2 : tie.Need-times-in-requires-2
+times-in-requires-2 c κs =
+    let h = m2-g (c .before .before .before .before .before .before .before .before .before .before .pre) in
+    let a = c .before .before .before .before .before .before .before .before .lengths-of .ensures .m2 in
+    let b = c .before .before .before .before .before .before .before .size .ensures in
+    record { modulus = h .modulus; ready = c .before .before .before .before .before .before .before .before .before .rapid-of .ensures; hx = h .hx; hy = h .hy; sx = a; sy = b; fits = h .room _ _ a b; blank = refl }
+
+times-in-requires-3 : tie.Need-times-in-requires-3
+times-in-requires-3 c κs =
+    let h = m1-gh (c .before .before .before .before .before .before .before .before .before .before .before .before .pre) in
+    let a = c .before .before .before .before .before .before .before .before .before .before .lengths-of .ensures .m1 in
+    let b = c .before .before .before .before .before .before .before .size3 .ensures in
+    record { modulus = h .modulus; ready = c .before .before .before .before .before .before .before .before .before .before .before .rapid-of .ensures; hx = h .hx; hy = h .hy; sx = a; sy = b; fits = h .room _ _ a b; blank = refl }
+
+times-in-requires-4 : tie.Need-times-in-requires-4
+times-in-requires-4 c κs =
+    let h = m2-gh (c .before .before .before .before .before .before .before .before .before .before .before .before .before .before .pre) in
+    let a = c .before .before .before .before .before .before .before .before .before .before .before .before .lengths-of .ensures .m2 in
+    let b = c .before .before .before .before .before .before .before .before .before .size3 .ensures in
+    record { modulus = h .modulus; ready = c .before .before .before .before .before .before .before .before .before .before .before .before .before .rapid-of .ensures; hx = h .hx; hy = h .hy; sx = a; sy = b; fits = h .room _ _ a b; blank = refl }
+
+coords-in-requires : tie.Need-coords-in-requires
+coords-in-requires c κs =
+    let l = c .before .before .before .before .before .before .before .before .before .before .before .before .before .before .before .before .before .before .before .lengths-of .ensures in
+    record { inp = x-in (c .before .before .before .before .before .before .before .before .before .before .before .before .before .before .before .before .before .before .before .before .before .pre) (det-out (c .before .before .before .before .before .before .before .before .before .before .before .before .before .before .det-in .ensures)) (c .before .before .before .before .before .before .before .before .before .before .before .before .times-in .ensures .product) (c .before .before .before .before .before .before .before .before .before .before .times-in2 .ensures .product) (c .before .before .before .before .before .before .before .before .times-in3 .ensures .product) (c .before .before .before .before .before .before .times-in4 .ensures .product); ready = c .before .before .before .before .before .before .before .before .before .before .before .before .before .before .before .before .before .before .before .before .rapid-of .ensures; sb = l .m0; sc = c .before .before .before .before .before .before .before .before .before .before .before .before .times-in .ensures .size; sizes = l; se = c .before .before .before .before .before .before .before .before .before .before .before .before .before .before .det-in .ensures .size; zero-a = refl; zero-b = refl; zero-c = refl }
+
+coords-in-requires-2 : tie.Need-coords-in-requires-2
+coords-in-requires-2 c κs =
+    let l = c .before .before .before .before .before .before .before .before .before .before .before .before .before .before .before .before .before .before .before .before .before .before .before .before .before .before .lengths-of .ensures in
+    record { inp = y-in (c .before .before .before .before .before .before .before .before .before .before .before .before .before .before .before .before .before .before .before .before .before .before .before .before .before .before .before .before .pre) (det-out (c .before .before .before .before .before .before .before .before .before .before .before .before .before .before .before .before .before .before .before .before .before .det-in .ensures)) (c .before .before .before .before .before .before .before .before .before .before .before .before .before .before .before .before .before .before .before .times-in .ensures .product) (c .before .before .before .before .before .before .before .before .before .before .before .before .before .before .before .before .before .times-in2 .ensures .product) (c .before .before .before .before .before .before .before .before .before .before .before .before .before .before .before .times-in3 .ensures .product) (c .before .before .before .before .before .before .before .before .before .before .before .before .before .times-in4 .ensures .product); ready = c .before .before .before .before .before .before .before .before .before .before .before .before .before .before .before .before .before .before .before .before .before .before .before .before .before .before .before .rapid-of .ensures; sb = c .before .before .before .before .before .before .before .before .before .before .before .before .before .before .before .before .before .times-in2 .ensures .size; sc = l .m0; sizes = l; se = c .before .before .before .before .before .before .before .before .before .before .before .before .before .before .before .before .before .before .before .before .before .det-in .ensures .size; zero-a = refl; zero-b = refl; zero-c = refl }
 
 pairs-requires : tie.Need-pairs-requires
-pairs-requires c κs = pairs-in (c .before .before .before .before .before .before .before .before .before .before .before .before .before .before .before .before .before .before .before .before .before .before .before .before .before .pre) (c .before .before .before .before .before .before .before .before .before .before .before .before .before .before .before .before .before .before .before .before .before .before .before .before .det .ensures) (c .before .before .before .before .before .before .before .before .before .before .before .before .before .before .before .before .before .before .before .before .before .before .before .mul .ensures) (c .before .before .before .before .before .before .before .before .before .before .before .before .before .before .before .before .before .before .before .before .before .before .mul2 .ensures) (c .before .before .before .before .before .before .before .before .before .before .before .before .before .before .before .before .before .before .before .before .before .mul3 .ensures) (c .before .before .before .before .before .before .before .before .before .before .before .before .before .before .before .before .before .before .before .before .mul4 .ensures) (c .before .before .before .before .before .before .before .before .before .before .before .before .before .before .before .before .coords .ensures) (c .before .before .before .before .before .before .before .before .before .before .before .before .coords2 .ensures)
+pairs-requires c κs = pairs-in (c .before .before .before .before .before .before .before .before .before .before .before .before .before .before .before .before .before .before .before .before .before .before .before .before .before .before .before .before .before .before .before .before .before .before .before .pre) (det-out (c .before .before .before .before .before .before .before .before .before .before .before .before .before .before .before .before .before .before .before .before .before .before .before .before .before .before .before .before .det-in .ensures)) (c .before .before .before .before .before .before .before .before .before .before .before .before .before .before .before .before .before .before .before .before .before .before .before .before .before .before .times-in .ensures .product) (c .before .before .before .before .before .before .before .before .before .before .before .before .before .before .before .before .before .before .before .before .before .before .before .before .times-in2 .ensures .product) (c .before .before .before .before .before .before .before .before .before .before .before .before .before .before .before .before .before .before .before .before .before .before .times-in3 .ensures .product) (c .before .before .before .before .before .before .before .before .before .before .before .before .before .before .before .before .before .before .before .before .times-in4 .ensures .product) (c .before .before .before .before .before .before .before .before .before .before .before .before .before .coords-in .ensures .coords) (c .before .before .before .before .before .before .coords-in2 .ensures .coords)
 
 returns : tie.Need-returns
-returns c = are-generators (c .before .before .before .before .before .before .before .before .before .before .before .before .before .before .before .before .before .before .before .before .before .before .before .before .before .before .pre) (c .before .before .before .before .before .before .before .before .before .before .before .before .before .before .before .before .before .before .before .before .before .before .before .before .before .det .ensures) (c .before .before .before .before .before .before .before .before .before .before .before .before .before .before .before .before .before .before .before .before .before .before .before .before .mul .ensures) (c .before .before .before .before .before .before .before .before .before .before .before .before .before .before .before .before .before .before .before .before .before .before .before .mul2 .ensures) (c .before .before .before .before .before .before .before .before .before .before .before .before .before .before .before .before .before .before .before .before .before .before .mul3 .ensures) (c .before .before .before .before .before .before .before .before .before .before .before .before .before .before .before .before .before .before .before .before .before .mul4 .ensures) (c .before .before .before .before .before .before .before .before .before .before .before .before .before .before .before .before .before .coords .ensures) (c .before .before .before .before .before .before .before .before .before .before .before .before .before .coords2 .ensures) _ (c .pairs .ensures)
+returns c = are-generators (c .before .before .before .before .before .before .before .before .before .before .before .before .before .before .before .before .before .before .before .before .before .before .before .before .before .before .before .before .before .before .before .before .before .before .before .before .pre) (det-out (c .before .before .before .before .before .before .before .before .before .before .before .before .before .before .before .before .before .before .before .before .before .before .before .before .before .before .before .before .before .det-in .ensures)) (c .before .before .before .before .before .before .before .before .before .before .before .before .before .before .before .before .before .before .before .before .before .before .before .before .before .before .before .times-in .ensures .product) (c .before .before .before .before .before .before .before .before .before .before .before .before .before .before .before .before .before .before .before .before .before .before .before .before .before .times-in2 .ensures .product) (c .before .before .before .before .before .before .before .before .before .before .before .before .before .before .before .before .before .before .before .before .before .before .before .times-in3 .ensures .product) (c .before .before .before .before .before .before .before .before .before .before .before .before .before .before .before .before .before .before .before .before .before .times-in4 .ensures .product) (c .before .before .before .before .before .before .before .before .before .before .before .before .before .before .coords-in .ensures .coords) (c .before .before .before .before .before .before .before .coords-in2 .ensures .coords) _ (c .pairs .ensures)
 
 pub divided-spec : {M : Type 1} → statement M
 divided-spec =
     tie.close
     (tie.spec
-    det-requires
-    mul-requires
-    mul-requires-2
-    mul-requires-3
-    mul-requires-4
-    coords-requires
-    coords-requires-2
+    rapid-of-requires
+    lengths-of-requires
+    size-requires
+    size-requires-2
+    size-requires-3
+    det-in-requires
+    times-in-requires
+    times-in-requires-2
+    times-in-requires-3
+    times-in-requires-4
+    coords-in-requires
+    coords-in-requires-2
     pairs-requires
     returns)
