@@ -1,25 +1,8 @@
 // The basis of the order of some fields (first P1, P3 and P6 of document 01), and records checked, right and broken: compared with stdout.
+use printed::line_end;
+use printed::number;
+use printed::numbers;
 ghost use Prim.Native.Nat.{_<_};
-
-fn number(n: u64) {
-    let blank = [b' '];
-    io::print_decimal(1, n);
-    io::write_all(1, &blank);
-}
-
-fn wide(x: u16) -> u64 {
-    x as u64
-}
-
-fn numbers(s: &[u16]) {
-    let mut i: usize = 0;
-    while i < s.len() {
-        number(wide(s[i]));
-        i += 1;
-    }
-    let end = [b'\n'];
-    io::write_all(1, &end);
-}
 
 fn item(s: &[u16], j: usize) -> u16 {
     if j < s.len() { s[j] } else { 0 }
@@ -86,6 +69,7 @@ fn others() {
     number(k as u64);
     let l = bases::check(7, &[4u64, 4, 4, 1], &[4u64], b);
     number(l as u64);
+    line_end();
 }
 
 fn main() {
