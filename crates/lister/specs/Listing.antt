@@ -2,6 +2,7 @@
 --   blank                    a lent slice of 6 c zeros, c = 1,024
 --   Lists line t             t answers the line (without its newline): refused 12 where it does not read as p;G;H; else what the unit of
 --                            p, G, H with budget 1,000 and c = 1,024 is, printed
+--   Told s p G H d at r d'   the answer to a line that reads is put into d
 --   Answer line d at r d'    the answer is put into d at the place `at`, as far as d reaches; r is the place after it
 --   Passes k s d g r k' d'   the lines that end in s from the place g .at on are answered in d from the place g .to on, each answer whole,
 --                            up to the end of s or until less than `room` bytes of d are left
@@ -35,6 +36,14 @@ pub data Lists (line : List ℕ) : List ℕ → Type 0 where
   malformed : ((p : ℕ) (G H : List ℕ) → Reads line p G H → ⊥) → Lists line (refused-text 12)
   read : (p : ℕ) (G H : List ℕ) (m : Made) (rows scratch : List ℕ) → Reads line p G H → Makes p G H budget blank blank m rows scratch
       → Lists line (made-text (line-text p G H) m rows)
+
+-- the answer to a line s that reads as p, G, H
+pub record Told (s : List ℕ) (p : ℕ) (G H d : List ℕ) (at r : ℕ) (d' : List ℕ) : Type 0 where
+  pub m : Made
+  pub rows : List ℕ
+  pub scratch : List ℕ
+  pub makes : Makes p G H budget blank blank m rows scratch
+  pub put : Put d at (made-text s m rows) r d'
 
 pub record Answer (line d : List ℕ) (at r : ℕ) (d' : List ℕ) : Type 0 where
   pub text : List ℕ
