@@ -4,19 +4,24 @@
 --                            p, G, H with budget 1,000 and c = 1,024 is, printed
 --   Told s p G H d at r d'   the answer to a line that reads is put into d
 --   Answer line d at r d'    the answer is put into d at the place `at`, as far as d reaches; r is the place after it
---   Passes k s d g r k' d'   the lines that end in s from the place g .at on are answered in d from the place g .to on, each answer whole,
---                            up to the end of s or until less than `room` bytes of d are left
+--   Steps k s d g r k' d'    one step through a piece s of the input, with the pending bytes in k and the output in d: from g to r
+--   Way k s d g i r k' d'    i steps, each from a place of d that leaves `room` bytes
+--   Passes k s d g r k' d'   such steps up to the end of s, or until less than `room` bytes of d are left
 --   Ends d n r d'            the answer at the input's end: refused 12 where a line is pending
--- Theorems: `lists-one` and `answer-one` in proofs/Once: one answer to a line; `lists-short` in proofs/Short: it has at most `room` bytes;
--- `output-one` there: one output to an input. That the lines met are those of the input, whatever the pieces: `fed-lines`, `fed-output` of crate text.
+-- Theorems: proofs/Once: `lists-one`, `answer-one`, one answer to a line; `passes-one`, one outcome of the steps; `output-one`, one output
+-- to an input. proofs/Short: `lists-short`, an answer has at most `room` bytes. proofs/Paces: `passes-pace`, the lines met are answered
+-- in order, each answer whole. That they are the lines of the input, whatever the pieces: `fed-lines` and `fed-output` of crate text.
 use mathlib.Core.Path.{_≡_}
 use mathlib.Core.Logic.{_⊎_}
 use mathlib.Core.List.{List}
-use Prim.Native.Nat.{ℕ, _+_, _≤_, _<_}
-use lib.ListN.{length, replicate}
+use Prim.Native.Nat.{ℕ, suc, _+_, _≤_, _<_}
+use lib.ListN.{length, take, replicate}
 use Rattle.text.specs.Grammar.{Reads}
 use Rattle.text.specs.Print.{Put, line-text, refused-text}
-use Rattle.text.specs.Feed.{Served, end-text}
+use Rattle.text.specs.Tells.{CutTells}
+use Rattle.text.specs.Feed.{end-text}
+use Rattle.text.specs.declared.cut.Step.{Step}
+use Rattle.text.specs.declared.cut.Step.the-variants.{Whole, Broken, Pending}
 use Rattle.unit.specs.declared.Made.{Made}
 use Rattle.unit.specs.Unit.{Makes}
 use Rattle.lister.specs.Text.{made-text}
@@ -54,17 +59,27 @@ pub record Answer (line d : List ℕ) (at r : ℕ) (d' : List ℕ) : Type 0 wher
 abbrev pub room : ℕ
 room = 20000
 
+-- what a step does where `cut` says c and leaves k'
+abbrev pub Does : List ℕ → List ℕ → Going → Step → List ℕ → Going → List ℕ → Type 0
+Does s d g (Whole m next) k' r d' = (r .at ≡ next) × (r .n ≡ 0) × Answer (take m k') d (g .to) (r .to) d'
+Does s d g (Broken next) k' r d' = (r .at ≡ next) × (r .n ≡ 0) × Put d (g .to) (refused-text 12) (r .to) d'
+Does s d g (Pending m) k' r d' = (r .at ≡ length s) × (r .n ≡ m) × (r .to ≡ g .to) × (d' ≡ d)
+
 pub record Steps (k s d : List ℕ) (g r : Going) (k' d' : List ℕ) : Type 0 where
-  pub served : Served Lists k (g .n) s (g .at) d (g .to) k' (r .n) (r .at) d' (r .to)
-  pub forward : g .at < length s → g .at < r .at
-  pub short : length (served .text) ≤ room
+  pub c : Step
+  pub cuts : CutTells k (g .n) s (g .at) c k'
+  pub does : Does s d g c k' r d'
+
+-- an answer begins only where `room` bytes are left
+pub data Way (k s d : List ℕ) (g : Going) : ℕ → Going → List ℕ → List ℕ → Type 0 where
+  here : Way k s d g 0 g k d
+  more : {i : ℕ} {r q : Going} {k' d' k₂ d₂ : List ℕ} → Way k s d g i r k' d' → r .at < length s → r .to + room ≤ length d → Steps k' s d' r q k₂ d₂
+      → Way k s d g (suc i) q k₂ d₂
 
 pub record Passes (k s d : List ℕ) (g r : Going) (k' d' : List ℕ) : Type 0 where
-  pub served : Served Lists k (g .n) s (g .at) d (g .to) k' (r .n) (r .at) d' (r .to)
-  pub whole : r .to ≡ g .to + length (served .text)
-  pub inside : g .to ≤ length d → r .to ≤ length d
+  pub steps : ℕ
+  pub way : Way k s d g steps r k' d'
   pub stops : (length s ≤ r .at) ⊎ (length d < r .to + room)
-  pub forward : g .at < length s → g .to + room ≤ length d → g .at < r .at
 
 abbrev pub Ends : List ℕ → ℕ → ℕ → List ℕ → Type 0
 Ends d n r d' = Put d 0 (end-text n) r d'

@@ -7,7 +7,6 @@ ghost use Rattle.text.specs.Print.{Put, number-text, list-text};
 ghost use Rattle.six.specs.Six.{cut};
 ghost use Rattle.lister.specs.Text.{trim, rows-text, made-text};
 ghost use Rattle.lister.specs.Listing.{Told, Answer, Steps, Passes, Ends};
-ghost use Rattle.unit.specs.Unit.{Makes};
 use text::cut::Step;
 use text::read::Parsed;
 use unit::Made;
@@ -67,14 +66,6 @@ fn put_made(out: &mut [u8], at: usize, line: &[u8], m: Made, rows: &[u16]) -> us
     put_rows(out, c, rows)
 }
 
-// TEMP
-fn unit(p: u64, g: &[u64], h: &[u64], budget: u64, rows: &mut [u16], scratch: &mut [u16]) -> Made
-    ensures { λ m. ⌜ Makes p (now (g .entry)) (now (h .entry)) budget (now (rows .entry)) (now (scratch .entry)) m (now (rows .exit)) (now (scratch .exit)) ⌝ }
-{
-    Made { refusal: 0, period: counts::Period(0), regulator: counts::Regulator(0) }
-}
-// PMET
-
 // The answer to a line that reads as p, G, H.
 fn field_answer(line: &[u8], p: u64, g: &[u64], h: &[u64], out: &mut [u8], at: usize) -> usize
     ensures { λ r.
@@ -82,7 +73,7 @@ fn field_answer(line: &[u8], p: u64, g: &[u64], h: &[u64], out: &mut [u8], at: u
 {
     let mut rows = [0u16; 6144];
     let mut scratch = [0u16; 6144];
-    let m = unit(p, g, h, 1000, &mut rows, &mut scratch);
+    let m = unit::unit(p, g, h, 1000, &mut rows, &mut scratch);
     put_made(out, at, line, m, &rows)
 }
 

@@ -1,8 +1,8 @@
 -- `lister::step` meets its contract.
-use mathlib.Core.Path.{sym}
+use mathlib.Core.Path.{refl, sym}
 use lib.Seq.{length-take-le}
 use Rattle.text.proofs.Steps.{whole-step}
-use Rattle.lister.proofs.Paces.{steps-whole, steps-broken, steps-pending}
+use Rattle.lister.proofs.Paces.{steps-by}
 use borrow.Author.Needs.{needs}
 use Rattle.lister.proofs.step.Statement.{statement}
 use Rattle.lister.proofs.step.Tie as tie
@@ -38,7 +38,7 @@ same-length-2 : tie.Need-same-length-2
 same-length-2 c = search needs
 
 returns : tie.Need-returns
-returns c = steps-whole (c .before .before .before .before .before .before .before .before .before .before .before .before .before .before .before .args .kept .now) (c .before .before .before .before .before .before .before .before .before .before .before .before .before .before .before .args .s .now) (c .before .before .before .before .before .before .before .before .before .before .before .before .before .before .before .args .out .now) (c .before .before .before .before .before .before .before .before .before .before .before .before .before .before .before .args .g) (c .before .before .before .before .before .before .before .before .before .before .cut .last .0) _ _ _ _ _ _ (c .before .before .before .before .before .before .c .given .1) (c .before .before .before .before .before .before .before .before .before .before .cut .ensures) (c .before .before .answer .ensures .lists) (c .before .before .answer .ensures .put)
+returns c = steps-by (c .before .before .before .before .before .before .before .before .before .before .before .before .before .before .before .args .kept .now) (c .before .before .before .before .before .before .before .before .before .before .before .before .before .before .before .args .s .now) (c .before .before .before .before .before .before .before .before .before .before .before .before .before .before .before .args .out .now) (c .before .before .before .before .before .before .before .before .before .before .before .before .before .before .before .args .g) (c .before .before .before .before .before .before .c .given .1) (c .before .before .before .before .before .before .before .before .before .before .cut .ensures) (refl, refl, (c .before .before .answer .ensures))
 
 same-length-3 : tie.Need-same-length-3
 same-length-3 c = search needs
@@ -47,13 +47,13 @@ same-length-4 : tie.Need-same-length-4
 same-length-4 c = search needs
 
 returns-2 : tie.Need-returns-2
-returns-2 c = steps-broken (c .before .before .before .before .before .before .before .before .before .before .before .before .before .before .args .kept .now) (c .before .before .before .before .before .before .before .before .before .before .before .before .before .before .args .s .now) (c .before .before .before .before .before .before .before .before .before .before .before .before .before .before .args .out .now) (c .before .before .before .before .before .before .before .before .before .before .before .before .before .before .args .g) (c .before .before .before .before .before .before .before .before .before .cut .last .0) _ _ _ _ (c .before .before .before .before .before .c2 .given .1) (c .before .before .before .before .before .before .before .before .before .cut .ensures) (c .before .before .put-refused .ensures)
+returns-2 c = steps-by (c .before .before .before .before .before .before .before .before .before .before .before .before .before .before .args .kept .now) (c .before .before .before .before .before .before .before .before .before .before .before .before .before .before .args .s .now) (c .before .before .before .before .before .before .before .before .before .before .before .before .before .before .args .out .now) (c .before .before .before .before .before .before .before .before .before .before .before .before .before .before .args .g) (c .before .before .before .before .before .c2 .given .1) (c .before .before .before .before .before .before .before .before .before .cut .ensures) (refl, refl, (c .before .before .put-refused .ensures))
 
 same-length-5 : tie.Need-same-length-5
 same-length-5 c = search needs
 
 returns-3 : tie.Need-returns-3
-returns-3 c = steps-pending (c .before .before .before .before .before .before .before .before .before .before .args .kept .now) (c .before .before .before .before .before .before .before .before .before .before .args .s .now) (c .before .before .before .before .before .before .before .before .before .before .args .out .now) (c .before .before .before .before .before .before .before .before .before .before .args .g) (c .before .before .before .before .before .cut .last .0) _ _ (c .before .c3 .given .1) (c .before .before .before .before .before .cut .ensures)
+returns-3 c = steps-by (c .before .before .before .before .before .before .before .before .before .before .args .kept .now) (c .before .before .before .before .before .before .before .before .before .before .args .s .now) (c .before .before .before .before .before .before .before .before .before .before .args .out .now) (c .before .before .before .before .before .before .before .before .before .before .args .g) (c .before .c3 .given .1) (c .before .before .before .before .before .cut .ensures) (refl, refl, refl, refl)
 
 pub step-spec : {M : Type 1} → statement M
 step-spec =
