@@ -13,7 +13,7 @@ pub struct Told {
 }
 
 // The walk in an opened field.
-fn walked(c: series::Cubic, b: [u16; 119], budget: u64) -> Walked
+pub fn walked(c: series::Cubic, b: [u16; 119], budget: u64) -> Walked
     requires { ⌜ WalkedIn c b budget ⌝ }
     ensures { λ o. ⌜ WalkedOut c b budget o ⌝ }
 {
