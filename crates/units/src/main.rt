@@ -3,7 +3,8 @@ ghost use Prim.Native.Nat.{_≤_};
 ghost use lib.ListN.{length};
 ghost use Rattle.units.specs.Serve.{Serves};
 ghost use Rattle.lister.specs.Listing.{room};
-use libc::{STDIN_FILENO, STDOUT_FILENO};
+use libc::STDIN_FILENO;
+use libc::STDOUT_FILENO;
 use lister::Going;
 
 // Whether to go on, and how many bytes of a line are pending.

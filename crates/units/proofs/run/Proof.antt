@@ -1,18 +1,11 @@
-use Prim.Native.Nat.{ℕ, zero, suc, _≤_, _<_, _-_, _*_, _+_, _%_}
-use mathlib.Core.Path.{_≡_, _∙_, sym, ap, refl, subst}
-use mathlib.Core.List.{List, [], _∷_, _++_}
+-- `units::run` is safe and ends.
+use mathlib.Core.Path.{sym}
 use native.Mathlib.Omega.{arith}
-use native.Mathlib.Numerals.{add-one}
-use lib.ListN.{length, length-set, getD, set, replicate, take, drop}
+use lib.Seq.{length-take-le}
+use Rattle.units.proofs.Hearing.{put-prefix}
 use borrow.Author.Needs.{needs}
 use Rattle.units.proofs.run.Statement.{statement}
 use Rattle.units.proofs.run.Tie as tie
-use Rattle.units.proofs.run.Reads as reads
-use Rattle.units.proofs.run.Lts as lts
-use Rattle.io.proofs.large_buffer.Reads as large-buffer-reads
-use Rattle.io.proofs.write_all.Reads as write-all-reads
-use Rattle.lister.proofs.finish.Reads as finish-reads
-use Rattle.units.proofs.turns.Reads as turns-reads
 
 large-buffer-requires : tie.Need-large-buffer-requires
 large-buffer-requires c κs = search needs
@@ -33,7 +26,7 @@ slice-reshare-prefix-write-all : tie.Need-slice-reshare-prefix-write-all
 slice-reshare-prefix-write-all c = search needs
 
 slice-aggregate-write-all : tie.Need-slice-aggregate-write-all
-slice-aggregate-write-all c = search needs
+slice-aggregate-write-all c = sym (length-take-le _ _ (put-prefix (omega arith) (c .before .before .before .finish .ensures)))
 
 write-all-requires : tie.Need-write-all-requires
 write-all-requires c κs = search needs
