@@ -1,14 +1,14 @@
--- `series_test::numbers` is safe and ends.
+-- `printed::numbers` is safe and ends.
 use Prim.Native.Nat.{_≤_, _-_}
 use lib.ListN.{length}
 use borrow.Author.Needs.{needs}
-use Rattle.series_test.proofs.numbers.Statement.{statement}
-use Rattle.series_test.proofs.numbers.Tie as tie
-use Rattle.series_test.proofs.numbers.Reads as reads
-use Rattle.series_test.proofs.numbers.Lts as lts
-use Rattle.series_test.proofs.line_end.Reads as line-end-reads
-use Rattle.series_test.proofs.number.Reads as number-reads
-use Rattle.series_test.proofs.wide.Reads as wide-reads
+use Rattle.printed.proofs.numbers.Statement.{statement}
+use Rattle.printed.proofs.numbers.Tie as tie
+use Rattle.printed.proofs.numbers.Reads as reads
+use Rattle.printed.proofs.numbers.Lts as lts
+use Rattle.printed.proofs.line_end.Reads as line-end-reads
+use Rattle.printed.proofs.number.Reads as number-reads
+use Rattle.printed.proofs.wide.Reads as wide-reads
 
 abbrev Inv-loop : tie.InvT-loop
 Inv-loop s i₀ i = i ≤ length s
