@@ -5,7 +5,7 @@ ghost use Rattle.book_bytes.specs.Bytes.{Put};
 ghost use Rattle.book_bytes.specs.Decides.{Decides};
 ghost use Rattle.book_body.specs.Body.{FirstList, Rule};
 ghost use Rattle.book_write.specs.Code.{Head, headBytes, Lists, listBytes, listLong};
-ghost use Rattle.book_write.specs.Write.{bodyFrom, wroteSays, WriteTells};
+ghost use Rattle.book_write.specs.Write.{bodyFrom, wroteSays, WriteTells, Numbered};
 
 // The answer to writing a body: its length; a refusal 1 to 8 of the field; 13 (body rule, entry 0); 11.
 pub enum Wrote {
@@ -111,7 +111,7 @@ pub fn write_body(
 ) -> Wrote
     ensures { λ r.
         ⌜ WriteTells (bodyFrom p (now (g .entry)) (now (h .entry)) (period .0) (now (a .entry)) (now (b .entry)) (now (c .entry)))
-        (now (out .entry)) (wroteSays r) (now (out .exit)) ⌝ }
+        (now (out .entry)) (wroteSays r) (now (out .exit)) × Numbered r ⌝ }
 {
     let x = field::refusal(p, g, h);
     if x != 0 {
