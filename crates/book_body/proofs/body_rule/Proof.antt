@@ -12,7 +12,7 @@ start-requires : tie.Need-start-requires
 start-requires c κs = search needs
 
 returns : tie.Need-returns
-returns c = answer-no (λ b. c .if1 .taken (b .size ∙ sym (c .before .start .ensures .0)))
+returns c = answer-no (λ b. let e = b .size in let f = c .before .start .ensures .0 in omega arith)
 
 four-requires : tie.Need-four-requires
 four-requires c κs = search needs
@@ -48,7 +48,7 @@ returns-7 : tie.Need-returns-7
 returns-7 c = answer-no (body-first (c .before .before .before .before .before .before .before .before .before .before .before .before .before .before .args .s .now) (c .before .first-list .ensures .no! (not-true _ (c .if7 .taken))))
 
 returns-8 : tie.Need-returns-8
-returns-8 c = answer-yes (body-yes (c .before .before .before .before .before .before .before .before .before .before .before .before .before .before .args .s .now) _ _ (c .before .before .before .before .before .before .before .before .before .before .before .before .start .ensures .0) (c .before .before .before .before .before .before .before .before .before .before .before .if1 .left) (c .before .before .before .before .before .before .before .before .before .before .four .ensures .0) (omega arith) (omega arith) (c .before .before .before .before .before .before .before .unit-at .ensures .yes! (not-false _ (c .before .before .before .before .before .before .if4 .left))) (c .before .before .before .before .before .unit-at2 .ensures .yes! (not-false _ (c .before .before .before .before .if5 .left))) (c .before .before .before .unit-at3 .ensures .yes! (not-false _ (c .before .before .if6 .left))) (c .before .first-list .ensures .yes! (not-false _ (c .if7 .left))))
+returns-8 c = answer-yes (body-yes (c .before .before .before .before .before .before .before .before .before .before .before .before .before .before .args .s .now) _ _ (c .before .before .before .before .before .before .before .before .before .before .before .before .start .ensures .0) (omega arith) (c .before .before .before .before .before .before .before .before .before .before .four .ensures .0) (omega arith) (omega arith) (c .before .before .before .before .before .before .before .unit-at .ensures .yes! (not-false _ (c .before .before .before .before .before .before .if4 .left))) (c .before .before .before .before .before .unit-at2 .ensures .yes! (not-false _ (c .before .before .before .before .if5 .left))) (c .before .before .before .unit-at3 .ensures .yes! (not-false _ (c .before .before .if6 .left))) (c .before .first-list .ensures .yes! (not-false _ (c .if7 .left))))
 
 pub body-rule-spec : {M : Type 1} → statement M
 body-rule-spec =
