@@ -1,6 +1,6 @@
 -- The bytes settle the answer to attesting.
---   says-one    what it says
---   attest-one  the answer itself
+--   attest-one        what it says
+--   attestation-one   the answer itself
 use mathlib.Core.Path.{_≡_, refl, sym, ap, _∙_}
 use mathlib.Core.List.{List}
 use Prim.Native.Nat.{ℕ, zero, suc, _-_}
@@ -13,23 +13,23 @@ use Rattle.book_attest.specs.Attest.{attestSays, AttestTells, book, no-e
 use Rattle.book_attest.specs.declared.Attestation.{Attestation}
 use Rattle.book_attest.specs.declared.Attestation.the-variants.{Yes, No, Refused, NoEntry}
 
-says-one : (s : List ℕ) (i : ℕ) (x y : Said) → AttestTells s i x → AttestTells s i y → x ≡ y
-says-one s i x y (book f t) (book g u) = tells-one s t u
-says-one s i x y (book f t) (no-entry a l e) = absurd (f a)
-says-one s i x y (book f t) (yes a l w e) = absurd (f a)
-says-one s i x y (book f t) (no a l w e) = absurd (f a)
-says-one s i x y (no-entry a l e) (book f t) = absurd (f a)
-says-one s i x y (no-entry a l e) (no-entry b k g) = e ∙ sym g
-says-one s i x y (no-entry a l e) (yes b k w g) = absurd (omega arith)
-says-one s i x y (no-entry a l e) (no b k w g) = absurd (omega arith)
-says-one s i x y (yes a l w e) (book f t) = absurd (f a)
-says-one s i x y (yes a l w e) (no-entry b k g) = absurd (omega arith)
-says-one s i x y (yes a l w e) (yes b k v g) = e ∙ sym g
-says-one s i x y (yes a l w e) (no b k v g) = absurd (v w)
-says-one s i x y (no a l w e) (book f t) = absurd (f a)
-says-one s i x y (no a l w e) (no-entry b k g) = absurd (omega arith)
-says-one s i x y (no a l w e) (yes b k v g) = absurd (w v)
-says-one s i x y (no a l w e) (no b k v g) = e ∙ sym g
+pub attest-one : (s : List ℕ) (i : ℕ) (x y : Said) → AttestTells s i x → AttestTells s i y → x ≡ y
+attest-one s i x y (book f t) (book g u) = tells-one s t u
+attest-one s i x y (book f t) (no-entry a l e) = absurd (f a)
+attest-one s i x y (book f t) (yes a l w e) = absurd (f a)
+attest-one s i x y (book f t) (no a l w e) = absurd (f a)
+attest-one s i x y (no-entry a l e) (book f t) = absurd (f a)
+attest-one s i x y (no-entry a l e) (no-entry b k g) = e ∙ sym g
+attest-one s i x y (no-entry a l e) (yes b k w g) = absurd (omega arith)
+attest-one s i x y (no-entry a l e) (no b k w g) = absurd (omega arith)
+attest-one s i x y (yes a l w e) (book f t) = absurd (f a)
+attest-one s i x y (yes a l w e) (no-entry b k g) = absurd (omega arith)
+attest-one s i x y (yes a l w e) (yes b k v g) = e ∙ sym g
+attest-one s i x y (yes a l w e) (no b k v g) = absurd (v w)
+attest-one s i x y (no a l w e) (book f t) = absurd (f a)
+attest-one s i x y (no a l w e) (no-entry b k g) = absurd (omega arith)
+attest-one s i x y (no a l w e) (yes b k v g) = absurd (w v)
+attest-one s i x y (no a l w e) (no b k v g) = e ∙ sym g
 
 -- ---- the code's answer out of the numbers: 0 with the result, 13 and 14
 abbrev answer : ℕ → ℕ → Reason → Attestation
@@ -52,5 +52,5 @@ attest-back (Refused (Field i n)) = refl
 attest-back (Refused (Twice i j)) = refl
 attest-back NoEntry = refl
 
-pub attest-one : (s : List ℕ) (i : ℕ) (a b : Attestation) → AttestTells s i (attestSays a) → AttestTells s i (attestSays b) → a ≡ b
-attest-one s i a b t u = sym (attest-back a) ∙ ap attestOf (says-one s i (attestSays a) (attestSays b) t u) ∙ attest-back b
+pub attestation-one : (s : List ℕ) (i : ℕ) (a b : Attestation) → AttestTells s i (attestSays a) → AttestTells s i (attestSays b) → a ≡ b
+attestation-one s i a b t u = sym (attest-back a) ∙ ap attestOf (attest-one s i (attestSays a) (attestSays b) t u) ∙ attest-back b
