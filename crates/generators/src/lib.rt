@@ -302,10 +302,54 @@ pub fn divided(
     let mut xa: [u64; 32] = [0; 32];
     let mut xb: [u64; 32] = [0; 32];
     let mut xc: [u64; 32] = [0; 32];
-    let x = coords_in(p, q, &m2gh, m0, l.m0, &m1h, z1, m0, m1, m2, n0, n1, n2, u, l, &e, le, ie, &mut xa, &mut xb, &mut xc);
+    let x = coords_in(
+        p,
+        q,
+        &m2gh,
+        m0,
+        l.m0,
+        &m1h,
+        z1,
+        m0,
+        m1,
+        m2,
+        n0,
+        n1,
+        n2,
+        u,
+        l,
+        &e,
+        le,
+        ie,
+        &mut xa,
+        &mut xb,
+        &mut xc,
+    );
     let mut ya: [u64; 32] = [0; 32];
     let mut yb: [u64; 32] = [0; 32];
     let mut yc: [u64; 32] = [0; 32];
-    let y = coords_in(p, q, &m1gh, &m2g, z2, m0, l.m0, m0, m1, m2, n0, n1, n2, u, l, &e, le, ie, &mut ya, &mut yb, &mut yc);
+    let y = coords_in(
+        p,
+        q,
+        &m1gh,
+        &m2g,
+        z2,
+        m0,
+        l.m0,
+        m0,
+        m1,
+        m2,
+        n0,
+        n1,
+        n2,
+        u,
+        l,
+        &e,
+        le,
+        ie,
+        &mut ya,
+        &mut yb,
+        &mut yc,
+    );
     pairs(p, &xa, &xb, &xc, &ya, &yb, &yc)
 }
