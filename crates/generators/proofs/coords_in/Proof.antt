@@ -1,7 +1,6 @@
 -- `generators::coords_in` meets its contract.
 use mathlib.Core.Path.{refl}
 use Rattle.generators.proofs.Leaves.{det-out, room-β, room-γ, coords-made}
-use borrow.Author.Needs.{needs}
 use Rattle.generators.proofs.coords_in.Statement.{statement}
 use Rattle.generators.proofs.coords_in.Tie as tie
 

@@ -1,21 +1,14 @@
 -- `generators::divided` meets its contract.
-<<<<<<< HEAD
 use mathlib.Core.Path.{refl}
 use Rattle.generators.proofs.Leaves.{det-out}
 use Rattle.generators.proofs.Products.{modulus, e-room, m1-h, m2-g, m1-gh, m2-gh}
-=======
-use borrow.Author.Needs.{needs}
-use Rattle.generators.proofs.Products.{e-room, by-g, by-h, by-gh, m1-by, m2-by}
->>>>>>> speed
 use Rattle.generators.proofs.Generate.{x-in, y-in, pairs-in, are-generators}
-use borrow.Author.Needs.{needs}
 use Rattle.generators.proofs.divided.Statement.{statement}
 use Rattle.generators.proofs.divided.Tie as tie
 
 rapid-of-requires : tie.Need-rapid-of-requires
 rapid-of-requires c κs = modulus (c .pre)
 
-<<<<<<< HEAD
 lengths-of-requires : tie.Need-lengths-of-requires
 lengths-of-requires c κs = let r = c .before .pre .rows in record { m0 = r .m0 .size; m1 = r .m1 .size; m2 = r .m2 .size; n0 = r .n0 .size; n1 = r .n1 .size; n2 = r .n2 .size; u = r .u .size }
 
@@ -27,19 +20,6 @@ size-requires-2 c κs = c .before .before .before .pre .hh .size
 
 size-requires-3 : tie.Need-size-requires-3
 size-requires-3 c κs = c .before .before .before .before .pre .hgh .size
-=======
-mul-requires : tie.Need-mul-requires
-mul-requires c κs = let i = c .before .pre in m1-by i (search (by-g i, by-h i, by-gh i))
-
-mul-requires-2 : tie.Need-mul-requires-2
-mul-requires-2 c κs = let i = c .before .before .pre in m2-by i (search (by-g i, by-h i, by-gh i))
-
-mul-requires-3 : tie.Need-mul-requires-3
-mul-requires-3 c κs = let i = c .before .before .before .pre in m1-by i (search (by-g i, by-h i, by-gh i))
-
-mul-requires-4 : tie.Need-mul-requires-4
-mul-requires-4 c κs = let i = c .before .before .before .before .pre in m2-by i (search (by-g i, by-h i, by-gh i))
->>>>>>> speed
 
 det-in-requires : tie.Need-det-in-requires
 det-in-requires c κs =
