@@ -6,7 +6,7 @@ use mathlib.Core.List.{List, [], _∷_}
 use Prim.Native.Nat.{ℕ, zero, suc, _+_, _*_, _-_, _%_, _<_, _≤_}
 use native.Mathlib.Nat.{mul-comm}
 use native.Mathlib.Omega.{arith}
-use lib.ListN.{length, getD}
+use lib.ListN.{length, getD, replicate}
 use Rattle.ring.proofs.Laws as rg
 use Rattle.ring.specs.Ring.{Ops, CRing}
 use Rattle.ring.proofs.Solve.{var, hyp, one, minus, _:+_, _:*_, solve, solve-by}
@@ -29,7 +29,8 @@ use Rattle.reading.proofs.Floors.{zero-row}
 use Rattle.poly.specs.Leaf.{MulIn, Product, Summed, Difference}
 use Rattle.poly.specs.Division.{DivIn, Exact}
 use Rattle.poly.specs.Factors.{polynomial, Common}
-use Rattle.sized.specs.Sized.{Mixed, DetOut}
+use Rattle.poly.specs.Terms.{Ready}
+use Rattle.sized.specs.Sized.{Mixed, TimesBy, DetOut}
 use Rattle.generators.specs.Known.{three}
 use Rattle.poly.proofs.Leaf.{size-one}
 use Rattle.generators.specs.Rows.{Seven, AreRows}
@@ -46,6 +47,10 @@ det-of p x y z v a b r ha hb h = record {
 
 pub det-out : {p : ℕ} {x y z v o : List ℕ} {l : ℕ} → DetOut p x y z v o l → Det p x y z v o
 det-out h = record { is-row = h .is-row; law = h .law }
+
+-- what `times_in` asks
+pub times-by : {p mul lim n m : ℕ} {x y r : List ℕ} → MulIn p x y → Ready p mul lim → Size x n → Size y m → r ≡ replicate 32 0 → TimesBy p mul lim x n y m r
+times-by h w a b z = record { modulus = h .modulus; ready = w; hx = h .hx; hy = h .hy; sx = a; sy = b; fits = h .room _ _ a b; blank = z }
 
 -- ---- coordinates
 module _ {p : ℕ} {va vb vc : List ℕ} {b : Seven} {e : List ℕ} {ie : ℕ} (c : CoordsIn p va vb vc b e ie)

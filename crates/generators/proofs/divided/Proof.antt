@@ -1,7 +1,7 @@
 -- `generators::divided` meets its contract.
 use mathlib.Core.Path.{refl}
-use Rattle.generators.proofs.Leaves.{det-out}
-use Rattle.generators.proofs.Products.{modulus, e-room, m1-h, m2-g, m1-gh, m2-gh}
+use Rattle.generators.proofs.Leaves.{det-out, times-by}
+use Rattle.generators.proofs.Products.{modulus, e-room, by-g, by-h, by-gh, m1-by, m2-by}
 use Rattle.generators.proofs.Generate.{x-in, y-in, pairs-in, are-generators}
 use Rattle.generators.proofs.divided.Statement.{statement}
 use Rattle.generators.proofs.divided.Tie as tie
@@ -29,31 +29,23 @@ det-in-requires c κs =
 
 times-in-requires : tie.Need-times-in-requires
 times-in-requires c κs =
-    let h = m1-h (c .before .before .before .before .before .before .before .before .pre) in
-    let a = c .before .before .before .before .before .before .lengths-of .ensures .m1 in
-    let b = c .before .before .before .before .size2 .ensures in
-    record { modulus = h .modulus; ready = c .before .before .before .before .before .before .before .rapid-of .ensures; hx = h .hx; hy = h .hy; sx = a; sy = b; fits = h .room _ _ a b; blank = refl }
+    let i = c .before .before .before .before .before .before .before .before .pre in
+    times-by (m1-by i (search (by-g i, by-h i, by-gh i))) (c .before .before .before .before .before .before .before .rapid-of .ensures) (c .before .before .before .before .before .before .lengths-of .ensures .m1) (search (c .before .before .before .before .before .size .ensures, c .before .before .before .before .size2 .ensures, c .before .before .before .size3 .ensures)) refl
 
 times-in-requires-2 : tie.Need-times-in-requires-2
 times-in-requires-2 c κs =
-    let h = m2-g (c .before .before .before .before .before .before .before .before .before .before .pre) in
-    let a = c .before .before .before .before .before .before .before .before .lengths-of .ensures .m2 in
-    let b = c .before .before .before .before .before .before .before .size .ensures in
-    record { modulus = h .modulus; ready = c .before .before .before .before .before .before .before .before .before .rapid-of .ensures; hx = h .hx; hy = h .hy; sx = a; sy = b; fits = h .room _ _ a b; blank = refl }
+    let i = c .before .before .before .before .before .before .before .before .before .before .pre in
+    times-by (m2-by i (search (by-g i, by-h i, by-gh i))) (c .before .before .before .before .before .before .before .before .before .rapid-of .ensures) (c .before .before .before .before .before .before .before .before .lengths-of .ensures .m2) (search (c .before .before .before .before .before .before .before .size .ensures, c .before .before .before .before .before .before .size2 .ensures, c .before .before .before .before .before .size3 .ensures)) refl
 
 times-in-requires-3 : tie.Need-times-in-requires-3
 times-in-requires-3 c κs =
-    let h = m1-gh (c .before .before .before .before .before .before .before .before .before .before .before .before .pre) in
-    let a = c .before .before .before .before .before .before .before .before .before .before .lengths-of .ensures .m1 in
-    let b = c .before .before .before .before .before .before .before .size3 .ensures in
-    record { modulus = h .modulus; ready = c .before .before .before .before .before .before .before .before .before .before .before .rapid-of .ensures; hx = h .hx; hy = h .hy; sx = a; sy = b; fits = h .room _ _ a b; blank = refl }
+    let i = c .before .before .before .before .before .before .before .before .before .before .before .before .pre in
+    times-by (m1-by i (search (by-g i, by-h i, by-gh i))) (c .before .before .before .before .before .before .before .before .before .before .before .rapid-of .ensures) (c .before .before .before .before .before .before .before .before .before .before .lengths-of .ensures .m1) (search (c .before .before .before .before .before .before .before .before .before .size .ensures, c .before .before .before .before .before .before .before .before .size2 .ensures, c .before .before .before .before .before .before .before .size3 .ensures)) refl
 
 times-in-requires-4 : tie.Need-times-in-requires-4
 times-in-requires-4 c κs =
-    let h = m2-gh (c .before .before .before .before .before .before .before .before .before .before .before .before .before .before .pre) in
-    let a = c .before .before .before .before .before .before .before .before .before .before .before .before .lengths-of .ensures .m2 in
-    let b = c .before .before .before .before .before .before .before .before .before .size3 .ensures in
-    record { modulus = h .modulus; ready = c .before .before .before .before .before .before .before .before .before .before .before .before .before .rapid-of .ensures; hx = h .hx; hy = h .hy; sx = a; sy = b; fits = h .room _ _ a b; blank = refl }
+    let i = c .before .before .before .before .before .before .before .before .before .before .before .before .before .before .pre in
+    times-by (m2-by i (search (by-g i, by-h i, by-gh i))) (c .before .before .before .before .before .before .before .before .before .before .before .before .before .rapid-of .ensures) (c .before .before .before .before .before .before .before .before .before .before .before .before .lengths-of .ensures .m2) (search (c .before .before .before .before .before .before .before .before .before .before .before .size .ensures, c .before .before .before .before .before .before .before .before .before .before .size2 .ensures, c .before .before .before .before .before .before .before .before .before .size3 .ensures)) refl
 
 coords-in-requires : tie.Need-coords-in-requires
 coords-in-requires c κs =
