@@ -167,7 +167,7 @@ pub fn unit(
     }
     let l = o.steps;
     let d = o.sum;
-    if c as u64 <= d {
+    if d >= c as u64 {
         return refused(11);
     }
     make(f, b, l, d as usize, c, rows, scratch);
