@@ -1,2 +1,5 @@
 pub mod Rows
 pub mod Poly
+pub mod Tests
+pub mod Steps
+pub mod Bytes
