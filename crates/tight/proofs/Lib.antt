@@ -3,3 +3,4 @@ pub mod Poly
 pub mod Tests
 pub mod Steps
 pub mod Bytes
+pub mod Long
