@@ -1,6 +1,9 @@
 pub mod Rows
 pub mod Poly
+pub mod Pairs
+pub mod Reduction
+pub mod Bases
 pub mod Tests
 pub mod Steps
-pub mod Bytes
 pub mod Long
+pub mod Bytes
