@@ -1,7 +1,7 @@
 -- Crate basis.
---   stored-one, load-one   the record with a row put in; a row taken out of it
---   level-one              row 0 over a denominator
---   based-one              `reduced_basis` and `order`: the whole record, at a meaning of the series
+--   stored-one, load-one           the record with a row put in; a row taken out of it
+--   level-one                      row 0 over a denominator
+--   reduced-basis-one, order-one   the whole record of a reduction
 use mathlib.Core.Path.{_≡_, refl, sym, ap, ap₂, _∙_, subst}
 use mathlib.Core.Logic.{_≢_, _⊎_, inl, inr}
 use mathlib.Core.List.{List, [], _∷_}
@@ -36,10 +36,12 @@ use Rattle.reduce.specs.Frame.{Frame, Meaning, rd, rowμ, pt, X, Y, Ltμ}
 use Rattle.reduce.specs.declared.Pair.{Pair}
 use Rattle.basis.specs.Store.{Stored, Loaded}
 use Rattle.basis.specs.Levels.{LevelIn, Leveled}
-use Rattle.basis.specs.Based.{BasedAt, Based, Z, at, Mpt, Npt}
+use Rattle.basis.specs.First.{nothing, unit, units, OrderIn}
+use Rattle.basis.specs.Based.{BasisIn, BasedAt, Based, Z, at, Mpt, Npt}
 use Rattle.basis.proofs.Levels.{cast-two}
 use Rattle.tight.proofs.Rows.{by-row}
-use Rattle.tight.proofs.Pairs.{Scaled, times-X, times-Y, pairs-one}
+use Rattle.tight.specs.UpTo.{Scaled}
+use Rattle.tight.proofs.Pairs.{times-X, times-Y, pairs-one}
 
 pub stored-one : {B : List ℕ} {i : ℕ} {a C C′ : List ℕ} → Stored B i a C → Stored B i a C′ → C ≡ C′
 stored-one {B} {i} {a} {C} {C′} h k = ext-getD 0 C C′ (h .size ∙ sym (k .size)) (λ j _. go j (decLt j (17 * i)) (decLt j (17 * i + 17)))
@@ -141,9 +143,6 @@ module _ {F : Frame} {q : Pair} {d x1 y1 B B′ : List ℕ} (μ : Meaning F) (h 
   infixl 60 _⊕_
   infixl 70 _⊗_
   infix 80 ⊖_
-  ν-has : (c : BasedAt μ q d x1 y1 B) → Has 𝓥 (const (c .ν)) 0
-  ν-has c = (c .ν, c .ν-unit, 𝓥 .const-lead (c .ν))
-
   d-has : Has 𝓥 (rowμ μ d) (h .u)
   d-has = has-unscale 𝓥 (h .ν, h .ν-unit, 𝓥 .const-lead (h .ν)) (has-eq 𝓥 (K .ops .𝟏, 𝓥 .one≢zero, h .U-lead) (h .U-eq))
 
@@ -228,5 +227,11 @@ module _ {F : Frame} {q : Pair} {d x1 y1 B B′ : List ℕ} (μ : Meaning F) (h 
   seven (suc (suc (suc (suc (suc (suc zero)))))) l = U-same
   seven (suc (suc (suc (suc (suc (suc (suc i))))))) l = absurd (omega arith)
 
-pub based-one : {F : Frame} {q : Pair} {d x1 y1 B B′ : List ℕ} (μ : Meaning F) → Based F q d x1 y1 B → Based F q d x1 y1 B′ → B ≡ B′
+based-one : {F : Frame} {q : Pair} {d x1 y1 B B′ : List ℕ} (μ : Meaning F) → Based F q d x1 y1 B → Based F q d x1 y1 B′ → B ≡ B′
 based-one {B = B} {B′ = B′} μ h h′ = by-parts (rd μ) B B′ (h .size) (h′ .size) (h .each) (h′ .each) (seven μ (h .meant μ) (h′ .meant μ))
+
+pub reduced-basis-one : {F : Frame} {q : Pair} {top : ℕ} {d x1 y1 B B′ : List ℕ} → BasisIn F q top d x1 y1 → Based F q d x1 y1 B → Based F q d x1 y1 B′ → B ≡ B′
+reduced-basis-one g h h′ = based-one (g .clear .some) h h′
+
+pub order-one : {F : Frame} {top : ℕ} {B B′ : List ℕ} → OrderIn F top → Based F units unit nothing nothing B → Based F units unit nothing nothing B′ → B ≡ B′
+order-one g h h′ = based-one (g .some) h h′

@@ -2,6 +2,7 @@ pub mod Rows
 pub mod Poly
 pub mod Pairs
 pub mod Reduction
+pub mod Generators
 pub mod Bases
 pub mod Tests
 pub mod Steps

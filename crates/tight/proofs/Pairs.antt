@@ -1,7 +1,6 @@
 -- Two pairs with one span, both with deg Y(m) < u ≤ deg Y(n) and deg X(n) < deg X(m), differ by a constant at each element.
 --   rises       a combination α m + β n with β not 0 and a small Y has a larger X than m
---   Scaled      m′ = a m and n′ = d n for constants a, d that are not 0
---   pairs-one   the two pairs are so related
+--   pairs-one   m′ = a m and n′ = d n for constants a, d that are not 0
 use mathlib.Core.Path.{_≡_, refl, sym, ap, _∙_}
 use mathlib.Core.Logic.{_≢_, _⊎_, inl, inr}
 use mathlib.Core.List.{[], _∷_}
@@ -19,6 +18,7 @@ use Rattle.valued.proofs.Polynomial.{view, const-path}
 use Rattle.reading.specs.Reading.{Reading}
 use Rattle.turn.specs.Points as T
 use Rattle.turn.specs.Points.{Pt, Moved}
+use Rattle.tight.specs.UpTo.{Scaled}
 
 module _ {p : ℕ} (ρ : Reading p) where
   open Reading ρ using (𝓥)
@@ -41,16 +41,6 @@ module _ {p : ℕ} (ρ : Reading p) where
           let l : N._+_ b y < N._+_ u a = above 𝓥 (has-mul 𝓥 hβ k₂) s in
           let w : Lt 𝓥 (β * P₂) (N._+_ a x) = lt-eq 𝓥 (lt-up 𝓥 (N._+_ a x) (lt-has-mul 𝓥 l₂ hβ) (omega arith)) (L .laws .mul-comm P₂ β) in
           (a, omega arith, has-lt 𝓥 (has-mul 𝓥 h h₁) w)
-
-  pub record Scaled (m n m′ n′ : Pt (L .El)) : Type 0 where
-    pub a : K .El
-    pub d : K .El
-    pub a-unit : a ≢ K .ops .𝟎
-    pub d-unit : d ≢ K .ops .𝟎
-    pub m-b : m′ .b ≡ const a * m .b
-    pub m-c : m′ .c ≡ const a * m .c
-    pub n-b : n′ .b ≡ const d * n .b
-    pub n-c : n′ .c ≡ const d * n .c
 
   module _ (ρᵣ ω : L .El) where
     abbrev pub X : Pt (L .El) → L .El
@@ -161,7 +151,7 @@ module _ {p : ℕ} (ρ : Reading p) where
       right : (z w v : L .El) → v ≡ h .γ * z + h .δ * w → v ≡ const (units .1 .0) * w
       right z w v e = solve-by L (var 0) (var 5 :* var 2) (hyp one (var 0) (var 4 :* var 1 :+ var 3 :* var 2) ∷ hyp (var 1) (var 4) zer ∷ hyp (var 2) (var 3) (var 5) ∷ []) tt (v ∷ z ∷ w ∷ h .δ ∷ h .γ ∷ const (units .1 .0) ∷ []) (e, (γ-none, (δ-is, tt)))
 
-      pub pairs-one : Scaled m n m′ n′
+      pub pairs-one : Scaled ρ m n m′ n′
       pairs-one = record {
         a = units .0 .0;
         d = units .1 .0;

@@ -1,33 +1,27 @@
--- Crates reduce and generators.
+-- Crate reduce.
 --   part-one, lead-of-one   at a meaning of the series; the second where the size has a degree
 --   reduced-one             two reductions have elements that differ by a constant each, and one length: more the contract does not settle
---   det-one, coords-one     two determinants, two triples of coordinates are one
 use mathlib.Core.Path.{_≡_, sym, ap, _∙_}
 use mathlib.Core.Bool.{Bool, true, false}
 use mathlib.Core.List.{List}
 use Prim.Native.Nat.{ℕ, _+_, _-_, _<_, _≤_}
 use native.Mathlib.Omega.{arith}
-use Rattle.fp.specs.Fp.{Prime}
 use Rattle.valued.specs.Val.{Valued}
 use Rattle.valued.specs.Degree.{Has, Lt}
 use Rattle.valued.proofs.Degree.{has-eq, lt-up, same}
 use Rattle.valued.proofs.Compare.{has-scale}
 use Rattle.reading.specs.Reading.{Reading}
-use Rattle.reading.specs.Made.{reading}
-use Rattle.reading.specs.Row.{Size, row}
 use Rattle.reading.proofs.Floors.{floor-lt, floor-top, top-not}
 use Rattle.reading.proofs.Unique.{row-unique, cast-inj}
 use Rattle.turn.proofs.Turn.{moved-back, moved-then}
 use Rattle.reduce.specs.Frame.{Frame, Meaning, Held, point, rd, pt, side, X, Hasμ}
 use Rattle.reduce.specs.Leaves.{Parted, Led}
-use Rattle.reduce.specs.Clear.{Reduced}
+use Rattle.reduce.specs.Clear.{ClearIn, Reduced}
 use Rattle.reduce.specs.declared.Pair.{Pair}
 use Rattle.reduce.specs.declared.Ends.{Ends}
-use Rattle.generators.specs.Rows.{Seven}
-use Rattle.generators.specs.Quotients.{Det, CoordsIn, Coordinates}
-use Rattle.generators.specs.declared.Three.{Three}
-use Rattle.tight.proofs.Rows.{by-row, floor-one}
-use Rattle.tight.proofs.Pairs.{Scaled, times-X, pairs-one}
+use Rattle.tight.proofs.Rows.{floor-one}
+use Rattle.tight.specs.UpTo.{Scaled}
+use Rattle.tight.proofs.Pairs.{times-X, pairs-one}
 
 -- ---- reduce
 pub part-one : {F : Frame} (μ : Meaning F) {e : Bool} {b c : List ℕ} {top : ℕ} {z z′ : List ℕ} → Parted F e b c top z → Parted F e b c top z′ → z ≡ z′
@@ -49,9 +43,9 @@ module _ {F : Frame} {q : Pair} {top lu : ℕ} (μ : Meaning F) where
   X-lt : {o : Ends} → Reduced F q top lu o → Lt (rd μ .𝓥) (X μ (pt μ (o .nb) (o .nc))) (o .lx - 1)
   X-lt {o} h = let l : h .x2 < o .lx = h .x-less in lt-up (rd μ .𝓥) (o .lx - 1) (floor-lt (rd μ) (h .hn .floor μ) (h .sx2)) (omega arith)
 
-  pub reduced-one : (o o′ : Ends) → Reduced F q top lu o → Reduced F q top lu o′
+  alike : (o o′ : Ends) → Reduced F q top lu o → Reduced F q top lu o′
       → (o .lx ≡ o′ .lx) × Scaled (rd μ) (pt μ (o .mb) (o .mc)) (pt μ (o .nb) (o .nc)) (pt μ (o′ .mb) (o′ .mc)) (pt μ (o′ .nb) (o′ .nc))
-  reduced-one o o′ h k =
+  alike o o′ h k =
       let ρ = rd μ in
       let y : lu - 1 ≤ h .y = (let l = h .y-high in omega (arith, l)) in
       let y′ : lu - 1 ≤ k .y = (let l = k .y-high in omega (arith, l)) in
@@ -62,16 +56,6 @@ module _ {F : Frame} {q : Pair} {top lu : ℕ} (μ : Meaning F) where
       let b : 0 < o′ .lx = positive k in
       (omega arith, s)
 
--- ---- generators
-pub det-one : {p : ℕ} (pr : Prime p) {x y z v r s : List ℕ} → Det p x y z v r → Det p x y z v s → r ≡ s
-det-one {p} pr h k = by-row (reading p pr) (h .is-row) (k .is-row) (h .law pr) (k .law pr)
-
-pub coords-one : {p : ℕ} {va vb vc : List ℕ} {b : Seven} {e : List ℕ} {ie : ℕ} (o o′ : Three) → CoordsIn p va vb vc b e ie → Coordinates p va vb vc b e o → Coordinates p va vb vc b e o′ → o ≡ o′
-coords-one {p} o o′ g h k =
-    let ρ = reading p (g .prime) in
-    let (x, y, z) = h .law (g .prime) (g .α) (g .β) (g .γ) (g .some) in
-    let (x′, y′, z′) = k .law (g .prime) (g .α) (g .β) (g .γ) (g .some) in
-    let a : o .a ≡ o′ .a = by-row ρ (h .ha) (k .ha) x x′ in
-    let b : o .b ≡ o′ .b = by-row ρ (h .hb) (k .hb) y y′ in
-    let c : o .c ≡ o′ .c = by-row ρ (h .hc) (k .hc) z z′ in
-    λ i. record { a = a i; b = b i; c = c i }
+pub reduced-one : {F : Frame} {q : Pair} {top lu : ℕ} (o o′ : Ends) (g : ClearIn F q top lu) → Reduced F q top lu o → Reduced F q top lu o′
+    → (o .lx ≡ o′ .lx) × (let μ = g .some in Scaled (rd μ) (pt μ (o .mb) (o .mc)) (pt μ (o .nb) (o .nc)) (pt μ (o′ .mb) (o′ .mc)) (pt μ (o′ .nb) (o′ .nc)))
+reduced-one o o′ g h k = alike (g .some) o o′ h k

@@ -1,1 +1,2 @@
 pub mod Turnable
+pub mod UpTo
