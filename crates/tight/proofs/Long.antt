@@ -114,5 +114,5 @@ invert-one {p} {c} {g = G} {h = H} {rows = rows} {rows′ = rows′} {rows″ = 
     let s : length rows ≡ c + c + c + c + c + c = i .room in
     let new = three ρ (c + c + c) (c + c + c + c) (c + c + c + c + c) c rows′ rows″ (omega arith) (omega arith) (λ j _. u .each j) (λ j _. v .each j) (x ∙ sym x′) (y ∙ sym y′) (z ∙ sym z′) in
     let all : (j : ℕ) → j < length rows′ → getD rows′ j 0 ≡ getD rows″ j 0 = (λ j l.
-        elim (decLt j (c + c + c)) [ yes m ↦ u .before j m ∙ sym (v .before j m) | no m ↦ new j (omega arith) (let t : length rows′ ≡ length rows = u .size in omega arith) ]) in
+    elim (decLt j (c + c + c)) [ yes m ↦ u .before j m ∙ sym (v .before j m) | no m ↦ new j (omega arith) (let t : length rows′ ≡ length rows = u .size in omega arith) ]) in
     (ext-getD 0 rows′ rows″ (u .size ∙ sym (v .size)) all, u .blank ∙ sym (v .blank))

@@ -1,13 +1,20 @@
--- Crates prime and poly. The laws of poly speak of a prime modulus: so do the theorems.
-use mathlib.Core.Path.{_≡_, refl, sym, _∙_}
+-- Crates prime and poly. The laws of poly speak of a prime modulus: so do the theorems. `size-one` is also for long and slice_poly.
+use mathlib.Core.Path.{_≡_, refl, sym, ap, _∙_}
+use mathlib.Core.Logic.{_⊎_, inl, inr}
 use mathlib.Core.Bool.{Bool, true, false}
 use mathlib.Core.List.{List, [], _∷_}
-use Prim.Native.Nat.{ℕ, _-_}
+use Prim.Native.Nat.{ℕ, _+_, _-_}
+use native.Mathlib.Omega.{arith}
 use lib.Seq.{ext-getD}
 use Rattle.ring.specs.Ring.{Ops, CRing}
 use Rattle.ring.proofs.Solve.{var, minus, _:+_, solve}
 use Rattle.fp.specs.Fp.{Prime}
 use Rattle.valued.specs.Val.{Valued}
+use Rattle.valued.specs.Degree.{Has}
+use Rattle.valued.specs.Polynomial.{polys, Poly, Divides, IsUnit}
+use Rattle.valued.proofs.Degree.{has-move}
+use Rattle.valued.proofs.Polynomial.{P-path, view, not-zero, factor, const-unit}
+use Rattle.valued.proofs.Coprime.{gcd-greatest, zero-divides}
 use Rattle.valued.proofs.Factor.{free-no-square, apart-no-common}
 use Rattle.reading.specs.Reading.{Reading}
 use Rattle.reading.specs.Made.{reading}
@@ -19,7 +26,7 @@ use Rattle.reading.proofs.Unique.{row-unique}
 use Rattle.prime.specs.Table.{PrimeTest}
 use Rattle.poly.specs.Leaf.{Leading, Summed, Difference, Opposite, Scaled, Crossed, Product, Listed}
 use Rattle.poly.specs.Division.{DivIn, Quotient, Exact, Divided}
-use Rattle.poly.specs.Factors.{polynomial, Derived, Over, OverBoth, SquareTest, CoprimeTest}
+use Rattle.poly.specs.Factors.{polynomial, Derived, Over, OverBoth, Common, SquareTest, CoprimeTest}
 use Rattle.poly.specs.declared.QuotRem.{QuotRem}
 use Rattle.poly.proofs.Leaf as leaf
 use Rattle.poly.proofs.Division.{div-pos, divided-unique}
@@ -78,6 +85,7 @@ module _ {p : ℕ} (pr : Prime p) where
       let d = size-has-at ρ m (h .hb) s (div-pos p a b il m h s) in
       let (x, y) = division-unique ρ (row ρ a) (row ρ b) (row ρ q) (left a b q) (row ρ q′) (left a b q′) (m - 1) d (row-poly ρ q) (row-poly ρ q′) (back a b q) (back a b q′) (g .law pr (m - 1) d) (f .law pr (m - 1) d) in
       row-unique ρ (g .is-row) (f .is-row) x
+
   -- where b divides a; else the contract of `exact` says only that its result is a row
   pub exact-one : {a b q q′ : List ℕ} (w : reading p pr .𝓥 .L .El) → reading p pr .𝓥 .IsPoly w → reading p pr .𝓥 .L .ops .mul (row (reading p pr) b) w ≡ row (reading p pr) a
       → Exact p a b q → Exact p a b q′ → q ≡ q′
@@ -100,3 +108,25 @@ coprime-one true true g h k = refl
 coprime-one false false g h k = refl
 coprime-one {p} {x} {y} true false g h k = absurd (apart-no-common (reading p (g .prime) .𝓥) (polynomial p (g .prime) x) (polynomial p (g .prime) y) (h (g .prime)) (k (g .prime)))
 coprime-one {p} {x} {y} false true g h k = absurd (apart-no-common (reading p (g .prime) .𝓥) (polynomial p (g .prime) x) (polynomial p (g .prime) y) (k (g .prime)) (h (g .prime)))
+
+-- ---- a greatest common divisor is settled up to a constant
+module _ (𝓥 : Valued) where
+  divisors : (g h : Poly 𝓥) → Divides 𝓥 g h → Divides 𝓥 h g → (v : Poly 𝓥) × IsUnit 𝓥 v × (h ≡ polys 𝓥 .ops .mul g v)
+  divisors g h (a, e) (b, f) = go (view 𝓥 g) (view 𝓥 h)
+    where
+      go : (g .0 ≡ 𝓥 .L .ops .𝟎) ⊎ ((n : ℕ) × Has 𝓥 (g .0) n) → (h .0 ≡ 𝓥 .L .ops .𝟎) ⊎ ((n : ℕ) × Has 𝓥 (h .0) n) → (v : Poly 𝓥) × IsUnit 𝓥 v × (h ≡ polys 𝓥 .ops .mul g v)
+      go (inl z) y = (polys 𝓥 .ops .𝟏, (polys 𝓥 .ops .𝟏, sym (polys 𝓥 .laws .mul-one (polys 𝓥 .ops .𝟏))), P-path 𝓥 {a = h} {b = g} (zero-divides 𝓥 g h z (a, e) ∙ sym z) ∙ sym (polys 𝓥 .laws .mul-one g))
+      go (inr (m, x)) (inl z) = absurd (not-zero 𝓥 x (zero-divides 𝓥 h g z (b, f)))
+      go (inr (m, x)) (inr (n, y)) =
+          let (i, s, p) = factor 𝓥 g a h x y e in
+          let (j, t, q) = factor 𝓥 h b g y x f in
+          let z : i ≡ 0 = omega (arith, p, q) in
+          (a, const-unit 𝓥 a (has-move 𝓥 0 0 s (ap (λ k. k + 0) z)), e)
+
+pub gcd-one : {p : ℕ} {x y r s : List ℕ} (g : OverBoth p x y) → Common p x y r → Common p x y s
+    → (v : Poly (reading p (g .prime) .𝓥)) × IsUnit (reading p (g .prime) .𝓥) v × (polynomial p (g .prime) s ≡ polys (reading p (g .prime) .𝓥) .ops .mul (polynomial p (g .prime) r) v)
+gcd-one {p} {x} {y} {r} {s} g h k =
+    let 𝓥 = reading p (g .prime) .𝓥 in
+    let c = h .law (g .prime) in
+    let d = k .law (g .prime) in
+    divisors 𝓥 (polynomial p (g .prime) r) (polynomial p (g .prime) s) (gcd-greatest 𝓥 _ d (c .left) (c .right)) (gcd-greatest 𝓥 _ c (d .left) (d .right))

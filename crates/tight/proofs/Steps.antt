@@ -1,5 +1,5 @@
--- Crates bases, step, stepped, walk, walks and capi: an opened field and a record of it, as each function asks for them, settle its result.
-use mathlib.Core.Path.{_≡_, refl, sym, ap, _∙_}
+-- Crates bases, step, stepped, walk and walks: an opened field and a record of it, as each function asks for them, settle its result.
+use mathlib.Core.Path.{_≡_, refl, sym, _∙_}
 use mathlib.Core.Logic.{_⊎_, inl, inr}
 use mathlib.Core.List.{List}
 use Prim.Native.Nat.{ℕ}
@@ -16,10 +16,8 @@ use Rattle.walk.specs.declared.Walked.{Walked}
 use Rattle.walk.specs.Walk.{Closed, Spent}
 use Rattle.walk.specs.Going.{GoIn, Gone}
 use Rattle.walk.proofs.Walk.{reaches-one, closes-one, not-both}
-use Rattle.walks.specs.declared.Told.{Told}
-use Rattle.walks.specs.Order.{WalkedIn, WalkedOut, FromOrder}
+use Rattle.walks.specs.Order.{WalkedIn, WalkedOut}
 use Rattle.walks.proofs.Order as order
-use Rattle.capi.specs.Order.{NumberOf, PeriodOf, RegulatorOf}
 
 pub first-one : {c : Cubic} {B B′ : List ℕ} → Known c → First c B → First c B′ → B ≡ B′
 first-one {c} {B} {B′} g h k = order.first-one (g .accepted) B B′ (h (g .p) (g .G) (g .H) (g .accepted) (g .prefix)) (k (g .p) (g .G) (g .H) (g .accepted) (g .prefix))
@@ -53,13 +51,3 @@ pub walked-one : {c : Cubic} {B : List ℕ} {n : ℕ} (v v′ : Walked) → Walk
 walked-one v v′ g h k =
     let m = g .known in
     gone-one (m .accepted) (g .is-record) v v′ (h (m .p) (m .G) (m .H) (m .accepted) (m .prefix) (g .is-record)) (k (m .p) (m .G) (m .H) (m .accepted) (m .prefix) (g .is-record))
-
--- ---- the numbers of a walk from the order, for C
-pub order-refusal-one : {p n a b : ℕ} {G H : List ℕ} → NumberOf p G H n a → NumberOf p G H n b → a ≡ b
-order-refusal-one {p} {n} {G = G} {H = H} (v, h, e) (w, k, f) = e ∙ ap (λ (o : Told). o .refusal) (order.from-order-one p G H n v w h k) ∙ sym f
-
-pub period-one : {p n a b : ℕ} {G H : List ℕ} → PeriodOf p G H n a → PeriodOf p G H n b → a ≡ b
-period-one {p} {n} {G = G} {H = H} (v, h, e) (w, k, f) = e ∙ ap (λ (o : Told). o .period .0) (order.from-order-one p G H n v w h k) ∙ sym f
-
-pub regulator-one : {p n a b : ℕ} {G H : List ℕ} → RegulatorOf p G H n a → RegulatorOf p G H n b → a ≡ b
-regulator-one {p} {n} {G = G} {H = H} (v, h, e) (w, k, f) = e ∙ ap (λ (o : Told). o .regulator .0) (order.from-order-one p G H n v w h k) ∙ sym f
