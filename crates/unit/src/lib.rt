@@ -167,7 +167,7 @@ pub fn unit(
     }
     let l = o.steps;
     let d = o.sum;
-    if d >= c as u64 {
+    if c as u64 <= d {
         return refused(11);
     }
     make(f, b, l, d as usize, c, rows, scratch);
