@@ -1,6 +1,10 @@
 // Runs vector files against the proved library through its C interface, and compares cheap things with an independent
-// implementation. Usage: harness DIR (a folder of vector files), or harness --random SEED COUNT.
+// implementation. Usage: harness DIR (a folder of vector files), harness --random SEED COUNT, or
+// harness --bench WALKERS.
 mod api;
+mod bench;
+mod books;
+mod lister;
 mod plain;
 mod vectors;
 
@@ -11,6 +15,10 @@ fn main() {
             let seed = args.get(2).and_then(|s| s.parse().ok()).unwrap_or(1);
             let count = args.get(3).and_then(|s| s.parse().ok()).unwrap_or(2000);
             plain::random(seed, count)
+        }
+        Some("--bench") => {
+            bench::all(&args[2..]);
+            return;
         }
         Some(dir) => vectors::folder(dir),
         None => {
