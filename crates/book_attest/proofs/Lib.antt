@@ -1,2 +1,4 @@
 pub mod Norms
+pub mod Bodies
+pub mod Answers
 pub mod One

@@ -6,25 +6,24 @@ ghost use Rattle.reading.specs.Row.{Size};
 ghost use Rattle.slice_poly.specs.Slice.{Small, Cleared, AddRow, Reduced, Product, placeOf, Sum};
 
 // All zeros.
-fn clear(out: &mut [u64]) -> usize
-    ensures { λ r. ⌜ Cleared (now (out .entry)) (now (out .exit)) ⌝ }
+fn clear(out: &mut [u64])
+    ensures { λ _. ⌜ Cleared (now (out .entry)) (now (out .exit)) ⌝ }
 {
     let mut i: usize = 0;
     while i < out.len() {
         out[i] = 0;
         i += 1;
     }
-    i
 }
 
 // Adds c t^k b, where k such rows have been added before: no sum passes (k + 1) 2^32.
-fn add_row(out: &mut [u64], b: &[u64], c: u64, k: usize) -> usize
+fn add_row(out: &mut [u64], b: &[u64], c: u64, k: usize)
     requires { ⌜ (k + length (now b) ≤ length (now out)) × (k < 65536) × (c < 65536) × Small 65536 (now b)
         × ((i : ℕ) → getD (now out) i 0 ≤ k * 4294967296) ⌝ }
-    ensures { λ r. ⌜ AddRow (now (out .entry)) (now (b .entry)) c k (now (out .exit)) ⌝ }
+    ensures { λ _. ⌜ AddRow (now (out .entry)) (now (b .entry)) c k (now (out .exit)) ⌝ }
 {
     if c == 0 {
-        return 0;
+        return;
     }
     let mut j: usize = 0;
     while j < b.len() {
@@ -33,13 +32,12 @@ fn add_row(out: &mut [u64], b: &[u64], c: u64, k: usize) -> usize
         out[k + j] = v + c * w;
         j += 1;
     }
-    j
 }
 
 // Each coefficient mod p.
-fn reduce(p: u64, out: &mut [u64]) -> usize
+fn reduce(p: u64, out: &mut [u64])
     requires { ⌜ 0 < p ⌝ }
-    ensures { λ r. ⌜ Reduced p (now (out .entry)) (now (out .exit)) ⌝ }
+    ensures { λ _. ⌜ Reduced p (now (out .entry)) (now (out .exit)) ⌝ }
 {
     let mut i: usize = 0;
     while i < out.len() {
@@ -47,22 +45,21 @@ fn reduce(p: u64, out: &mut [u64]) -> usize
         out[i] = v % p;
         i += 1;
     }
-    i
 }
 
 // The product of a and b; zeros of a cost nothing.
-pub fn mul(p: u64, a: &[u64], b: &[u64], out: &mut [u64]) -> usize
+pub fn mul(p: u64, a: &[u64], b: &[u64], out: &mut [u64])
     requires { ⌜ Small p (now a) × Small p (now b) × (length (now a) < 65536) × (length (now a) + length (now b) ≤ length (now out)) ⌝ }
-    ensures { λ r. ⌜ Product p (now (a .entry)) (now (b .entry)) (now (out .entry)) (now (out .exit)) ⌝ }
+    ensures { λ _. ⌜ Product p (now (a .entry)) (now (b .entry)) (now (out .entry)) (now (out .exit)) ⌝ }
 {
-    let z = clear(out);
+    clear(out);
     let mut i: usize = 0;
     while i < a.len() {
         let c = a[i];
-        let j = add_row(out, b, c, i);
+        add_row(out, b, c, i);
         i += 1;
     }
-    reduce(p, out)
+    reduce(p, out);
 }
 
 // a + b + c − 3 d mod p.
@@ -75,11 +72,11 @@ fn place(p: u64, a: u64, b: u64, c: u64, d: u64) -> u64
 }
 
 // x + y + z − 3 w.
-pub fn sum(p: u64, x: &[u64], y: &[u64], z: &[u64], w: &[u64], out: &mut [u64]) -> usize
+pub fn sum(p: u64, x: &[u64], y: &[u64], z: &[u64], w: &[u64], out: &mut [u64])
     requires { ⌜ Small p (now x) × Small p (now y) × Small p (now z) × Small p (now w)
         × (length (now x) ≡ length (now out)) × (length (now y) ≡ length (now out))
         × (length (now z) ≡ length (now out)) × (length (now w) ≡ length (now out)) ⌝ }
-    ensures { λ r.
+    ensures { λ _.
         ⌜ Sum p (now (x .entry)) (now (y .entry)) (now (z .entry)) (now (w .entry)) (now (out .entry)) (now (out .exit)) ⌝ }
 {
     let mut i: usize = 0;
@@ -88,7 +85,6 @@ pub fn sum(p: u64, x: &[u64], y: &[u64], z: &[u64], w: &[u64], out: &mut [u64]) 
         out[i] = v;
         i += 1;
     }
-    i
 }
 
 // The length without the zeros at the end.

@@ -9,10 +9,10 @@ use Rattle.slice_poly.proofs.mul.Statement.{statement}
 use Rattle.slice_poly.proofs.mul.Tie as tie
 
 abbrev Inv-loop : tie.InvT-loop
-Inv-loop p a b out₀ z i₀ out i = (i ≤ length a) × Rows p a b out₀ out i
+Inv-loop p a b out₀ i₀ out i = (i ≤ length a) × Rows p a b out₀ out i
 
 abbrev μ-loop : tie.MeasureT-loop
-μ-loop p a b out₀ z i₀ out i = length a - i
+μ-loop p a b out₀ i₀ out i = length a - i
 
 clear-requires : tie.Need-clear-requires Inv-loop μ-loop
 clear-requires c κs = search needs

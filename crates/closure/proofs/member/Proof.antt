@@ -1,12 +1,12 @@
--- `accepts::member` meets its contract: three divisions.
+-- `closure::member` meets its contract: three divisions.
 use native.Mathlib.Omega.{arith}
 use borrow.Author.Needs.{needs}
 use Rattle.book_bytes.proofs.Tests.{answer-yes, answer-no}
-use Rattle.accepts.proofs.Members.{by-inverse, member-first, member-second, member-of, member-in, carried}
-use Rattle.accepts.proofs.member.Statement.{statement}
-use Rattle.accepts.proofs.member.Tie as tie
-use Rattle.accepts.proofs.member.Reads as reads
-use Rattle.accepts.proofs.member.Lts as lts
+use Rattle.closure.proofs.Members.{by-inverse, member-first, member-second, member-of, member-in, carried}
+use Rattle.closure.proofs.member.Statement.{statement}
+use Rattle.closure.proofs.member.Tie as tie
+use Rattle.closure.proofs.member.Reads as reads
+use Rattle.closure.proofs.member.Lts as lts
 
 det-requires : tie.Need-det-requires
 det-requires c κs = search needs

@@ -10,7 +10,6 @@ use mathlib.Core.List.{List, [], _∷_}
 use Prim.Native.Nat.{ℕ, zero, suc, _+_, _-_, _*_, _%_, _<_, _≤_}
 use native.Mathlib.Omega.{arith}
 use native.Mathlib.Nat.{mod-eq-of-lt}
-use native.Mathlib.Decide.{decLt}
 use lib.ListN.{getD}
 use Rattle.ring.specs.Ring.{Ops, CRing}
 use Rattle.ring.proofs.Solve.{var, hyp, one, zer, minus, _:+_, _:*_, solve, solve-by}
@@ -32,7 +31,8 @@ use Rattle.book_bytes.proofs.Tests.{answer-yes, answer-no}
 use Rattle.generators.specs.Rows.{Seven}
 use Rattle.generators.specs.Quotients.{Inverts, Det, Quotients}
 use Rattle.reduce.specs.Frame.{Short}
-use Rattle.accepts.specs.Tests.{InsideIn, InsideAt, MemberIn, MemberAt}
+use Rattle.basis.proofs.Place.{size-below}
+use Rattle.closure.specs.Lattice.{InsideIn, InsideAt, MemberIn, MemberAt}
 
 pub by-inverse : {p il : ℕ} {a b : List ℕ} → Modulus p → Row p a → Row p b → Inverts p b il → DivIn p a b il
 by-inverse m ha hb h = record { modulus = m; ha = ha; hb = hb; hi = h .below; inv = h .law }
@@ -83,13 +83,10 @@ module _ {p : ℕ} (pr : Prime p) where
         let (n, hn) = inverts-has (hu .is-row) by in
         let l : i ≤ n = size-le ρ n (h .r-row) si (h .low pr n hn) in
         let k : n < 17 = small n hn in
-        let t : j ≤ 17 = size-at sj in
+        let t : j ≤ 17 = size-below hm sj in
         omega arith;
   }
     where
-      size-at : {j : ℕ} → Size m j → j ≤ 17
-      size-at {j} s = elim (decLt 17 j) [ yes g ↦ absurd (s .top (omega arith) (hm .above (j - 1) (omega arith))) | no g ↦ omega arith ]
-
       small : (n : ℕ) → Has 𝓥 (row ρ u) n → n < 17
       small n hn = go (sized u)
         where
@@ -97,7 +94,8 @@ module _ {p : ℕ} (pr : Prime p) where
           go (zero, s) = absurd (d.has-not-zero 𝓥 (d.has-eq 𝓥 hn (zero-row ρ u s)))
           go (suc k, s) =
               let e : k ≡ n = d.same 𝓥 (size-has ρ (hu .is-row) s) hn in
-              elim (decLt 17 (suc k)) [ yes g ↦ absurd (s .top (omega arith) (hu .above (suc k - 1) (omega arith))) | no g ↦ omega arith ]
+              let l : suc k ≤ 17 = size-below hu s in
+              omega arith
 
   module _ {a b c m n u q₁ r₁ q₂ r₂ x y z h q r : List ℕ} {l : ℕ} (i : InsideIn p a b c m n u) (db : Divided p b u q₁ r₁) (dc : Divided p c u q₂ r₂)
       (hx : Product p r₁ m x) (hy : Product p r₂ n y) (hz : Summed p x y z) (hh : Difference p a z h) (dh : Divided p h u q r) (s : Size r l) where

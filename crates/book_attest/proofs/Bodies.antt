@@ -1,0 +1,196 @@
+-- From the body's bytes to the lists that the norm is made of, and from the norm's size to the answer.
+use mathlib.Core.Path.{_≡_, refl, sym, ap, ap₂, _∙_, subst}
+use mathlib.Core.Logic.{_≢_}
+use mathlib.Core.List.{List, [], _∷_, _++_}
+use Prim.Native.Nat.{ℕ, zero, suc, _+_, _-_, _<_, _≤_}
+use native.Mathlib.Omega.{arith}
+use native.Mathlib.Decide.{decLt}
+use lib.ListN.{length, getD, drop, replicate, length-append, length-drop, length-replicate, List·getD-append, List·getD-eq-default}
+use lib.Seq.{getD-append-add, getD-drop}
+use Rattle.ring.specs.Ring.{Ops, CRing}
+use Rattle.ring.proofs.Solve.{var, one, zer, _:+_, _:*_, solve}
+use Rattle.cubic.specs.Tri.{normT}
+use Rattle.fp.specs.Fp.{Prime}
+use Rattle.valued.specs.Val.{Valued}
+use Rattle.reading.specs.Reading.{Reading}
+use Rattle.reading.specs.Made.{reading}
+use Rattle.reading.specs.Row.{Size, tpow, psum, coefs, row}
+use Rattle.reading.proofs.Rows.{const-zero, psum-ext, psum-cut, row-cut}
+use Rattle.reading.proofs.Tab.{zeros-at}
+use Rattle.reading.proofs.Unique.{const-inj, psum-unique}
+use Rattle.slice_poly.specs.Slice.{Small}
+use Rattle.slice_poly.proofs.Law.{row-by}
+use Rattle.field.specs.Refusal as field
+use Rattle.field.proofs.Accept.{accepted}
+use Rattle.book_bytes.specs.Decides.{Decides}
+use Rattle.book_bytes.proofs.Tests.{answer-yes, answer-no}
+use Rattle.book_body.specs.Said.{Said}
+use Rattle.book_body.specs.Body.{listAt, bodyOf, UnitList}
+use Rattle.book_body.specs.Code.{ListTells, read, none, short}
+use Rattle.book_attest.specs.Attest.{NonZeroConstant, norm, Attested}
+use Rattle.book_attest.specs.Code.{Long, Finished, LoadIn, Loaded, NormIn, Norm, BodyNormIn, BodyNorm}
+
+-- ---- one list
+-- zeros after a list do not show
+front : (q d : List ℕ) → ((i : ℕ) → getD d i 0 ≡ 0) → (i : ℕ) → getD (q ++ drop (length q) d) i 0 ≡ getD q i 0
+front q d z i = at (decLt i (length q))
+  where
+    at : Dec (i < length q) → getD (q ++ drop (length q) d) i 0 ≡ getD q i 0
+    at (yes u) = List·getD-append q (drop (length q) d) 0 i u
+    at (no u) =
+        let j : i ≡ length q + (i - length q) = omega arith in
+        ap (λ (m : ℕ). getD (q ++ drop (length q) d) m 0) j ∙ getD-append-add q (drop (length q) d) (i - length q) 0
+        ∙ getD-drop (length q) d (i - length q) 0 ∙ z (length q + (i - length q)) ∙ sym (List·getD-eq-default q 0 {n = i} (omega arith))
+
+front-long : (q d : List ℕ) → length q ≤ length d → length (q ++ drop (length q) d) ≡ length d
+front-long q d h =
+    let u : length (drop (length q) d) ≡ length d - length q = length-drop (length q) d in
+    let v : length (q ++ drop (length q) d) ≡ length q + length (drop (length q) d) = length-append q (drop (length q) d) in
+    omega arith
+
+pub loaded : (s : List ℕ) (k : ℕ) (d : List ℕ) (x : Said) (r : List ℕ) → LoadIn s k d → ListTells s k d x r → Loaded s k d r
+loaded s k d x r w (none h e f) = let l = w .list in absurd (omega arith)
+loaded s k d x r w (short h l e f) = let m = w .fits in absurd (omega arith)
+loaded s k d x r w (read h l e f) = record {
+  size = ap length f ∙ front-long (listAt s k) d l;
+  places = λ i. ap (λ (z : List ℕ). getD z i 0) f ∙ front (listAt s k) d (w .blank) i;
+}
+
+module _ (s : List ℕ) (w : Finished s) where
+  lists : field.Accepted (bodyOf s .p) (bodyOf s .G) (bodyOf s .H)
+  lists = accepted (bodyOf s .p) (bodyOf s .G) (bodyOf s .H) (w .field)
+
+  pub g-in : LoadIn s 0 (replicate 13 0)
+  unfolding bodyOf
+  g-in = record { list = omega arith; fits = lists .listG .short; blank = zeros-at 13 }
+
+  pub h-in : LoadIn s 1 (replicate 13 0)
+  unfolding bodyOf
+  h-in = record { list = omega arith; fits = lists .listH .short; blank = zeros-at 13 }
+
+  pub a-in : LoadIn s 2 (replicate 4096 0)
+  unfolding bodyOf
+  a-in = record { list = omega arith; fits = w .formed .rule .row0 .short; blank = zeros-at 4096 }
+
+  pub b-in : LoadIn s 3 (replicate 4096 0)
+  unfolding bodyOf
+  b-in = record { list = omega arith; fits = w .formed .rule .row1 .short; blank = zeros-at 4096 }
+
+  pub c-in : LoadIn s 4 (replicate 4096 0)
+  unfolding bodyOf
+  c-in = record { list = omega arith; fits = w .formed .rule .row2 .short; blank = zeros-at 4096 }
+
+-- ---- the norm
+same-row : {p : ℕ} (ρ : Reading p) (a b : List ℕ) → ((i : ℕ) → getD a i 0 ≡ getD b i 0) → row ρ a ≡ row ρ b
+same-row ρ a b h =
+    let n = length a + length b in
+    row-by ρ a n (omega arith) ∙ psum-ext ρ n (coefs ρ a) (coefs ρ b) (λ i u. ap (ρ .cast) (h i)) ∙ sym (row-by ρ b n (omega arith))
+
+below : (p : ℕ) (l : List ℕ) → 0 < p → ((i : ℕ) → i < length l → getD l i 0 < p) → (i : ℕ) → getD l i 0 < p
+below p l z h i = at (decLt i (length l))
+  where
+    at : Dec (i < length l) → getD l i 0 < p
+    at (yes u) = h i u
+    at (no u) = let e : getD l i 0 ≡ 0 = List·getD-eq-default l 0 {n = i} (omega arith) in omega arith
+
+module _ (s : List ℕ) (w : Finished s) (p : ℕ) (e : p ≡ bodyOf s .p) where
+  long-of : (k n : ℕ) (d r l : List ℕ) → l ≡ listAt s k → ((i : ℕ) → i < length l → getD l i 0 < bodyOf s .p) → length d ≡ n → Loaded s k d r → Long p n r
+  long-of k n d r l f h m q =
+      let a : field.Accepted (bodyOf s .p) (bodyOf s .G) (bodyOf s .H) = lists s w in
+      let low : 5 ≤ bodyOf s .p = a .low in
+      let high : bodyOf s .p ≤ 65535 = a .high in
+      record {
+        small = record {
+          pos = omega arith;
+          top = omega arith;
+          each = λ i.
+              (let u : getD r i 0 ≡ getD l i 0 = q .places i ∙ ap (λ (z : List ℕ). getD z i 0) (sym f) in
+              let v : getD l i 0 < bodyOf s .p = below (bodyOf s .p) l (omega arith) h i in
+              omega arith);
+        };
+        size = q .size ∙ m;
+      }
+
+  pub norm-in : (g h a b c out zg zh za zb zc : List ℕ) → length out ≡ 12327
+      → length zg ≡ 13 → length zh ≡ 13 → length za ≡ 4096 → length zb ≡ 4096 → length zc ≡ 4096
+      → Loaded s 0 zg g → Loaded s 1 zh h → Loaded s 2 za a → Loaded s 3 zb b → Loaded s 4 zc c → NormIn p g h a b c out
+  unfolding bodyOf
+  norm-in g h a b c out zg zh za zb zc m eg eh ea eb ec qg qh qa qb qc = record {
+    big = (let low : 5 ≤ bodyOf s .p = lists s w .low in omega arith);
+    is-g = long-of 0 13 zg g (bodyOf s .G) refl (lists s w .listG .each) eg qg;
+    is-h = long-of 1 13 zh h (bodyOf s .H) refl (lists s w .listH .each) eh qh;
+    is-a = long-of 2 4096 za a (bodyOf s .E0) refl (w .formed .rule .row0 .each) ea qa;
+    is-b = long-of 3 4096 zb b (bodyOf s .E1) refl (w .formed .rule .row1 .each) eb qb;
+    is-c = long-of 4 4096 zc c (bodyOf s .E2) refl (w .formed .rule .row2 .each) ec qc;
+    room = m;
+  }
+
+  pub body-norm : (g h a b c out r zg zh za zb zc : List ℕ)
+      → Loaded s 0 zg g → Loaded s 1 zh h → Loaded s 2 za a → Loaded s 3 zb b → Loaded s 4 zc c → Norm p g h a b c out r → BodyNorm s out r
+  unfolding bodyOf
+  body-norm g h a b c out r zg zh za zb zc qg qh qa qb qc q =
+      let n : Norm (bodyOf s .p) g h a b c out r = subst (λ (k : ℕ). Norm k g h a b c out r) e q in
+      record {
+        size = n .size;
+        each = n .each;
+        law = λ pr.
+            (let ρ = reading (bodyOf s .p) pr in
+            let f : ρ .𝓥 .L .El → ρ .𝓥 .L .El → ρ .𝓥 .L .El → ρ .𝓥 .L .El → ρ .𝓥 .L .El → ρ .𝓥 .L .El =
+            λ x y u v z. normT (ρ .𝓥 .L .ops) x y record { a = u; b = v; c = z } in
+            let g-is = same-row ρ g (bodyOf s .G) (qg .places) in
+            let h-is = same-row ρ h (bodyOf s .H) (qh .places) in
+            let a-is = same-row ρ a (bodyOf s .E0) (qa .places) in
+            let b-is = same-row ρ b (bodyOf s .E1) (qb .places) in
+            let c-is = same-row ρ c (bodyOf s .E2) (qc .places) in
+            n .law pr ∙ ap₂ (λ x y. f x y (row ρ a) (row ρ b) (row ρ c)) g-is h-is ∙ ap₂ (λ x y. f (row ρ (bodyOf s .G)) (row ρ (bodyOf s .H)) x y (row ρ c)) a-is b-is
+            ∙ ap (f (row ρ (bodyOf s .G)) (row ρ (bodyOf s .H)) (row ρ (bodyOf s .E0)) (row ρ (bodyOf s .E1))) c-is);
+      }
+
+-- ---- the answer
+module _ {p : ℕ} (ρ : Reading p) where
+  open Reading ρ using (𝓥, cast)
+  open Valued 𝓥 using (K, L, const)
+
+  -- c and then zeros
+  first : K .El → ℕ → K .El
+  first c zero = c
+  first c (suc i) = K .ops .𝟎
+
+  first-psum : (c : K .El) (j : ℕ) → psum ρ (j + 1) (first c) ≡ const c
+  unfolding psum tpow first
+  first-psum c j = psum-cut ρ 1 j (first c) zeros ∙ solve L (zer :+ var 0 :* one) (var 0) tt (const c ∷ [])
+    where
+      zeros : (i : ℕ) → 1 ≤ i → first c i ≡ K .ops .𝟎
+      zeros zero h = absurd (omega arith)
+      zeros (suc i) h = refl
+
+  pub constant-yes : (l : List ℕ) → ((i : ℕ) → getD l i 0 < p) → Size l 1 → NonZeroConstant ρ (row ρ l)
+  unfolding psum tpow
+  constant-yes l h s = (
+    cast (getD l 0 0),
+    (λ e. s .top (omega arith) (ρ .cast-small (getD l 0 0) (h 0) e)),
+    row-cut ρ l 1 s ∙ solve L (zer :+ var 0 :* one) (var 0) tt (const (cast (getD l 0 0)) ∷ []),
+  )
+
+  pub constant-no : (l : List ℕ) (n : ℕ) → ((i : ℕ) → getD l i 0 < p) → Size l n → n ≢ 1 → NonZeroConstant ρ (row ρ l) → ⊥
+  unfolding psum first
+  constant-no l zero h s z (c, nz, e) = nz (const-inj ρ c (K .ops .𝟎) (sym e ∙ row-cut ρ l 0 s ∙ sym (const-zero ρ)))
+  constant-no l (suc zero) h s z w = z refl
+  constant-no l (suc (suc m)) h s z (c, nz, e) =
+      let q : suc m + 1 ≡ suc (suc m) = omega arith in
+      let u : psum ρ (suc (suc m)) (coefs ρ l) ≡ psum ρ (suc (suc m)) (first c) =
+      sym (row-cut ρ l (suc (suc m)) s) ∙ e ∙ sym (first-psum c (suc m)) ∙ ap (λ k. psum ρ k (first c)) q in
+      let v : coefs ρ l (suc m) ≡ K .ops .𝟎 = psum-unique ρ (suc (suc m)) (coefs ρ l) (first c) u (suc m) (omega arith) in
+      let i : suc (suc m) - 1 ≡ suc m = omega arith in
+      s .top (omega arith) (ap (λ k. getD l k 0) i ∙ ρ .cast-small (getD l (suc m) 0) (h (suc m)) v)
+
+pub attested-yes : (s d r : List ℕ) (n : ℕ) → BodyNorm s d r → Size r n → n ≡ 1 → Attested (bodyOf s)
+attested-yes s d r n w z e pr =
+    let ρ = reading (bodyOf s .p) pr in
+    subst (NonZeroConstant ρ) (w .law pr) (constant-yes ρ r (w .each) (subst (Size r) e z))
+
+pub attested-no : (s d r : List ℕ) (n : ℕ) → Finished s → BodyNorm s d r → Size r n → n ≢ 1 → Attested (bodyOf s) → ⊥
+attested-no s d r n f w z ne a =
+    let pr : Prime (bodyOf s .p) = lists s f .prime in
+    let ρ = reading (bodyOf s .p) pr in
+    constant-no ρ r n (w .each) z ne (subst (NonZeroConstant ρ) (sym (w .law pr)) (a pr))

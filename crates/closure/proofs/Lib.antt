@@ -1,0 +1,3 @@
+pub mod Members
+pub mod Products
+pub mod Closing

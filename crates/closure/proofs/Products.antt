@@ -1,0 +1,139 @@
+-- The products r v and w v on rows, and what their membership says.
+--   coords-of-rows rows-of-coords   exact quotients on rows are exact quotients in the lattice
+--   r-in w-in                       what `member` asks of r v and w v: every product fits
+--   kept kept-not-r kept-not-w      the two answers together
+use mathlib.Core.Path.{_≡_, refl, sym, ap, ap₂, _∙_}
+use mathlib.Core.Bool.{Bool, true, false}
+use mathlib.Core.List.{List}
+use Prim.Native.Nat.{ℕ, suc, _+_, _≤_}
+use native.Mathlib.Omega.{arith}
+use Rattle.ring.specs.Ring.{Ops, CRing}
+use Rattle.fp.specs.Fp.{Prime}
+use Rattle.valued.specs.Val.{Valued}
+use Rattle.valued.specs.Degree.{Lt}
+use Rattle.valued.specs.Polynomial.{polys}
+use Rattle.valued.proofs.Degree as d
+use Rattle.valued.proofs.Compare.{lt-mul-sharp}
+use Rattle.valued.proofs.Polynomial.{P-path}
+use Rattle.reading.specs.Reading.{Reading}
+use Rattle.reading.specs.Made.{reading}
+use Rattle.reading.specs.Row.{Row, Size, row}
+use Rattle.poly.specs.Leaf.{MulIn, Product}
+use Rattle.ideals.specs.Element.{O}
+use Rattle.ideals.specs.Ideal.{det}
+use Rattle.ideals.proofs.Check.{Coords}
+use Rattle.ideals.proofs.Tests.{times-r, times-w}
+use Rattle.field.specs.Refusal.{Accepted}
+use Rattle.record.specs.Record.{setting, polyOf}
+use Rattle.reduce.specs.Frame.{Short}
+use Rattle.basis.proofs.Place.{size-below, short-lt, row-short}
+use Rattle.book_bytes.specs.Decides.{Decides}
+use Rattle.book_bytes.proofs.Tests.{answer-no}
+use Rattle.generators.specs.Rows.{Seven, AreRows, rowsOf, Holds}
+use Rattle.generators.specs.Quotients.{Fits, Det, Quotients}
+use Rattle.closure.specs.Lattice.{MemberIn, MemberAt, Member}
+use Rattle.closure.specs.Closed.{Room, Given, KeepsIn, Kept, Keeps, element}
+use Rattle.closure.proofs.Members.{carried}
+
+-- ---- lengths
+pub fits : {p : ℕ} {x y : List ℕ} {n m : ℕ} → Short p x n → Short p y m → n + m ≤ 33 → Fits x y
+fits hx hy l i j si sj =
+    let a = size-below hx si in
+    let b = size-below hy sj in
+    omega (arith, a, b)
+
+pub product-short : {p : ℕ} (pr : Prime p) (n m : ℕ) {x y z : List ℕ} → Short p x (suc n) → Short p y m → Product p x y z → Short p z (n + m)
+product-short {p} pr n m hx hy hz = let ρ = reading p pr in row-short ρ (n + m) (hz .is-row) (d.lt-eq (ρ .𝓥) (lt-mul-sharp (ρ .𝓥) (short-lt ρ hx) (short-lt ρ hy)) (sym (hz .law pr)))
+
+pub rows-of : {p : ℕ} {b : Seven} → Room p b → AreRows p b
+rows-of r = record { m0 = r .m0 .is-row; m1 = r .m1 .is-row; m2 = r .m2 .is-row; n0 = r .n0 .is-row; n1 = r .n1 .is-row; n2 = r .n2 .is-row; u = r .u .is-row }
+
+module _ {p : ℕ} {g h gh va vb vc : List ℕ} {b : Seven} {e : List ℕ} {ie : ℕ} (i : KeepsIn p g h gh va vb vc b e ie) where
+  pub by-gh : {x : List ℕ} → Short p x 10 → MulIn p x gh
+  by-gh hx = record { modulus = i .given .modulus; hx = hx .is-row; hy = i .given .hgh .is-row; room = fits hx (i .given .hgh) (omega arith) }
+
+  pub by-13 : {x y : List ℕ} → Short p x 10 → Short p y 13 → MulIn p x y
+  by-13 hx hy = record { modulus = i .given .modulus; hx = hx .is-row; hy = hy .is-row; room = fits hx hy (omega arith) }
+
+  -- an element whose rows are no longer than these
+  member-in : {xa xb xc : List ℕ} {n m : ℕ} → Row p xa → Short p xb n → Short p xc m → n + 10 ≤ 33 → m + 10 ≤ 33 → MemberIn p xa xb xc b e ie
+  member-in ha hb hc ln lm = record {
+    modulus = i .given .modulus;
+    prime = i .given .prime;
+    ha = ha;
+    hb = hb .is-row;
+    hc = hc .is-row;
+    rows = rows-of (i .room);
+    he = i .he .is-row;
+    h0 = i .room .m0;
+    k0 = i .room .n0;
+    hu = i .room .u;
+    by-e = i .by-e;
+    by-u = i .room .by-u;
+    b-n2 = fits hb (i .room .n2) ln;
+    c-n1 = fits hc (i .room .n1) lm;
+    c-m1 = fits hc (i .room .m1) lm;
+    b-m2 = fits hb (i .room .m2) ln;
+  }
+
+  pub r-in : {xa xc : List ℕ} → Product p vc gh xa → Product p vb h xc → MemberIn p xa va xc b e ie
+  r-in ha hc = member-in (ha .is-row) (i .ha) (product-short (i .given .prime) 9 13 (i .hb) (i .given .hh) hc) (omega arith) (omega arith)
+
+  pub w-in : {xa xb : List ℕ} → Product p vb gh xa → Product p vc g xb → MemberIn p xa xb va b e ie
+  w-in ha hb = member-in (ha .is-row) (product-short (i .given .prime) 9 13 (i .hc) (i .given .hg) hb) (i .ha) (omega arith) (omega arith)
+
+-- ---- rows and elements
+module _ {p : ℕ} {G H : List ℕ} (σ : Accepted p G H) (b : Seven) {e : List ℕ} (he : Det p (b .m1) (b .n2) (b .m2) (b .n1) e) where
+  abbrev ρ : Reading p
+  ρ = reading p (σ .prime)
+
+  open Ops (reading p (σ .prime) .𝓥 .L .ops) using (add as _⊕_, mul as _⊗_, neg as ⊖_)
+
+  infixl 60 _⊕_
+  infixl 70 _⊗_
+  infix 80 ⊖_
+  module _ {xa xb xc : List ℕ} (v : O (setting σ) .El) (ea : row ρ xa ≡ v .a .0) (eb : row ρ xb ≡ v .b .0) (ec : row ρ xc ≡ v .c .0) where
+    pub rows-of-coords : Coords (setting σ) (rowsOf σ b) v → MemberAt (σ .prime) xa xb xc b e
+    rows-of-coords q = record {
+      α = q .α .0;
+      β = q .β .0;
+      γ = q .γ .0;
+      quotients = record {
+        α-poly = q .α .1;
+        β-poly = q .β .1;
+        γ-poly = q .γ .1;
+        e-β = ap₂ (λ s t. s ⊗ row ρ (b .n2) ⊕ ⊖ (t ⊗ row ρ (b .n1))) eb ec ∙ ap (λ t. t .0) (q .e-β) ∙ ap (λ t. t ⊗ q .β .0) (sym (he .law (σ .prime)));
+        e-γ = ap₂ (λ s t. t ⊗ row ρ (b .m1) ⊕ ⊖ (s ⊗ row ρ (b .m2))) eb ec ∙ ap (λ t. t .0) (q .e-γ) ∙ ap (λ t. t ⊗ q .γ .0) (sym (he .law (σ .prime)));
+        U-α = ap (λ t. t ⊕ ⊖ (q .β .0 ⊗ row ρ (b .m0) ⊕ q .γ .0 ⊗ row ρ (b .n0))) ea ∙ ap (λ t. t .0) (q .U-α);
+      };
+    }
+
+    pub coords-of-rows : MemberAt (σ .prime) xa xb xc b e → Coords (setting σ) (rowsOf σ b) v
+    coords-of-rows m = record {
+      α = (m .α, m .quotients .α-poly);
+      β = (m .β, m .quotients .β-poly);
+      γ = (m .γ, m .quotients .γ-poly);
+      e-β = P-path (ρ .𝓥) (sym (ap₂ (λ s t. s ⊗ row ρ (b .n2) ⊕ ⊖ (t ⊗ row ρ (b .n1))) eb ec) ∙ m .quotients .e-β ∙ ap (λ t. t ⊗ m .β) (he .law (σ .prime)));
+      e-γ = P-path (ρ .𝓥) (sym (ap₂ (λ s t. t ⊗ row ρ (b .m1) ⊕ ⊖ (s ⊗ row ρ (b .m2))) eb ec) ∙ m .quotients .e-γ ∙ ap (λ t. t ⊗ m .γ) (he .law (σ .prime)));
+      U-α = P-path (ρ .𝓥) (sym (ap (λ t. t ⊕ ⊖ (m .β ⊗ row ρ (b .m0) ⊕ m .γ ⊗ row ρ (b .n0))) ea) ∙ m .quotients .U-α);
+    }
+
+    pub decides-coords : {o : Bool} → Member p xa xb xc b e o → Decides o (Coords (setting σ) (rowsOf σ b) v)
+    decides-coords m = carried coords-of-rows rows-of-coords (m (σ .prime))
+
+  -- the two products, at the rows that hold the field
+  module _ {g h gh : List ℕ} (k : Holds σ g h gh) {va vb vc : List ℕ} where
+    pub decides-r : {xa xc : List ℕ} {o : Bool} → Product p vc gh xa → Product p vb h xc → Member p xa va xc b e o → Decides o (Coords (setting σ) (rowsOf σ b) (times-r (setting σ) (element σ va vb vc)))
+    decides-r ha hc = decides-coords (times-r (setting σ) (element σ va vb vc)) (ha .law (σ .prime) ∙ ap (λ t. row ρ vc ⊗ t) (k .gh-is)) refl (hc .law (σ .prime) ∙ ap (λ t. row ρ vb ⊗ t) (k .h-is))
+
+    pub decides-w : {xa xb : List ℕ} {o : Bool} → Product p vb gh xa → Product p vc g xb → Member p xa xb va b e o → Decides o (Coords (setting σ) (rowsOf σ b) (times-w (setting σ) (element σ va vb vc)))
+    decides-w ha hb = decides-coords (times-w (setting σ) (element σ va vb vc)) (ha .law (σ .prime) ∙ ap (λ t. row ρ vb ⊗ t) (k .gh-is)) (hb .law (σ .prime) ∙ ap (λ t. row ρ vc ⊗ t) (k .g-is)) refl
+
+-- ---- the answer of `keeps`
+module _ {p : ℕ} {g h gh va vb vc : List ℕ} {b : Seven} {e : List ℕ} {ie : ℕ} (i : KeepsIn p g h gh va vb vc b e ie) {ra rc : List ℕ} {o : Bool}
+    (hra : Product p vc gh ra) (hrc : Product p vb h rc) (hr : Member p ra va rc b e o) where
+  pub keeps-no : o ≡ false → Keeps p g h gh va vb vc b false
+  keeps-no f G H σ k = answer-no (λ z. decides-r σ b (i .he) k hra hrc hr .no! f (z .by-r))
+
+  pub keeps-yes : o ≡ true → {wa wb : List ℕ} {o₁ : Bool} → Product p vb gh wa → Product p vc g wb → Member p wa wb va b e o₁ → Keeps p g h gh va vb vc b o₁
+  keeps-yes t hwa hwb hw G H σ k = carried (λ z. record { by-r = decides-r σ b (i .he) k hra hrc hr .yes! t; by-w = z }) (λ z. z .by-w) (decides-w σ b (i .he) k hwa hwb hw)
