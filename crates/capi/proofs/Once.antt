@@ -1,6 +1,6 @@
 -- Two outcomes of a function of the C interface that meet its contract are equal: results and lent arrays.
 --   order-tells-one, from-order-tells-one
---   check-says-one, ask-says-one, list-says-one, write-says-one, add-says-one
+--   check-says-one, ask-says-one, list-says-one, write-says-one, add-says-one, attest-says-one
 use mathlib.Core.Path.{_≡_, _∙_, sym, ap, subst}
 use mathlib.Core.List.{List}
 use Prim.Native.Nat.{ℕ, zero, suc}
@@ -11,12 +11,13 @@ use Rattle.book_body.proofs.One.{list-one}
 use Rattle.book.proofs.One.{tells-one, ask-one}
 use Rattle.book_write.proofs.One.{write-one}
 use Rattle.book_add.proofs.One.{add-one}
+use Rattle.book_attest.proofs.One.{attest-one}
 use Rattle.bases.specs.declared.Ordered.{Ordered}
 use Rattle.bases.proofs.Answer.{orders-one}
 use Rattle.walks.specs.declared.Told.{Told}
 use Rattle.walks.proofs.Order.{from-order-one}
 use Rattle.capi.specs.Told.{Left, OrderTells, FromOrderTells}
-use Rattle.capi.specs.Books.{numbers, Place, found, none, CheckSays, AskSays, ListSays, WriteSays, AddSays}
+use Rattle.capi.specs.Books.{numbers, Place, found, none, CheckSays, AskSays, ListSays, WriteSays, AddSays, AttestSays}
 
 -- ---- what is lent
 left-one : (n : ℕ) {a b b′ x x′ : List ℕ} → x ≡ x′ → Left n a b x → Left n a b′ x′ → b ≡ b′
@@ -63,3 +64,6 @@ write-says-one t u = let w = write-one _ _ (t .tells) (u .tells) in (w .1, same-
 
 pub add-says-one : {d : List ℕ} {n : ℕ} {b e e′ o o′ : List ℕ} → AddSays d n b e o → AddSays d n b e′ o′ → (e ≡ e′) × (o ≡ o′)
 add-says-one t u = let w = add-one _ _ _ (t .tells) (u .tells) in (w .1, same-numbers (w .0) (t .written) (u .written))
+
+pub attest-says-one : {s : List ℕ} {i : ℕ} {o o′ : List ℕ} → AttestSays s i o → AttestSays s i o′ → o ≡ o′
+attest-says-one {s} {i} t u = same-numbers (attest-one s i _ _ (t .tells) (u .tells)) (t .written) (u .written)

@@ -1,7 +1,7 @@
 -- What the functions of the C interface tell of a book: document 01's numbers, as five in a row.
 --   numbers x       the refusal, the inner reason of 13, its entry, its other number, the result
 --   Place           where the part that an entry names starts, and its length; 0 and 0 with a refusal
---   CheckSays, AskSays, ListSays, WriteSays, AddSays    what the contract of the function behind each allows
+--   CheckSays, AskSays, ListSays, WriteSays, AddSays, AttestSays    what the contract of the function behind each allows
 -- In proofs/Once.antt: two outcomes that meet one of them are equal.
 use mathlib.Core.Path.{_≡_}
 use mathlib.Core.List.{List, [], _∷_}
@@ -13,6 +13,7 @@ use Rattle.book.specs.Book.{Accepted, count, startAt, lengthAt}
 use Rattle.book.specs.Answer.{Tells, AskTells}
 use Rattle.book_write.specs.Write.{WriteTells}
 use Rattle.book_add.specs.Add.{AddTells}
+use Rattle.book_attest.specs.Attest.{AttestTells}
 
 abbrev pub numbers : Said → List ℕ
 numbers x = x .number ∷ x .reason ∷ x .entry ∷ x .other ∷ x .result ∷ []
@@ -45,4 +46,9 @@ pub record WriteSays (b : Body) (d d' out : List ℕ) : Type 0 where
 pub record AddSays (d : List ℕ) (n : ℕ) (b d' out : List ℕ) : Type 0 where
   pub said : Said
   pub tells : AddTells d n b said d'
+  pub written : out ≡ numbers said
+
+pub record AttestSays (s : List ℕ) (i : ℕ) (out : List ℕ) : Type 0 where
+  pub said : Said
+  pub tells : AttestTells s i said
   pub written : out ≡ numbers said

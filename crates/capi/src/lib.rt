@@ -9,8 +9,9 @@ ghost use Rattle.book_body.specs.Body.{bodyOf};
 ghost use Rattle.book_body.specs.Code.{gotSays};
 ghost use Rattle.book_write.specs.Write.{bodyFrom, wroteSays};
 ghost use Rattle.book_add.specs.Add.{addedSays};
+ghost use Rattle.book_attest.specs.Attest.{attestSays};
 ghost use Rattle.capi.specs.Told.{OrderTells, FromOrderTells};
-ghost use Rattle.capi.specs.Books.{numbers, CheckSays, AskSays, ListSays, WriteSays, AddSays};
+ghost use Rattle.capi.specs.Books.{numbers, CheckSays, AskSays, ListSays, WriteSays, AddSays, AttestSays};
 
 // The number of the first refusal of p, G, H; 0 where the field is accepted.
 #[no_mangle]
@@ -127,6 +128,17 @@ fn added_row(a: book_add::Added) -> [u64; 5]
     }
 }
 
+fn attest_row(a: book_attest::Attestation) -> [u64; 5]
+    ensures { λ o. ⌜ o ≡ numbers (attestSays a) ⌝ }
+{
+    match a {
+        book_attest::Attestation::Yes => [0, 0, 0, 0, 1],
+        book_attest::Attestation::No => [0, 0, 0, 0, 0],
+        book_attest::Attestation::Refused(why) => reason_row(why),
+        book_attest::Attestation::NoEntry => [14, 0, 0, 0, 0],
+    }
+}
+
 // Checks a book: five numbers, the refusal, the inner reason, its entry, its other number, the result.
 #[no_mangle]
 pub extern "C" fn zaminuk_book_check(book: &[u8], said: &mut [u64; 5])
@@ -165,6 +177,16 @@ pub extern "C" fn zaminuk_book_ask(
         *start = 0;
         *size = 0;
     }
+    *said = o;
+}
+
+// Attests entry i: the result is 1 for yes.
+#[no_mangle]
+pub extern "C" fn zaminuk_book_attest(book: &[u8], i: usize, said: &mut [u64; 5])
+    ensures { λ _. ⌜ AttestSays (now (book .entry)) i (now (said .exit)) ⌝ }
+{
+    let a = book_attest::attest(book, i);
+    let o = attest_row(a);
     *said = o;
 }
 
