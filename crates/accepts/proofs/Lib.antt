@@ -1,1 +1,3 @@
 pub mod Shapes
+pub mod Sevens
+pub mod Accepting

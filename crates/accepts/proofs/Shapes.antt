@@ -2,6 +2,7 @@
 --   too-long, ends-at     a length against a bound
 --   shape-from            the shape, where the lengths are in order
 --   numbers-of shape-is   the shape of U and of the polynomial parts is the same as the sizes
+--   shaped-of             so a test of the one is a test of the other
 use mathlib.Core.Path.{_≡_, refl, sym, ap, ap₂, _∙_, subst}
 use mathlib.Core.Logic.{_≢_, _⊎_, inl, inr}
 use mathlib.Core.Bool.{Bool, true, false}
@@ -22,12 +23,12 @@ use Rattle.reading.specs.Row.{Row, Size, row, tpow, Floor}
 use Rattle.reading.proofs.Rows.{size-lead-at, size-le, size-has}
 use Rattle.reading.proofs.Floors.{sized, floor-lt, floor-top, floor-has, floor-le, floor-lead}
 use Rattle.reading.proofs.Unique.{cast-inj}
-use Rattle.poly.specs.Leaf.{Crossed}
+use Rattle.poly.specs.Leaf.{CrossIn, Crossed}
 use Rattle.poly.proofs.Leaf.{size-one}
 use Rattle.book_bytes.specs.Decides.{Decides}
 use Rattle.generators.specs.Rows.{Seven}
 use Rattle.reduce.specs.Frame.{Frame, Meaning, Short, rd, Ser, rowμ, pt, X, Y, Ltμ, Hasμ}
-use Rattle.reduce.specs.Leaves.{Parted}
+use Rattle.reduce.specs.Leaves.{PartIn, Parted}
 use Rattle.basis.specs.Based.{Z}
 use Rattle.accepts.specs.Tests.{Ends, Ordered, Units, Shape, ShapedIn, Numbers}
 
@@ -80,6 +81,25 @@ shape-from su sx sy sn sm sa sb w t = record {
   yes! = λ e. record { lu = _; lx = _; ly = _; ln = _; lm = _; a = _; b = _; su = su; sx = sx; sy = sy; sn = sn; sm = sm; sa = sa; sb = sb; ordered = w; units = t .yes! e };
   no! = λ e s. not-units su sx sy (t .no! e) s;
 }
+
+-- ---- what `shaped` asks of its calls
+module _ {F : Frame} {top : ℕ} {b : Seven} (i : ShapedIn F top b) where
+  pub part-m : PartIn F (b .m1) (b .m2) top
+  part-m = record { fine = i .fine; hb = i .h1; hc = i .h2; fits = i .fits; low-r = i .low-r; low-w = i .low-w }
+
+  pub part-n : PartIn F (b .n1) (b .n2) top
+  part-n = record { fine = i .fine; hb = i .k1; hc = i .k2; fits = i .fits; low-r = i .low-r; low-w = i .low-w }
+
+  -- 2a − x
+  pub twice-in : {a x : List ℕ} → Row (F .p) a → Row (F .p) x → CrossIn (F .p) 2 a 1 0 x
+  twice-in ha hx = let t : 2 < F .p = i .two in record {
+    modulus = i .fine .modulus;
+    hs = t;
+    hx = ha;
+    hc = omega arith;
+    hy = hx;
+    room = λ m s. let l : m ≤ 32 = subst (λ k. m ≤ k) (hx .size) (s .fits) in omega arith;
+  }
 
 -- ---- sizes
 module _ {F : Frame} (μ : Meaning F) {top : ℕ} {b : Seven} {mx my nx ny zm zn : List ℕ} (i : ShapedIn F top b)
@@ -212,3 +232,6 @@ module _ {F : Frame} (μ : Meaning F) {top : ℕ} {b : Seven} {mx my nx ny zm zn
     where
       less : (k : ℕ) → suc k - 1 ≡ k
       less k = omega arith
+
+  pub shaped-of : {o : Bool} → Decides o (Shape (b .u) mx my nx ny zm zn) → Decides o (Numbers μ b)
+  shaped-of h = record { yes! = λ e. numbers-of (h .yes! e); no! = λ e n. h .no! e (shape-is n) }

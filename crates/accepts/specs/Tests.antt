@@ -5,6 +5,7 @@
 --   Shape             both, of rows
 --   Numbers μ b       the sizes of a scaled reduced basis of a reduced ideal
 --   Shaped            a test of these, at each meaning of the series
+--   Alone             a test that no factor divides all seven, at each field
 use mathlib.Core.Path.{_≡_}
 use mathlib.Core.Logic.{_⊎_}
 use mathlib.Core.Bool.{Bool}
@@ -14,10 +15,15 @@ use lib.ListN.{length, getD}
 use Rattle.ring.specs.Ring.{Ops, CRing}
 use Rattle.valued.specs.Val.{Valued}
 use Rattle.valued.specs.Degree.{Has, Lt}
+use Rattle.fp.specs.Fp.{Prime}
+use Rattle.residue.specs.Residue.{Modulus}
 use Rattle.reading.specs.Reading.{Reading}
 use Rattle.reading.specs.Row.{Size}
+use Rattle.ideals.specs.Basis.{NoFactor}
+use Rattle.field.specs.Refusal.{Accepted}
+use Rattle.record.specs.Record.{setting}
 use Rattle.book_bytes.specs.Decides.{Decides}
-use Rattle.generators.specs.Rows.{Seven, AreRows}
+use Rattle.generators.specs.Rows.{Seven, AreRows, rowsOf}
 use Rattle.reduce.specs.Frame.{Frame, Fine, Meaning, Short, rd, rowμ, pt, X, Y, Ltμ, Hasμ}
 use Rattle.basis.specs.Based.{Z}
 
@@ -113,3 +119,12 @@ pub record Numbers {F : Frame} (μ : Meaning F) (b : Seven) : Type 0 where
 
 abbrev pub Shaped : Frame → Seven → Bool → Type 0
 Shaped F b o = (μ : Meaning F) → Decides o (Numbers μ b)
+
+-- ---- the common factor
+pub record AloneIn (p : ℕ) (b : Seven) : Type 0 where
+  pub modulus : Modulus p
+  pub prime : Prime p
+  pub rows : AreRows p b
+
+abbrev pub Alone : ℕ → Seven → Bool → Type 0
+Alone p b o = (G H : List ℕ) (A : Accepted p G H) → Decides o (NoFactor (setting A) (rowsOf A b))

@@ -1,7 +1,8 @@
 -- Rows in the record of 119 numbers.
 --   Stored B i a B′   B′ is B with row i taken from a
 --   Loaded B i r      r is row i of B, with zeros up to 32
--- `part` is the i-th row (crate record). The laws are in proofs/Store.antt.
+--   SevenLoaded B b   b is the seven rows of B, so loaded
+-- `part` is the i-th row (crate record). The laws are in proofs/Store.antt and proofs/Loads.antt.
 use mathlib.Core.Path.{_≡_}
 use mathlib.Core.Logic.{_⊎_}
 use mathlib.Core.List.{List}
@@ -11,6 +12,7 @@ use Rattle.fp.specs.Fp.{Prime}
 use Rattle.reading.specs.Made.{reading}
 use Rattle.reading.specs.Row.{row, Row}
 use Rattle.record.specs.Record.{part}
+use Rattle.generators.specs.Rows.{Seven}
 
 pub record StoreIn (i : ℕ) (a : List ℕ) : Type 0 where
   pub row : i < 7
@@ -29,3 +31,12 @@ pub record Loaded (B : List ℕ) (i : ℕ) (r : List ℕ) : Type 0 where
   pub is-row : (p : ℕ) → ((k : ℕ) → getD B k 0 < p) → Row p r
   pub above : (j : ℕ) → 17 ≤ j → getD r j 0 ≡ 0
   pub law : (p : ℕ) (pr : Prime p) → row (reading p pr) r ≡ row (reading p pr) (part i B)
+
+pub record SevenLoaded (B : List ℕ) (b : Seven) : Type 0 where
+  pub m0 : Loaded B 0 (b .m0)
+  pub m1 : Loaded B 1 (b .m1)
+  pub m2 : Loaded B 2 (b .m2)
+  pub n0 : Loaded B 3 (b .n0)
+  pub n1 : Loaded B 4 (b .n1)
+  pub n2 : Loaded B 5 (b .n2)
+  pub u : Loaded B 6 (b .u)

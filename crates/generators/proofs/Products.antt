@@ -54,6 +54,17 @@ fits-of ρ a b hx hy lx ly l n m sn sm =
     let r : m ≤ b = size-le ρ b hy sm ly in
     omega arith
 
+-- what leads with 1 needs no inversion
+pub monic-inverts : {p : ℕ} (pr : Prime p) {u : List ℕ} → Row p u → Leads (reading p pr .𝓥) (row (reading p pr) u) (reading p pr .𝓥 .K .ops .𝟏) → Inverts p u 1
+monic-inverts {p} pr {u} hu lu = record { below = pr .big; law = law-at }
+  where
+    law-at : (m : ℕ) → Size u m → (1 * getD u (m - 1) 0) % p ≡ 1
+    law-at zero t = let (i, j, nz, l) = lu in absurd (nz (reading p pr .𝓥 .lead-unique l (d.lead-eq (reading p pr .𝓥) (reading p pr .𝓥 .lead-zero i j) (sym (zero-row (reading p pr) u t)) refl)))
+    law-at (suc k) t =
+        let l : ℕ = getD u k 0 in
+        let e : reading p pr .cast l ≡ reading p pr .𝓥 .K .ops .𝟏 = leads-unique (reading p pr .𝓥) (k, 0, size-top (reading p pr) hu t, size-lead (reading p pr) t) lu in
+        ap (λ j. (1 * getD u j 0) % p) (let w : suc k - 1 ≡ k = omega arith in w) ∙ ap (λ y. y % p) (let w : 1 * l ≡ l = omega arith in w) ∙ one-mod (reading p pr) l (pr .big) e
+
 module _ {p : ℕ} {G H : List ℕ} (σ : Accepted p G H) (b : Seven) where
   -- what the sizes of a good basis say of its rows
   pub record Sizes : Type 0 where
@@ -173,14 +184,7 @@ module _ {p : ℕ} {g h gh : List ℕ} {ie : ℕ} {b : Seven} (i : GeneratorsIn 
       }
 
   pub by-u : Inverts p (b .u) 1
-  by-u = record { below = i .σ .prime .big; law = law-at }
-    where
-      law-at : (m : ℕ) → Size (b .u) m → (1 * getD (b .u) (m - 1) 0) % p ≡ 1
-      law-at zero t = absurd (i .good .ideal .U≢ (zero-row ρ (b .u) t))
-      law-at (suc k) t =
-          let l : ℕ = getD (b .u) k 0 in
-          let e : ρ .cast l ≡ ρ .𝓥 .K .ops .𝟏 = leads-unique (ρ .𝓥) (k, 0, size-top ρ (i .rows .u) t, size-lead ρ t) (i .good .scaled .monic) in
-          ap (λ j. (1 * getD (b .u) j 0) % p) (let w : suc k - 1 ≡ k = omega arith in w) ∙ ap (λ y. y % p) (let w : 1 * l ≡ l = omega arith in w) ∙ one-mod ρ l (i .σ .prime .big) e
+  by-u = monic-inverts (i .σ .prime) (i .rows .u) (i .good .scaled .monic)
 
 -- ---- the exact quotients: r m and w m in coordinates
 module _ {p : ℕ} {G H : List ℕ} (σ : Accepted p G H) {g h gh : List ℕ} (k : Holds σ g h gh) (b : Seven) {e : List ℕ} (de : Det p (b .m1) (b .n2) (b .m2) (b .n1) e) where

@@ -1,5 +1,7 @@
 // Fields opened and refused. The first line of stdin has the number of cases, and of those whose refusal alone is written; each line after it
 // has p, the number of coefficients of G, G, that of H, H. What is written is compared with stdout.
+use printed::line_end;
+use printed::number;
 ghost use Prim.Native.Nat.{_+_, _<_, _≤_};
 
 // v with the digit b after it, or v where b is no digit.
@@ -62,17 +64,6 @@ fn list_at(t: &[u64], i: usize) -> [u64; 14]
         k += 1;
     }
     r
-}
-
-fn line_end() {
-    let end = [b'\n'];
-    io::write_all(1, &end);
-}
-
-fn number(n: u64) {
-    let blank = [b' '];
-    io::print_decimal(1, n);
-    io::write_all(1, &blank);
 }
 
 fn row(x: [u64; 32]) {

@@ -77,7 +77,7 @@ fn part_at(
 }
 
 // The polynomial part of b r + c w, or of b r - c w
-fn part(
+pub fn part(
     f: Bounds,
     minus: bool,
     b: &[u64; 32],

@@ -1,28 +1,8 @@
 // The series of some fields, from one worked by hand to primes near 2^16, and the refusals: what is written is compared with stdout. After a
 // refusal the lists hold what they held.
-fn number(n: u64) {
-    let blank = [b' '];
-    io::print_decimal(1, n);
-    io::write_all(1, &blank);
-}
-
-fn wide(x: u16) -> u64 {
-    x as u64
-}
-
-fn line_end() {
-    let end = [b'\n'];
-    io::write_all(1, &end);
-}
-
-fn numbers(s: &[u16]) {
-    let mut i: usize = 0;
-    while i < s.len() {
-        number(wide(s[i]));
-        i += 1;
-    }
-    line_end();
-}
+use printed::line_end;
+use printed::number;
+use printed::numbers;
 
 fn show(p: u64, g: &[u64], h: &[u64], r: &mut [u16], w: &mut [u16]) {
     let n = series::series(p, g, h, r, w);

@@ -37,8 +37,9 @@ use Rattle.generators.specs.Rows.{Seven, seven, AreRows, rowsOf}
 use Rattle.generators.specs.Generated.{Generated, GeneratorsIn, AreGenerators}
 use Rattle.generators.specs.declared.Generators.{Generators}
 use Rattle.reduce.specs.Frame.{frame, Meaning}
-use Rattle.basis.specs.Store.{Loaded}
+use Rattle.basis.specs.Store.{SevenLoaded}
 use Rattle.basis.specs.Based.{BasisIn, BasedAt, Based}
+use Rattle.basis.proofs.Loads.{rows-are, rows-path, rows-good}
 use Rattle.step.specs.Steps.{Known, Keeps, Steps, AdvanceIn, Advanced}
 use Rattle.step.specs.declared.Advance.{Advance}
 use Rattle.step.proofs.Reduction.{size-of, pairOf, RowsOf, meaning, cut-low, basis-in}
@@ -101,41 +102,6 @@ module _ {p : ℕ} {G H : List ℕ} (A : Accepted p G H) {g h gh : List ℕ} {n 
         (subst (λ z. Rebased (setting A) (polyOf A (o .x)) (polyOf A (o .y)) z (basisOf A B′)) same-base rebased)))
         ends
 
--- ---- the seven rows of a record
-pub record SevenLoaded (B : List ℕ) (b : Seven) : Type 0 where
-  pub m0 : Loaded B 0 (b .m0)
-  pub m1 : Loaded B 1 (b .m1)
-  pub m2 : Loaded B 2 (b .m2)
-  pub n0 : Loaded B 3 (b .n0)
-  pub n1 : Loaded B 4 (b .n1)
-  pub n2 : Loaded B 5 (b .n2)
-  pub u : Loaded B 6 (b .u)
-
-module _ {p : ℕ} {G H : List ℕ} (A : Accepted p G H) {B : List ℕ} {b : Seven} (l : SevenLoaded B b) where
-  pub rows-are : ((i : ℕ) → getD B i 0 < p) → AreRows p b
-  rows-are e = record {
-    m0 = l .m0 .is-row p e;
-    m1 = l .m1 .is-row p e;
-    m2 = l .m2 .is-row p e;
-    n0 = l .n0 .is-row p e;
-    n1 = l .n1 .is-row p e;
-    n2 = l .n2 .is-row p e;
-    u = l .u .is-row p e;
-  }
-
-  path : {i : ℕ} (x : List ℕ) → Loaded B i x → polyOf A x ≡ polyOf A (part i B)
-  path {i} x h = P-path (setting A .𝓥) {a = polyOf A x} {b = polyOf A (part i B)} (h .law p (A .prime))
-
-  pub rows-path : rowsOf A b ≡ basisOf A B
-  rows-path = λ i. record {
-    U = path (b .u) (l .u) i;
-    M = record { a = path (b .m0) (l .m0) i; b = path (b .m1) (l .m1) i; c = path (b .m2) (l .m2) i };
-    N = record { a = path (b .n0) (l .n0) i; b = path (b .n1) (l .n1) i; c = path (b .n2) (l .n2) i };
-  }
-
-  pub rows-good : Good (setting A) (basisOf A B) → Good (setting A) (rowsOf A b)
-  rows-good = subst (Good (setting A)) (sym rows-path)
-
 -- ---- the degree of m
 pub degree-of : {p : ℕ} {G H : List ℕ} (A : Accepted p G H) (b : Seven) → AreRows p b → Good (setting A) (rowsOf A b) → (lm lu : ℕ) → Size (b .m0) lm → Size (b .u) lu
     → (lu ≤ lm) × Degree (setting A) (rowsOf A b) (lm - lu)
@@ -155,7 +121,7 @@ module _ {p : ℕ} {g h gh : List ℕ} {n dr dw : ℕ} {r w B : List ℕ} (i : A
   good-rows = rows-good A l (i .is-record .good A)
 
   pub are-rows : AreRows p b
-  are-rows = rows-are A l (i .is-record .each)
+  are-rows = rows-are l (i .is-record .each)
 
   pub lead-low : (z : ℕ) → Leading gh z → z ≤ p
   lead-low z e = go (sized gh)
@@ -201,5 +167,5 @@ module _ {p : ℕ} {g h gh : List ℕ} {n dr dw : ℕ} {r w B : List ℕ} (i : A
       record {
         is-record = record { size = hb .size; each = hb .each; good = λ A. step A .0 };
         next = λ A. subst (λ z. Next (setting A) z (basisOf A (a .basis))) (rows-path A l) (step A .1);
-        degree = λ A. subst (λ z. Degree (setting A) z (a .degree)) (rows-path A l) (subst (Degree (setting A) (rowsOf A b)) (sym e) (degree-of A b (rows-are A l (rec .each)) (goodAt A) lm lu sm su .1));
+        degree = λ A. subst (λ z. Degree (setting A) z (a .degree)) (rows-path A l) (subst (Degree (setting A) (rowsOf A b)) (sym e) (degree-of A b (rows-are l (rec .each)) (goodAt A) lm lu sm su .1));
       }

@@ -1,52 +1,28 @@
-// Three steps from the order of some fields: each line has the degree of the m divided by and the next record, and is compared with stdout.
-ghost use Rattle.opened.specs.Known.{Known};
+// The record of the order and three steps from it, of some fields: each line has the refusal, the degree of the m divided by and the record. It is
+// compared with stdout.
+use printed::number;
+use printed::numbers;
+use stepped::step;
 
-fn number(n: u64) {
-    let blank = [b' '];
-    io::print_decimal(1, n);
-    io::write_all(1, &blank);
-}
-
-fn wide(x: u16) -> u64 {
-    x as u64
-}
-
-fn numbers(s: &[u16]) {
-    let mut i: usize = 0;
-    while i < s.len() {
-        number(wide(s[i]));
-        i += 1;
-    }
-    let end = [b'\n'];
-    io::write_all(1, &end);
-}
-
-// The order's record, then three steps.
-fn walked(c: series::Cubic)
-    requires { ⌜ Known c ⌝ }
-{
-    let b = bases::first(c);
+fn line(n: u32, degree: u64, b: [u16; 119]) {
+    number(n as u64);
+    number(degree);
     numbers(&b);
-    let x = stepped::next(c, b);
-    let u = x.basis;
-    number(x.degree);
-    numbers(&u);
-    let y = stepped::next(c, u);
-    let v = y.basis;
-    number(y.degree);
-    numbers(&v);
-    let z = stepped::next(c, v);
-    let w = z.basis;
-    number(z.degree);
-    numbers(&w);
 }
 
 fn show(p: u64, g: &[u64], h: &[u64]) {
-    let e = series::open_with_series(p, g, h);
-    number(e.refusal as u64);
-    if e.refusal == 0 {
-        walked(e.cubic);
-    }
+    let o = bases::order(p, g, h);
+    let b = o.basis;
+    line(o.refusal, 0, b);
+    let x = step(p, g, h, b);
+    let u = x.basis;
+    line(x.refusal, x.degree, u);
+    let y = step(p, g, h, u);
+    let v = y.basis;
+    line(y.refusal, y.degree, v);
+    let z = step(p, g, h, v);
+    let w = z.basis;
+    line(z.refusal, z.degree, w);
 }
 
 fn main() {

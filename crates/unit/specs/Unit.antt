@@ -1,4 +1,5 @@
 -- The answer to `unit` (document 01: "Unit", refusals 10, 11, 14, "All buffers, scratch too, stay untouched on refusal").
+--   refusal n               the answer beside the refusal n: the other results are 0
 --   six c at l              the element whose rows are the three rows of c numbers of l from place at on
 --   Lent c rows scratch n   lengths and budget within their rule: two slices of 6 c numbers, c at most 4,096, the budget at most 1,000,000
 --   Finds p G H l d         from the order the chain closes after l steps with degree sum d
@@ -23,6 +24,10 @@ use Rattle.unit.specs.declared.Made.{Made}
 
 abbrev pub longest : ℕ
 longest = 4096
+
+-- the answer beside a refusal
+abbrev pub refusal : ℕ → Made
+refusal n = record { refusal = n; period = record { 0 = 0 }; regulator = record { 0 = 0 } }
 
 abbrev pub six : {p : ℕ} {G H : List ℕ} (A : Accepted p G H) (c at : ℕ) → List ℕ → O (setting A) .El
 six A c at l = record { a = polyOf A (cut at c l); b = polyOf A (cut (at + c) c l); c = polyOf A (cut (at + c + c) c l) }

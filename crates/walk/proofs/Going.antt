@@ -68,7 +68,7 @@ module _ (p : ℕ) (g h gh : List ℕ) (n dr dw : ℕ) (r w B : List ℕ) (budge
       reaches = subst (λ m. Reaches p G H B m d b) e (st .reaches G H k is);
     })
 
-    module _ (l : s < budget) (o : Advance) (adv : Advanced p g h gh n dr dw r w b o) where
+    module _ (o : Advance) (adv : Advanced p g h gh n dr dw r w b o) where
       more : (G H : List ℕ) → Keeps p G H g h gh n dr dw r w → IsRecord p G H B → Reaches p G H B (suc s) (d + o .degree) (o .basis)
       more G H k is = reaches-more p G H B b s d (st .reaches G H k is) o (adv G H k (st .reaches G H k is .is-record))
 
@@ -79,8 +79,8 @@ module _ (p : ℕ) (g h gh : List ℕ) (n dr dw : ℕ) (r w B : List ℕ) (budge
       closed-at = closed-in p (i .G) (i .H) (o .basis) (adv (i .G) (i .H) (i .keeps) record-at .is-record)
 
       -- it closes
-      pub gone-closed : (s′ d′ : ℕ) → s′ ≡ suc s → d′ ≡ d + o .degree → OnePart p (o .basis) true → Gone p g h gh n dr dw r w B budget (record { refusal = 0; steps = s′; sum = d′; basis = o .basis })
-      gone-closed s′ d′ e f one G H k is = inl (record {
+      pub gone-closed : s < budget → (s′ d′ : ℕ) → s′ ≡ suc s → d′ ≡ d + o .degree → OnePart p (o .basis) true → Gone p g h gh n dr dw r w B budget (record { refusal = 0; steps = s′; sum = d′; basis = o .basis })
+      gone-closed l s′ d′ e f one G H k is = inl (record {
         within = omega arith;
         number = refl;
         closes = record {
@@ -92,8 +92,8 @@ module _ (p : ℕ) (g h gh : List ℕ) (n dr dw : ℕ) (r w B : List ℕ) (budge
       })
 
       -- it goes on
-      pub going-more : (s′ d′ : ℕ) → s′ ≡ suc s → d′ ≡ d + o .degree → OnePart p (o .basis) false → Going p g h gh n dr dw r w B budget (o .basis) s′ d′
-      going-more s′ d′ e f other =
+      pub going-more : s < budget → (s′ d′ : ℕ) → s′ ≡ suc s → d′ ≡ d + o .degree → OnePart p (o .basis) false → Going p g h gh n dr dw r w B budget (o .basis) s′ d′
+      going-more l s′ d′ e f other =
           let q : o .degree ≤ 16 = degree-at in
           let t : d ≤ 16 * s = st .small in record {
             upto = omega arith;

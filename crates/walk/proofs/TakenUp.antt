@@ -1,20 +1,24 @@
 -- A walk that spent its budget and is taken up again gives what one long walk gives.
+--   open-then closing-then      of any chain
+--   closed-later spent-later    of records
+--   taken-up                    of the whole answers: a walk refused with 10, and the walk from where it stopped, are the long walk
 use mathlib.Core.Path.{_≡_, refl, sym, ap, _∙_, subst}
-use mathlib.Core.Logic.{_≢_}
+use mathlib.Core.Logic.{_≢_, _⊎_, inl, inr}
 use mathlib.Core.List.{List}
 use Prim.Native.Nat.{ℕ, zero, suc, _+_, _-_, _≤_, _<_}
 use native.Mathlib.Omega.{arith}
-use native.Mathlib.Decide.{decLe}
+use native.Mathlib.Decide.{decLe, ℕ-discrete}
 use Rattle.valued.specs.Polynomial.{polys}
 use Rattle.ideals.specs.Setting.{Setting}
 use Rattle.ideals.specs.Ideal.{Basis}
 use Rattle.ideals.specs.Basis.{Good}
 use Rattle.chain.specs.Chain.{Chain, Closing, Open}
 use Rattle.chain.proofs.Walk.{same-chain, chain-then, prefix}
-use Rattle.field.specs.Refusal.{Accepted}
+use Rattle.field.specs.Refusal.{Accepted, Refusal}
+use Rattle.field.proofs.Stages.{refusal-one}
 use Rattle.record.specs.Record.{setting, basisOf, IsRecord}
 use Rattle.walk.specs.declared.Walked.{Walked}
-use Rattle.walk.specs.Walk.{Reaches, Closes, StaysOpen, Closed, Spent}
+use Rattle.walk.specs.Walk.{most, Reaches, Closes, StaysOpen, refused, Closed, Spent, Goes, budget, no-record, closed, spent, Walks}
 
 -- ---- of any chain
 module _ (S : Setting) (B₀ B₁ : Basis S) (good : Good S B₀) {n d : ℕ} (c : Chain S B₀ n d B₁) (open-to : Open S B₀ n) where
@@ -72,3 +76,47 @@ module _ (p : ℕ) (G H : List ℕ) (n m : ℕ) (B : List ℕ) (is : IsRecord p 
       chain = λ A. chain-then (setting A) (first .reaches .chain A) (k .reaches .chain A);
     };
   }
+
+-- ---- of answers
+stage-low : {A E N : Type 0} {n k : ℕ} → k ≤ 8 → (N → n ≤ 8) → (A × (n ≡ k)) ⊎ (E × N) → n ≤ 8
+stage-low l f (inl (a, e)) = omega arith
+stage-low l f (inr (a, h)) = f h
+
+-- the numbers of the table
+refusal-low : (p : ℕ) (G H : List ℕ) (n : ℕ) → Refusal p G H n → n ≤ 8
+unfolding Refusal
+refusal-low p G H n = stage-low (omega arith) (stage-low (omega arith) (stage-low (omega arith) (stage-low (omega arith) (stage-low (omega arith) (stage-low (omega arith) (stage-low (omega arith) (stage-low (omega arith) (stage-low (omega arith) (λ e. omega arith)))))))))
+
+-- the answer to the long walk
+abbrev pub joined : ℕ → Walked → Walked → Walked
+joined n v w = record { refusal = w .refusal; steps = n + w .steps; sum = v .sum + w .sum; basis = w .basis }
+
+module _ (p : ℕ) (G H : List ℕ) (n m : ℕ) (B : List ℕ) (v w : Walked) (within : n + m ≤ most) where
+  -- 10 is the budget's
+  was-spent : Goes p G H n B v → v .refusal ≡ 10 → IsRecord p G H B × Spent p G H n B v
+  was-spent (budget l e) t = absurd (let q : 14 ≡ 10 = sym (ap (λ z. z .refusal) e) ∙ t in omega arith)
+  was-spent (no-record l a e) t = absurd (let q : 9 ≡ 10 = sym (ap (λ z. z .refusal) e) ∙ t in omega arith)
+  was-spent (closed l a e) t = absurd (let q : 0 ≡ 10 = sym (e .number) ∙ t in omega arith)
+  was-spent (spent l a e) t = (a, e)
+
+  goes-later : IsRecord p G H B → Spent p G H n B v → Goes p G H m (v .basis) w → Goes p G H (n + m) B (joined n v w)
+  goes-later a s (budget l e) = absurd (omega arith)
+  goes-later a s (no-record l b e) = absurd (b (s .reaches .is-record))
+  goes-later a s (closed l b e) = closed within a (let k = closed-later p G H n m B a v s w e in record { within = k .within; number = e .number; closes = k .closes })
+  goes-later a s (spent l b e) = spent within a (let k = spent-later p G H n m B a v s w e in record { number = e .number; all = ap (λ z. n + z) (e .all); none = k .none; reaches = k .reaches })
+
+  -- "a walk refused with 10 returns B, the degree sum and the basis reached, so it can be taken up again"
+  pub taken-up : Walks p G H n B v → v .refusal ≡ 10 → Walks p G H m (v .basis) w → Walks p G H (n + m) B (joined n v w)
+  taken-up a t b = go (ℕ-discrete (a .no) 0)
+    where
+      same : a .no ≡ b .no
+      same = refusal-one p G H (a .no) (b .no) (a .first) (b .first)
+
+      go : Dec (a .no ≡ 0) → Walks p G H (n + m) B (joined n v w)
+      go (yes z) =
+          let (rec, sp) = was-spent (a .goes z) t in
+          record { no = a .no; first = a .first; none = λ f. absurd (f z); goes = λ _. goes-later rec sp (b .goes (sym same ∙ z)) }
+      go (no f) = absurd (
+          let l : a .no ≤ 8 = refusal-low p G H (a .no) (a .first) in
+          let e : a .no ≡ 10 = sym (ap (λ z. z .refusal) (a .none f)) ∙ t in
+          omega arith)

@@ -16,7 +16,7 @@ use Rattle.record.proofs.Unique.{basis-unique}
 use Rattle.bases.specs.Answer.{IsFirst, First}
 use Rattle.series.specs.Answer.{Prefix, Expands}
 use Rattle.series.specs.declared.Expanded.{Expanded}
-use Rattle.opened.specs.Known.{Known}
+use Rattle.stepped.proofs.Answers.{field-of, known-of}
 use Rattle.series.specs.declared.Cubic.{Cubic}
 use Rattle.walk.specs.declared.Walked.{Walked}
 use Rattle.walk.specs.Walk.{most, Closes, StaysOpen, Closed, Spent}
@@ -98,12 +98,6 @@ module _ (p : ℕ) (G H : List ℕ) (n : ℕ) (e : Expanded) (opens : Expands p 
   from-refused o f z = record { no = e .refusal; first = opens .number; none = λ g. z; goes = λ g. absurd (f g) }
 
   module _ (z : e .refusal ≡ 0) where
-    pub field-at : Accepted p G H
-    field-at = accepted p G H (subst (λ m. Refusal p G H m) z (opens .number))
-
-    pub known-at : Known (e .cubic)
-    known-at = record { p = p; G = G; H = H; accepted = field-at; prefix = opens .opened z }
-
     from-goes : (o : Told) → Goes p G H n o → FromOrder p G H n o
     from-goes o g = record { no = 0; first = subst (λ m. Refusal p G H m) z (opens .number); none = λ f. absurd (f refl); goes = λ f. g }
 
@@ -112,15 +106,14 @@ module _ (p : ℕ) (G H : List ℕ) (n : ℕ) (e : Expanded) (opens : Expands p 
 
     module _ (b : List ℕ) (first : First (e .cubic) b) (l : n ≤ most) where
       pub first-at : IsFirst p G H b
-      first-at = first p G H field-at (opens .opened z)
+      first-at = first p G H (field-of opens z) (opens .opened z)
 
       pub walked-at : WalkedIn (e .cubic) b n
-      unfolding known-at
-      walked-at = record { known = known-at; is-record = first-at .is-record; within = l }
+      walked-at = record { known = known-of opens z; is-record = first-at .is-record; within = l }
 
       pub from-spent : (w : Walked) → WalkedOut (e .cubic) b n w → w .refusal ≢ 0 → (o : Told) → o ≡ refusal 10 → FromOrder p G H n o
-      from-spent w out f o q = from-goes o (subst (λ (t : Told). Goes p G H n t) (sym q) (goes-spent p G H field-at n (e .cubic) (opens .opened z) b first-at l w out f))
+      from-spent w out f o q = from-goes o (subst (λ (t : Told). Goes p G H n t) (sym q) (goes-spent p G H (field-of opens z) n (e .cubic) (opens .opened z) b first-at l w out f))
 
       pub from-closed : (w : Walked) → WalkedOut (e .cubic) b n w → w .refusal ≡ 0
           → FromOrder p G H n (record { refusal = 0; period = record { 0 = w .steps }; regulator = record { 0 = w .sum / 2 } })
-      from-closed w out f = from-goes _ (goes-closed p G H field-at n (e .cubic) (opens .opened z) b first-at l w out f)
+      from-closed w out f = from-goes _ (goes-closed p G H (field-of opens z) n (e .cubic) (opens .opened z) b first-at l w out f)

@@ -1,8 +1,10 @@
 // The public walks: from a record, and from the order. specs/ has their contracts.
+use accepts::accepts;
 use counts::Period;
 use counts::Regulator;
 use walk::Walked;
 ghost use mathlib.Core.Path.{_≡_};
+ghost use Rattle.walk.specs.Walk as W;
 ghost use Rattle.walks.specs.Order.{WalkedIn, WalkedOut, FromOrder, refusal};
 
 // The number of the refusal; 0 and the period and regulator of the field where the walk from the order closes.
@@ -13,7 +15,7 @@ pub struct Told {
 }
 
 // The walk in an opened field.
-fn walked(c: series::Cubic, b: [u16; 119], budget: u64) -> Walked
+pub fn walked(c: series::Cubic, b: [u16; 119], budget: u64) -> Walked
     requires { ⌜ WalkedIn c b budget ⌝ }
     ensures { λ o. ⌜ WalkedOut c b budget o ⌝ }
 {
@@ -60,5 +62,39 @@ pub fn from_order(p: u64, g: &[u64], h: &[u64], budget: u64) -> Told
         refusal: 0,
         period: Period(o.steps),
         regulator: Regulator(o.sum / 2),
+    }
+}
+
+// A refusal of the walk from a record: the other results are 0.
+fn no_walk(n: u32) -> Walked
+    ensures { λ o. ⌜ o ≡ W.refused n ⌝ }
+{
+    let z: [u16; 119] = [0; 119];
+    Walked {
+        refusal: n,
+        steps: 0,
+        sum: 0,
+        basis: z,
+    }
+}
+
+// The walk from a record: at most `budget` steps, until U = 1 after at least one.
+pub fn walk(p: u64, g: &[u64], h: &[u64], rows: [u16; 119], budget: u64) -> Walked
+    ensures { λ o. ⌜ W.Walks p (now (g .entry)) (now (h .entry)) budget rows o ⌝ }
+{
+    let e = series::open_with_series(p, g, h);
+    let n = e.refusal;
+    if n != 0 {
+        return no_walk(n);
+    }
+    if budget > 1000000 {
+        return no_walk(14);
+    }
+    let c = e.cubic;
+    let good = accepts(c, rows);
+    if good {
+        walked(c, rows, budget)
+    } else {
+        no_walk(9)
     }
 }

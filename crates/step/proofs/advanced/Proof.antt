@@ -4,7 +4,8 @@ use Prim.Native.Nat.{ℕ, _≤_}
 use native.Mathlib.Omega.{arith}
 use borrow.Author.Needs.{needs}
 use Rattle.generators.specs.Rows.{seven}
-use Rattle.step.proofs.Made.{SevenLoaded, lead-low, divided-in, n-small, cut-fits, reduced-in, shorter, advanced-of}
+use Rattle.basis.specs.Store.{SevenLoaded}
+use Rattle.step.proofs.Made.{lead-low, divided-in, n-small, cut-fits, reduced-in, shorter, advanced-of}
 use Rattle.step.proofs.advanced.Statement.{statement}
 use Rattle.step.proofs.advanced.Tie as tie
 

@@ -30,7 +30,7 @@ advanced-requires c κs = record {
 
 add-sum : tie.Need-add-sum Inv-loop μ-loop
 add-sum c =
-    let d : c .before .advanced .result .degree ≤ 16 = degree-at _ _ _ _ _ _ _ _ _ _ _ (c .before .before .before .before .before .pre) _ _ _ (c .before .before .before .before .loop .inv) (c .before .before .before .loop-test .taken) (c .before .advanced .result) (c .before .advanced .ensures) in
+    let d : c .before .advanced .result .degree ≤ 16 = degree-at _ _ _ _ _ _ _ _ _ _ _ (c .before .before .before .before .before .pre) _ _ _ (c .before .before .before .before .loop .inv) (c .before .advanced .result) (c .before .advanced .ensures) in
     let l : c .before .before .before .before .before .args .budget ≤ 1000000 = c .before .before .before .before .before .pre .within in
     record { fits = omega arith }
 
@@ -40,11 +40,11 @@ add-steps c =
     record { fits = omega arith }
 
 is-closed-requires : tie.Need-is-closed-requires Inv-loop μ-loop
-is-closed-requires c κs = closed-at _ _ _ _ _ _ _ _ _ _ _ (c .before .before .before .before .before .before .pre) _ _ _ (c .before .before .before .before .before .loop .inv) (c .before .before .before .before .loop-test .taken) (c .before .before .advanced .result) (c .before .before .advanced .ensures)
+is-closed-requires c κs = closed-at _ _ _ _ _ _ _ _ _ _ _ (c .before .before .before .before .before .before .pre) _ _ _ (c .before .before .before .before .before .loop .inv) (c .before .before .advanced .result) (c .before .before .advanced .ensures)
 
 returns : tie.Need-returns Inv-loop μ-loop
 returns c =
-    gone-closed _ _ _ _ _ _ _ _ _ _ _ (c .before .before .before .before .before .before .before .before .pre) _ _ _ (c .before .before .before .before .before .before .before .loop .inv) (c .before .before .before .before .before .before .loop-test .taken) (c .before .before .before .before .advanced .result) (c .before .before .before .before .advanced .ensures) _ _ (add-one _) refl
+    gone-closed _ _ _ _ _ _ _ _ _ _ _ (c .before .before .before .before .before .before .before .before .pre) _ _ _ (c .before .before .before .before .before .before .before .loop .inv) (c .before .before .before .before .advanced .result) (c .before .before .before .before .advanced .ensures) (omega (arith, c .before .before .before .before .before .before .loop-test .taken)) _ _ (add-one _) refl
     (subst (λ (z : Bool). OnePart (c .before .before .before .before .before .before .before .before .args .p) (c .before .before .before .before .advanced .result .basis) z) (c .if1 .taken) (c .before .is-closed .ensures))
 
 loop-less : tie.Need-loop-less Inv-loop μ-loop
@@ -52,7 +52,7 @@ loop-less c = omega arith
 
 loop-again : tie.Need-loop-again Inv-loop μ-loop
 loop-again c =
-    going-more _ _ _ _ _ _ _ _ _ _ _ (c .before .before .before .before .before .before .before .before .pre) _ _ _ (c .before .before .before .before .before .before .before .loop .inv) (c .before .before .before .before .before .before .loop-test .taken) (c .before .before .before .before .advanced .result) (c .before .before .before .before .advanced .ensures) _ _ (add-one _) refl
+    going-more _ _ _ _ _ _ _ _ _ _ _ (c .before .before .before .before .before .before .before .before .pre) _ _ _ (c .before .before .before .before .before .before .before .loop .inv) (c .before .before .before .before .advanced .result) (c .before .before .before .before .advanced .ensures) (omega (arith, c .before .before .before .before .before .before .loop-test .taken)) _ _ (add-one _) refl
     (subst (λ (z : Bool). OnePart (c .before .before .before .before .before .before .before .before .args .p) (c .before .before .before .before .advanced .result .basis) z) (c .if1 .left) (c .before .is-closed .ensures))
 
 returns-2 : tie.Need-returns-2 Inv-loop μ-loop

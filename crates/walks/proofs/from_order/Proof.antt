@@ -1,6 +1,7 @@
 -- `from_order` meets its contract, case by case.
 use borrow.Author.Needs.{needs}
-use Rattle.walks.proofs.Order.{from-refused, known-at, from-budget, walked-at, from-spent, from-closed}
+use Rattle.stepped.proofs.Answers.{known-of}
+use Rattle.walks.proofs.Order.{from-refused, from-budget, walked-at, from-spent, from-closed}
 use Rattle.walks.proofs.from_order.Statement.{statement}
 use Rattle.walks.proofs.from_order.Tie as tie
 
@@ -20,7 +21,7 @@ returns-2 : tie.Need-returns-2
 returns-2 c = from-budget _ _ _ _ _ (c .before .before .before .open-with-series .ensures) (c .before .before .if1 .left) _ (c .before .if2 .taken) (c .refused2 .ensures)
 
 first-requires : tie.Need-first-requires
-first-requires c κs = known-at _ _ _ (c .before .before .before .before .before .before .args .budget) _ (c .before .before .before .open-with-series .ensures) (c .before .before .if1 .left)
+first-requires c κs = known-of (c .before .before .before .open-with-series .ensures) (c .before .before .if1 .left)
 
 walked-requires : tie.Need-walked-requires
 walked-requires c κs = walked-at _ _ _ _ _ (c .before .before .before .before .open-with-series .ensures) (c .before .before .before .if1 .left) _ (c .first .ensures) (c .before .before .if2 .left)

@@ -1,0 +1,98 @@
+-- Demand 1 holds: what the layers prove of each function, side by side.
+use mathlib.Core.Path.{_≡_, ap}
+use mathlib.Core.Logic.{_≢_}
+use mathlib.Core.List.{List}
+use Prim.Native.Nat.{ℕ}
+use native.Mathlib.Decide.{ℕ-discrete}
+use Rattle.field.proofs.Stages.{refusal-one}
+use Rattle.field.proofs.Opening.{opens-one}
+use Rattle.series.proofs.Answer.{answer-one}
+use Rattle.bases.proofs.Answer.{orders-one}
+use Rattle.stepped.proofs.Answers.{answers-one}
+use Rattle.walk.proofs.Walk.{walks-one}
+use Rattle.walks.proofs.Order.{from-order-one}
+use Rattle.unit.specs.declared.Made.{Made}
+use Rattle.unit.specs.Unit as unit
+use Rattle.unit.proofs.Once.{makes-one}
+use Rattle.book_body.specs.Said.{Said}
+use Rattle.book_body.specs.Body.{Body}
+use Rattle.book_body.specs.Code as code
+use Rattle.book_body.proofs.One.{list-one}
+use Rattle.book_write.specs.Write as write
+use Rattle.book_write.proofs.One.{write-one}
+use Rattle.book.proofs.One.{tells-one, ask-one, part-one}
+use Rattle.book_add.specs.Add as add
+use Rattle.book_add.proofs.One.{add-one}
+use Rattle.book_attest.proofs.One.{attest-one}
+use Rattle.demands.specs.Fixed.{Demand1}
+use Rattle.demands.proofs.Numbered.{numbered}
+
+number-of : {x y : Said} → x ≡ y → x .number ≡ y .number
+number-of e = ap (λ (x : Said). x .number) e
+
+-- ---- what a refusal leaves
+module _ (p n : ℕ) (G H rows scratch rows′ scratch′ : List ℕ) (m : Made) (f : m .refusal ≢ 0) where
+  abbrev Untouched : Type 0
+  Untouched = (rows′ ≡ rows) × (scratch′ ≡ scratch)
+
+  goes-kept : unit.Goes p G H n rows scratch m rows′ scratch′ → Untouched
+  goes-kept (unit.bad g r) = (r .rows-same, r .scratch-same)
+  goes-kept (unit.spent c b g r) = (r .rows-same, r .scratch-same)
+  goes-kept (unit.narrow c l d b h g k r) = (r .rows-same, r .scratch-same)
+  goes-kept (unit.made c l d b h g k r) = absurd (f (r .number))
+
+  unit-kept : unit.Makes p G H n rows scratch m rows′ scratch′ → Untouched
+  unit-kept h = go (ℕ-discrete (h .no) 0)
+    where
+      go : Dec (h .no ≡ 0) → Untouched
+      go (yes e) = goes-kept (h .goes e)
+      go (no g) = (h .none g .rows-same, h .none g .scratch-same)
+
+list-kept : {k : ℕ} {s d d′ : List ℕ} {x : Said} → code.ListTells s k d x d′ → x .number ≢ 0 → d′ ≡ d
+list-kept (code.read h l e q) f = absurd (f (number-of e))
+list-kept (code.none h e q) f = q
+list-kept (code.short h l e q) f = q
+
+write-kept : {b : Body} {d d′ : List ℕ} {x : Said} → write.WriteTells b d x d′ → x .number ≢ 0 → d′ ≡ d
+write-kept (write.field n h s e q) f = q
+write-kept (write.rule s r e q) f = q
+write-kept (write.short s r l e q) f = q
+write-kept (write.done s r l e q) f = absurd (f (number-of e))
+
+add-kept : {n : ℕ} {d b d′ : List ℕ} {x : Said} → add.AddTells d n b x d′ → x .number ≢ 0 → d′ ≡ d
+add-kept (add.length-out l e q) f = q
+add-kept (add.book l a t q) f = q
+add-kept (add.body l a t q) f = q
+add-kept (add.known l a t j h o e q) f = q
+add-kept (add.short l a t u o e q) f = q
+add-kept (add.added l a t u h k e q) f = absurd (f (number-of e))
+
+pub demand-1 : Demand1
+demand-1 = record {
+  field-numbered = numbered;
+  series-kept = λ h f. h .kept f;
+  unit-kept = λ m h f. unit-kept _ _ _ _ _ _ _ _ m f h;
+  list-kept = list-kept;
+  write-kept = write-kept;
+  add-kept = add-kept;
+  refusal-fixed = refusal-one;
+  open-fixed = opens-one;
+  series-fixed = λ h k. answer-one _ _ _ _ h k;
+  order-fixed = orders-one;
+  step-fixed = answers-one;
+  walk-fixed = λ v w h k. walks-one _ _ _ _ _ v w h k;
+  from-order-fixed = λ v w h k. from-order-one _ _ _ _ v w h k;
+  unit-fixed = λ m m′ h k.
+      let s = makes-one _ _ _ _ _ _ m m′ _ _ _ _ h k in (
+        (λ i. record { refusal = s .number i; period = record { 0 = s .period i }; regulator = record { 0 = s .regulator i } }),
+        s .rows-same,
+        s .scratch-same,
+      );
+  check-book-fixed = λ h k. tells-one _ h k;
+  ask-fixed = λ h k. ask-one _ h k;
+  part-fixed = λ h k. part-one _ h k;
+  attest-fixed = λ h k. attest-one _ _ _ _ h k;
+  list-fixed = list-one;
+  write-fixed = λ h k. write-one _ _ h k;
+  add-fixed = λ h k. add-one _ _ _ h k;
+}

@@ -1,0 +1,146 @@
+-- Demand 2 holds. Each clause: a number other than the one that is told belongs to another case of the contract.
+use mathlib.Core.Path.{_≡_, sym, ap, _∙_, subst}
+use mathlib.Core.Logic.{_⊎_, inl, inr}
+use mathlib.Core.List.{List}
+use Prim.Native.Nat.{ℕ, _+_, _≤_}
+use native.Mathlib.Omega.{arith}
+use native.Mathlib.Decide.{ℕ-discrete}
+use Rattle.field.specs.Refusal.{Accepted}
+use Rattle.ideals.specs.Setting.{Setting}
+use Rattle.ideals.specs.Ideal.{Basis}
+use Rattle.ideals.specs.Next.{Next, Start}
+use Rattle.chain.specs.Chain.{Chain, Closing}
+use Rattle.chain.specs.Unit.{UnitOf}
+use Rattle.chain.proofs.Walk.{chain-good}
+use Rattle.chain.proofs.Closing.{start-unique, closing-start}
+use Rattle.record.specs.Record.{setting, basisOf, IsRecord}
+use Rattle.record.proofs.Unique.{record-unique}
+use Rattle.stepped.specs.declared.Stepped.{Stepped}
+use Rattle.stepped.specs.Answer as stepped
+use Rattle.walk.specs.declared.Walked.{Walked}
+use Rattle.walk.specs.Walk as walk
+use Rattle.walks.specs.declared.Told.{Told}
+use Rattle.walks.specs.Order as walks
+use Rattle.unit.specs.declared.Made.{Made}
+use Rattle.unit.specs.Unit as unit
+use Rattle.book.proofs.Value.{book-back, book-obeys}
+use Rattle.book.proofs.Written.{writing-accepted, written-count, reads-back, one-value}
+use Rattle.demands.specs.Meaning.{BackFirst, Demand2}
+use Rattle.demands.proofs.Numbered.{numbered}
+
+-- ---- the step
+module _ (p : ℕ) (G H B : List ℕ) (s : Stepped) (z : s .refusal ≡ 0) where
+  abbrev Stepping : Type 0
+  Stepping = IsRecord p G H (s .basis) × ((A : Accepted p G H) → Next (setting A) (basisOf A B) (basisOf A (s .basis)))
+
+  step-goes : stepped.Goes p G H B s → Stepping
+  step-goes (stepped.no-record f e) = let n = ap (λ (x : Stepped). x .refusal) e in absurd (omega arith)
+  step-goes (stepped.taken r n t) = (t .is-record, t .next)
+
+  step-basis : stepped.Answers p G H B s → Stepping
+  step-basis h = go (ℕ-discrete (h .no) 0)
+    where
+      go : Dec (h .no ≡ 0) → Stepping
+      go (yes e) = step-goes (h .goes e)
+      go (no f) = let n = ap (λ (x : Stepped). x .refusal) (h .none f) in absurd (f (sym n ∙ z))
+
+-- ---- the walk
+walk-number : (w : Walked) {k : ℕ} → w ≡ walk.refused k → w .refusal ≡ k
+walk-number w e = ap (λ (x : Walked). x .refusal) e
+
+module _ (p n : ℕ) (G H B : List ℕ) (w : Walked) where
+  abbrev Reached : Type 0
+  Reached = walk.Reaches p G H B (w .steps) (w .sum) (w .basis)
+
+  closed-reaches : walk.Closed p G H n B w → Reached
+  closed-reaches c = record { is-record = c .closes .is-record; chain = λ A. c .closes .closing A .chain }
+
+  spent-reaches : walk.Spent p G H n B w → Reached
+  spent-reaches s = subst (λ k. walk.Reaches p G H B k (w .sum) (w .basis)) (sym (s .all)) (s .reaches)
+
+  walk-goes : (w .refusal ≡ 0) ⊎ (w .refusal ≡ 10) → walk.Goes p G H n B w → Reached
+  walk-goes (inl z) (walk.budget h e) = let k = walk-number w e in absurd (omega arith)
+  walk-goes (inr z) (walk.budget h e) = let k = walk-number w e in absurd (omega arith)
+  walk-goes (inl z) (walk.no-record h f e) = let k = walk-number w e in absurd (omega arith)
+  walk-goes (inr z) (walk.no-record h f e) = let k = walk-number w e in absurd (omega arith)
+  walk-goes z (walk.closed h r c) = closed-reaches c
+  walk-goes z (walk.spent h r s) = spent-reaches s
+
+  walk-basis : walk.Walks p G H n B w → (w .refusal ≡ 0) ⊎ (w .refusal ≡ 10) → Reached
+  walk-basis h z = go (ℕ-discrete (h .no) 0) z
+    where
+      small : h .no ≤ 8
+      small = numbered p G H (h .no) (h .first)
+
+      go : Dec (h .no ≡ 0) → (w .refusal ≡ 0) ⊎ (w .refusal ≡ 10) → Reached
+      go (yes e) z = walk-goes z (h .goes e)
+      go (no f) (inl e) = let k = walk-number w (h .none f) in absurd (f (sym k ∙ e))
+      go (no f) (inr e) = let k = walk-number w (h .none f) in let q = small in absurd (omega arith)
+
+-- ---- period and regulator
+told-number : (o : Told) {k : ℕ} → o ≡ walks.refusal k → o .refusal ≡ k
+told-number o e = ap (λ (x : Told). x .refusal) e
+
+-- closing is being back at the whole order, for the first time
+back-first : (S : Setting) (B₀ : Basis S) → Start S B₀ → (l d : ℕ) (B : Basis S) → Closing S B₀ l d B → BackFirst S B₀ l d
+back-first S B₀ st l d B c = record {
+  some = c .some;
+  back = subst (Chain S B₀ l d) (sym (closing-start S B₀ B st (chain-good S B₀ (st .good) (c .chain)) (c .closed))) (c .chain);
+  first = λ m e B′ lo hi ch s. c .none m e B′ lo hi ch (s .U-one);
+}
+
+module _ (p n : ℕ) (G H : List ℕ) (o : Told) (z : o .refusal ≡ 0) (A : Accepted p G H) (B₀ : Basis (setting A)) (st : Start (setting A) B₀) where
+  abbrev Told-back : Type 0
+  Told-back = BackFirst (setting A) B₀ (o .period .0) (o .regulator .0 + o .regulator .0)
+
+  period-goes : walks.Goes p G H n o → Told-back
+  period-goes (walks.budget h e) = let k = told-number o e in absurd (omega arith)
+  period-goes (walks.spent h B f g e) = let k = told-number o e in absurd (omega arith)
+  period-goes (walks.closed h B f c) =
+      let S = setting A in
+      let e = start-unique S (basisOf A B) B₀ (f .start A) st in
+      back-first S B₀ st _ _ _ (subst (λ X. Closing S X (o .period .0) (o .regulator .0 + o .regulator .0) (basisOf A (c .last))) e (c .closes .closing A))
+
+  period-back : walks.FromOrder p G H n o → Told-back
+  period-back h = go (ℕ-discrete (h .no) 0)
+    where
+      go : Dec (h .no ≡ 0) → Told-back
+      go (yes e) = period-goes (h .goes e)
+      go (no f) = let k = told-number o (h .none f) in absurd (f (sym k ∙ z))
+
+-- ---- the unit
+module _ (p n : ℕ) (G H rows scratch rows′ scratch′ : List ℕ) (m : Made) (z : m .refusal ≡ 0) where
+  abbrev Unit-is : Type 0
+  Unit-is = (c : ℕ) × ((A : Accepted p G H) (B₀ : Basis (setting A)) → Start (setting A) B₀ → UnitOf (setting A) B₀ (m .period .0) (m .regulator .0 + m .regulator .0) (unit.six A c 0 rows′) (unit.six A c (c + c + c) rows′))
+
+  unit-goes : unit.Goes p G H n rows scratch m rows′ scratch′ → Unit-is
+  unit-goes (unit.bad f r) = let k = r .number in absurd (omega arith)
+  unit-goes (unit.spent c b f r) = let k = r .number in absurd (omega arith)
+  unit-goes (unit.narrow c l d b h f g r) = let k = r .number in absurd (omega arith)
+  unit-goes (unit.made c l d b h f g r) = (
+    c,
+    λ A B₀ st.
+        subst (λ x. UnitOf (setting A) B₀ x (m .regulator .0 + m .regulator .0) (unit.six A c 0 rows′) (unit.six A c (c + c + c) rows′)) (sym (r .period))
+        (subst (λ x. UnitOf (setting A) B₀ l x (unit.six A c 0 rows′) (unit.six A c (c + c + c) rows′)) (sym (r .regulator)) (r .rows-hold .unit A B₀ st)),
+  )
+
+  unit-is : unit.Makes p G H n rows scratch m rows′ scratch′ → Unit-is
+  unit-is h = go (ℕ-discrete (h .no) 0)
+    where
+      go : Dec (h .no ≡ 0) → Unit-is
+      go (yes e) = unit-goes (h .goes e)
+      go (no f) = let k = h .none f .number in absurd (f (sym k ∙ z))
+
+pub demand-2 : Demand2
+demand-2 = record {
+  one-basis = λ A B B′ h h′ s. record-unique A B B′ h h′ s;
+  order-basis = λ o h z. h .first z;
+  step-basis = λ s h z. step-basis _ _ _ _ s z h;
+  walk-basis = λ w h z. walk-basis _ _ _ _ _ w h z;
+  period = λ o h z A B₀ st. period-back _ _ _ _ o z A B₀ st h;
+  unit = λ m h z. unit-is _ _ _ _ _ _ _ _ m z h;
+  written-accepted = λ bs o. writing-accepted bs o;
+  reads-back = λ bs o. (written-count bs o, reads-back bs o);
+  accepted-written = λ s b a. (book-obeys s b a, book-back s b a);
+  one-writing = one-value;
+}

@@ -1,0 +1,53 @@
+-- Demand 3: "From the order of any accepted field, after any number of steps: the three basis elements times all minima passed lie in the
+-- order, with a non-zero constant determinant; the denominator has degree below GH's, no coefficient polynomial a higher one; at closing,
+-- unit times inverse is exactly 1."
+--   After c     what holds of a chain c of steps from the order
+--   Demand3     the demand
+-- How to read it: A says that the field is accepted; B₀ is the order's basis; a Chain of s steps ends in the basis B with the degree sum d.
+-- The theorem `demand-3` is in proofs/Demand3.antt.
+use mathlib.Core.Path.{_≡_}
+use mathlib.Core.List.{List}
+use Prim.Native.Nat.{ℕ, suc}
+use Rattle.ring.specs.Ring.{Ops}
+use Rattle.cubic.specs.Mat3.{Mat, det}
+use Rattle.valued.specs.Degree.{Lt}
+use Rattle.valued.specs.Polynomial.{polys, IsUnit}
+use Rattle.field.specs.Refusal.{Accepted}
+use Rattle.ideals.specs.Setting.{Setting, P, dGH}
+use Rattle.ideals.specs.Element.{O, sc}
+use Rattle.ideals.specs.Ideal.{Basis}
+use Rattle.ideals.specs.Next.{Start}
+use Rattle.chain.specs.Chain.{Chain, Product}
+use Rattle.chain.specs.Unit.{UnitOf}
+use Rattle.record.specs.Record.{setting}
+
+module _ (S : Setting) where
+  open Setting S using (𝓥)
+  open Ops (O S .ops) using (mul as _⊗_, 𝟏 as 1ₒ)
+
+  infixl 70 _⊗_
+  -- the nine coordinates of three elements
+  abbrev pub nine : O S .El → O S .El → O S .El → Mat (P S)
+  nine x y z = record { a₁ = x .a; a₂ = x .b; a₃ = x .c; b₁ = y .a; b₂ = y .b; b₃ = y .c; c₁ = z .a; c₂ = z .b; c₃ = z .c }
+
+  pub record After {B₀ : Basis S} {s d : ℕ} {B : Basis S} (c : Chain S B₀ s d B) : Type 0 where
+    -- E is the product of all minima passed; E · 1, E · m = Em and E · n = En lie in the order
+    pub E : O S .El
+    pub Em : O S .El
+    pub En : O S .El
+    pub product : Product S c E
+    pub times-m : E ⊗ B .M ≡ sc S (B .U) ⊗ Em
+    pub times-n : E ⊗ B .N ≡ sc S (B .U) ⊗ En
+    -- a polynomial with an inverse is a constant that is not 0
+    pub determinant : IsUnit 𝓥 (det (polys 𝓥 .ops) (nine E Em En))
+    pub denominator : Lt 𝓥 (B .U .0) (dGH S)
+    pub M0 : Lt 𝓥 (B .M .a .0) (suc (dGH S))
+    pub M1 : Lt 𝓥 (B .M .b .0) (suc (dGH S))
+    pub M2 : Lt 𝓥 (B .M .c .0) (suc (dGH S))
+    pub N0 : Lt 𝓥 (B .N .a .0) (suc (dGH S))
+    pub N1 : Lt 𝓥 (B .N .b .0) (suc (dGH S))
+    pub N2 : Lt 𝓥 (B .N .c .0) (suc (dGH S))
+
+pub record Demand3 : Type 0 where
+  pub after : {p : ℕ} {G H : List ℕ} (A : Accepted p G H) (B₀ : Basis (setting A)) → Start (setting A) B₀ → {s d : ℕ} {B : Basis (setting A)} (c : Chain (setting A) B₀ s d B) → After (setting A) c
+  pub exactly-one : {p : ℕ} {G H : List ℕ} (A : Accepted p G H) (B₀ : Basis (setting A)) {l d : ℕ} {E F : O (setting A) .El} → UnitOf (setting A) B₀ l d E F → O (setting A) .ops .mul E F ≡ O (setting A) .ops .𝟏

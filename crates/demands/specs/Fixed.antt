@@ -1,0 +1,58 @@
+-- Demand 1: "Every prime, pair of lists, basis, budget, buffer, book or text line brings an answer or a numbered refusal. Nobody checks
+-- beforehand. A refusal writes nothing to a lent buffer, and all of its answer is fixed by the input."
+--   Demand1   the demand, in three groups of fields
+-- How to read it: that there is an answer at all, for every input and with nothing asked beforehand, is what the checker proves of a
+-- function without `requires`; here is what the answers are like. A field named `..-numbered` says which numbers come, `..-kept` that a
+-- refusal leaves what is lent as it was, `..-fixed` that two outcomes of one input are equal: results, and slices after the call.
+-- The theorem `demand-1` is in proofs/Demand1.antt.
+use mathlib.Core.Path.{_≡_}
+use mathlib.Core.Logic.{_≢_}
+use mathlib.Core.List.{List}
+use Prim.Native.Nat.{ℕ, _≤_}
+use Rattle.field.specs.Refusal.{Refusal}
+use Rattle.field.specs.Opening.{Opens}
+use Rattle.field.specs.declared.Opened.{Opened}
+use Rattle.series.specs.Answer as series
+use Rattle.bases.specs.declared.Ordered.{Ordered}
+use Rattle.bases.specs.Answer.{Orders}
+use Rattle.stepped.specs.declared.Stepped.{Stepped}
+use Rattle.stepped.specs.Answer.{Answers}
+use Rattle.walk.specs.declared.Walked.{Walked}
+use Rattle.walk.specs.Walk.{Walks}
+use Rattle.walks.specs.declared.Told.{Told}
+use Rattle.walks.specs.Order.{FromOrder}
+use Rattle.unit.specs.declared.Made.{Made}
+use Rattle.unit.specs.Unit.{Makes}
+use Rattle.book_body.specs.Said.{Said}
+use Rattle.book_body.specs.Body.{Body}
+use Rattle.book_body.specs.Code.{ListTells}
+use Rattle.book_write.specs.Write.{WriteTells}
+use Rattle.book.specs.Answer.{Tells, AskTells, AskedPart}
+use Rattle.book_add.specs.Add.{AddTells}
+use Rattle.book_attest.specs.Attest.{AttestTells}
+
+pub record Demand1 : Type 0 where
+  -- "an answer or a numbered refusal"
+  pub field-numbered : (p : ℕ) (G H : List ℕ) (n : ℕ) → Refusal p G H n → n ≤ 8
+  -- "A refusal writes nothing to a lent buffer"
+  pub series-kept : {p n : ℕ} {G H r w r′ w′ : List ℕ} → series.Answer p G H r w r′ w′ n → n ≢ 0 → (r′ ≡ r) × (w′ ≡ w)
+  pub unit-kept : {p n : ℕ} {G H rows scratch rows′ scratch′ : List ℕ} (m : Made) → Makes p G H n rows scratch m rows′ scratch′ → m .refusal ≢ 0 → (rows′ ≡ rows) × (scratch′ ≡ scratch)
+  pub list-kept : {k : ℕ} {s d d′ : List ℕ} {x : Said} → ListTells s k d x d′ → x .number ≢ 0 → d′ ≡ d
+  pub write-kept : {b : Body} {d d′ : List ℕ} {x : Said} → WriteTells b d x d′ → x .number ≢ 0 → d′ ≡ d
+  pub add-kept : {n : ℕ} {d b d′ : List ℕ} {x : Said} → AddTells d n b x d′ → x .number ≢ 0 → d′ ≡ d
+  -- "all of its answer is fixed by the input"
+  pub refusal-fixed : (p : ℕ) (G H : List ℕ) (m n : ℕ) → Refusal p G H m → Refusal p G H n → m ≡ n
+  pub open-fixed : {p : ℕ} {G H : List ℕ} (o o′ : Opened) → Opens p G H o → Opens p G H o′ → o ≡ o′
+  pub series-fixed : {p n n′ : ℕ} {G H r w r₁ w₁ r₂ w₂ : List ℕ} → series.Answer p G H r w r₁ w₁ n → series.Answer p G H r w r₂ w₂ n′ → (n ≡ n′) × (r₁ ≡ r₂) × (w₁ ≡ w₂)
+  pub order-fixed : {p : ℕ} {G H : List ℕ} (o o′ : Ordered) → Orders p G H o → Orders p G H o′ → o ≡ o′
+  pub step-fixed : {p : ℕ} {G H B : List ℕ} (s s′ : Stepped) → Answers p G H B s → Answers p G H B s′ → s ≡ s′
+  pub walk-fixed : {p n : ℕ} {G H B : List ℕ} (v w : Walked) → Walks p G H n B v → Walks p G H n B w → v ≡ w
+  pub from-order-fixed : {p n : ℕ} {G H : List ℕ} (v w : Told) → FromOrder p G H n v → FromOrder p G H n w → v ≡ w
+  pub unit-fixed : {p n : ℕ} {G H rows scratch r s r′ s′ : List ℕ} (m m′ : Made) → Makes p G H n rows scratch m r s → Makes p G H n rows scratch m′ r′ s′ → (m ≡ m′) × (r ≡ r′) × (s ≡ s′)
+  pub check-book-fixed : {s : List ℕ} {x y : Said} → Tells s x → Tells s y → x ≡ y
+  pub ask-fixed : {s : List ℕ} {i : ℕ} {x y : Said} → AskTells s i x → AskTells s i y → x ≡ y
+  pub part-fixed : {s : List ℕ} {i : ℕ} {r q : List ℕ} → AskedPart s i r → AskedPart s i q → r ≡ q
+  pub attest-fixed : {s : List ℕ} {i : ℕ} {x y : Said} → AttestTells s i x → AttestTells s i y → x ≡ y
+  pub list-fixed : {s d e f : List ℕ} {k : ℕ} {x y : Said} → ListTells s k d x e → ListTells s k d y f → (x ≡ y) × (e ≡ f)
+  pub write-fixed : {b : Body} {d e f : List ℕ} {x y : Said} → WriteTells b d x e → WriteTells b d y f → (x ≡ y) × (e ≡ f)
+  pub add-fixed : {n : ℕ} {d b e f : List ℕ} {x y : Said} → AddTells d n b x e → AddTells d n b y f → (x ≡ y) × (e ≡ f)

@@ -1,0 +1,60 @@
+-- The table holds.
+--   hints         what the tests are helped with: the series of each of the three fields, and the bases passed
+--   table-holds   every line of the table holds: by one computation
+use mathlib.Core.List.{List, [], _∷_}
+use Rattle.fp.proofs.Trial.{primeb}
+use Rattle.reading.specs.Row.{tab, fallAt}
+use Rattle.reading.specs.Sum.{sumTo}
+use Rattle.cubicfield.specs.First.{conv}
+use Rattle.cubicfield.specs.Prefix.{partAt, plusPart, minusPart}
+use Rattle.examples.specs.Lines.{element, AllHold}
+use Rattle.examples.specs.Table.{b₁, b₂, b₃, b₄, e₃, f₃, table}
+use Rattle.examples.specs.Decide.{Hints}
+use Rattle.examples.proofs.Sound.{all-sound}
+
+-- G = t³+4, H = 1
+abbrev h₁ : Hints
+h₁ = record {
+  r = 1 ∷ 0 ∷ 0 ∷ 3 ∷ 0 ∷ 0 ∷ 1 ∷ 0 ∷ 0 ∷ 0 ∷ 0 ∷ 0 ∷ 0 ∷ 0 ∷ 0 ∷ 2 ∷ 0 ∷ 0 ∷ 1 ∷ 0 ∷ 0 ∷ 2 ∷ 0 ∷ 0 ∷ 0 ∷ 0 ∷ [];
+  w = 1 ∷ 0 ∷ 0 ∷ 1 ∷ 0 ∷ 0 ∷ 1 ∷ 0 ∷ 0 ∷ 1 ∷ 0 ∷ 0 ∷ 1 ∷ 0 ∷ 0 ∷ 4 ∷ 0 ∷ 0 ∷ 4 ∷ 0 ∷ 0 ∷ 4 ∷ 0 ∷ 0 ∷ 4 ∷ 0 ∷ [];
+  start = b₁;
+  passed = b₁ ∷ [];
+  E = b₁ .M;
+  F = element (0 ∷ 1 ∷ []) (4 ∷ []) [];
+}
+
+-- G = t, H = t+1
+abbrev h₂ : Hints
+h₂ = record {
+  r = 1 ∷ 4 ∷ 1 ∷ 4 ∷ 1 ∷ 1 ∷ 4 ∷ 1 ∷ 4 ∷ 1 ∷ 0 ∷ 0 ∷ 0 ∷ 0 ∷ 0 ∷ 0 ∷ 0 ∷ 0 ∷ 0 ∷ 0 ∷ 0 ∷ 0 ∷ 0 ∷ 0 ∷ 0 ∷ 3 ∷ [];
+  w = 1 ∷ 2 ∷ 1 ∷ 0 ∷ 0 ∷ 3 ∷ 1 ∷ 3 ∷ 0 ∷ 0 ∷ 3 ∷ 1 ∷ 3 ∷ 0 ∷ 0 ∷ 1 ∷ 2 ∷ 1 ∷ 0 ∷ 0 ∷ 0 ∷ 0 ∷ 0 ∷ 0 ∷ 0 ∷ 1 ∷ [];
+  start = b₂;
+  passed = b₂ ∷ [];
+  E = b₂ .M;
+  F = element (4 ∷ []) (3 ∷ []) (2 ∷ []);
+}
+
+-- G = t³+t, H = 1
+abbrev h₃ : Hints
+h₃ = record {
+  r = 1 ∷ 0 ∷ 2 ∷ 0 ∷ 1 ∷ 0 ∷ 0 ∷ 0 ∷ 0 ∷ 0 ∷ 3 ∷ 0 ∷ 1 ∷ 0 ∷ 3 ∷ 0 ∷ 0 ∷ 0 ∷ 0 ∷ 0 ∷ 3 ∷ 0 ∷ 1 ∷ 0 ∷ 3 ∷ 0 ∷ [];
+  w = 1 ∷ 0 ∷ 4 ∷ 0 ∷ 1 ∷ 0 ∷ 4 ∷ 0 ∷ 1 ∷ 0 ∷ 1 ∷ 0 ∷ 4 ∷ 0 ∷ 1 ∷ 0 ∷ 4 ∷ 0 ∷ 1 ∷ 0 ∷ 0 ∷ 0 ∷ 0 ∷ 0 ∷ 0 ∷ 0 ∷ [];
+  start = b₃;
+  passed = b₃ ∷ b₄ ∷ [];
+  E = e₃;
+  F = f₃;
+}
+
+-- the same field, after the first step
+abbrev once : Hints
+once = record { r = h₃ .r; w = h₃ .w; start = b₃; passed = b₄ ∷ []; E = h₃ .E; F = h₃ .F }
+
+abbrev hints : List Hints
+hints =
+    h₁ ∷ h₁ ∷ h₂ ∷ h₂ ∷ h₂ ∷ h₃ ∷ h₃ ∷ h₃ ∷ h₃ ∷ once ∷ h₃ ∷ h₃ ∷ h₃
+    -- the lines of P11 and P12 need none
+    ∷ h₁ ∷ h₁ ∷ h₁ ∷ h₁ ∷ h₁ ∷ []
+
+pub table-holds : AllHold table
+unfolding primeb tab fallAt sumTo conv partAt plusPart minusPart
+table-holds = all-sound table hints tt

@@ -1,0 +1,112 @@
+-- A line of the table of worked examples: which function, which input, which answer.
+--   Input            p, G and H
+--   element A B C    A + B r + C w
+--   Lists            the lists that a refusal is spoken of: whatever G and H, or an empty G with whatever H
+--   sixRows c E F    E0, E1, E2, F0, F1, F2, each c coefficients with zeros above
+--   Line             a line
+--   Only             one outcome meets a contract, and nothing else does
+--   Holds            what a line says: at that input the contract is met by the line's answer only
+--   AllHold          all of a list of lines hold
+-- A polynomial is a list of coefficients, lowest first. The contracts' definitions are those of crates field, series, bases, stepped, walk,
+-- unit and book; `Rows` and `stored` (crate worked) write a basis and its record of 119 numbers.
+use mathlib.Core.Path.{_≡_}
+use mathlib.Core.List.{List, [], _∷_, _++_}
+use Prim.Native.Nat.{ℕ, _*_, _≤_}
+use lib.ListN.{length, take, replicate}
+use Rattle.cubic.specs.Tri.{Tri}
+use Rattle.ideals.specs.Element.{norm}
+use Rattle.field.specs.Refusal.{Accepted}
+use Rattle.field.specs.Opening.{Opens, nothing}
+use Rattle.record.specs.Record.{setting, polyOf}
+use Rattle.series.specs.Answer as filled
+use Rattle.bases.specs.Answer.{Orders}
+use Rattle.stepped.specs.Answer.{Answers}
+use Rattle.walk.specs.Walk.{most, Walks}
+use Rattle.unit.specs.Unit.{six, Makes}
+use Rattle.unit.specs.declared.Made.{Made}
+use Rattle.book.specs.Answer.{answerSays, Tells}
+use Rattle.book.specs.declared.Answer.{Answer}
+use Rattle.book.specs.declared.Answer.the-variants.{Yes, Refused}
+use Rattle.book.specs.declared.Reason.the-variants.{Mark}
+use Rattle.worked.specs.Rows.{Rows, stored}
+
+pub record Input : Type 0 where
+  pub p : ℕ
+  pub G : List ℕ
+  pub H : List ℕ
+
+abbrev pub element : List ℕ → List ℕ → List ℕ → Tri (List ℕ)
+element A B C = record { a = A; b = B; c = C }
+
+pub data Lists : Type 0 where
+  whatever : Lists
+  empty-G : Lists
+
+abbrev pub wide : ℕ → List ℕ → List ℕ
+wide c l = take c (l ++ replicate c 0)
+
+abbrev pub sixRows : ℕ → Tri (List ℕ) → Tri (List ℕ) → List ℕ
+sixRows c E F = wide c (E .a) ++ (wide c (E .b) ++ (wide c (E .c) ++ (wide c (F .a) ++ (wide c (F .b) ++ wide c (F .c)))))
+
+abbrev pub made : ℕ → ℕ → ℕ → Made
+made n period regulator = record { refusal = n; period = record { 0 = period }; regulator = record { 0 = regulator } }
+
+pub data Line : Type 0 where
+  -- opening p with these lists is refused with this number
+  refuses : (p : ℕ) (lists : Lists) (number : ℕ) → Line
+  -- the first coefficients of r and of w
+  series : (k : Input) (r w : List ℕ) → Line
+  -- the basis of O
+  order : (k : Input) (basis : Rows) → Line
+  -- the step from a basis: the degree of m, and the next basis
+  steps : (k : Input) (from : Rows) (degree : ℕ) (basis : Rows) → Line
+  -- a walk within a budget closes: the steps, the sum of the degrees, the last basis
+  closes : (k : Input) (budget : ℕ) (from : Rows) (steps sum : ℕ) (basis : Rows) → Line
+  -- it does not, and is refused 10: the sum and the basis reached
+  spends : (k : Input) (budget : ℕ) (from : Rows) (sum : ℕ) (basis : Rows) → Line
+  -- the unit in rows of c coefficients: period, regulator, the unit and its inverse
+  unit : (k : Input) (c period regulator : ℕ) (E F : Tri (List ℕ)) → Line
+  -- its norm
+  unit-norm : (k : Input) (c period : ℕ) (N : List ℕ) → Line
+  -- c is too little room: refused 11
+  narrow : (k : Input) (c period : ℕ) → Line
+  -- the empty book of 6 bytes passes; so many bytes are refused 13 for their mark
+  empty-book : Line
+  no-book : (bytes : ℕ) → Line
+
+-- a meets the contract, and nothing else does
+pub record Only {A : Type 0} (Contract : A → Type 0) (a : A) : Type 0 where
+  pub meets : Contract a
+  pub alone : (b : A) → Contract b → b ≡ a
+
+abbrev pub Refuses : ℕ → List ℕ → List ℕ → ℕ → Type 0
+Refuses p G H n = Only (Opens p G H) (record { refusal = n; field = nothing })
+
+-- an outcome of the unit: the answer, and what the two slices hold after it
+abbrev pub Outcome : Type 0
+Outcome = Made × List ℕ × List ℕ
+
+-- what is said of these outcomes, from whatever the slices held and within any budget that suffices for the period
+abbrev pub Units : Input → ℕ → ℕ → (List ℕ → List ℕ → (Outcome → Type 0) → Type 0) → Type 0
+Units k c l Says = (n : ℕ) → l ≤ n → n ≤ most → (rows scratch : List ℕ) → length rows ≡ 6 * c → length scratch ≡ 6 * c
+    → Says rows scratch (λ (o : Outcome). Makes (k .p) (k .G) (k .H) n rows scratch (o .0) (o .1) (o .2))
+
+abbrev pub Holds : Line → Type 0
+Holds (refuses p whatever n) = (G H : List ℕ) → Refuses p G H n
+Holds (refuses p empty-G n) = (H : List ℕ) → Refuses p [] H n
+Holds (series k r w) = (r₀ w₀ : List ℕ) → length r₀ ≡ length r → length w₀ ≡ length r
+    → Only (λ (o : ℕ × List ℕ × List ℕ). filled.Answer (k .p) (k .G) (k .H) r₀ w₀ (o .1) (o .2) (o .0)) (0, r, w)
+Holds (order k b) = Only (Orders (k .p) (k .G) (k .H)) (record { refusal = 0; basis = stored b })
+Holds (steps k from d b) = Only (Answers (k .p) (k .G) (k .H) (stored from)) (record { refusal = 0; degree = d; basis = stored b })
+Holds (closes k n from s d b) = Only (Walks (k .p) (k .G) (k .H) n (stored from)) (record { refusal = 0; steps = s; sum = d; basis = stored b })
+Holds (spends k n from d b) = Only (Walks (k .p) (k .G) (k .H) n (stored from)) (record { refusal = 10; steps = n; sum = d; basis = stored b })
+Holds (unit k c l e E F) = Units k c l (λ rows scratch Contract. Only Contract (made 0 l e, sixRows c E F, replicate (6 * c) 0))
+Holds (unit-norm k c l N) = Units k c l (λ rows scratch Contract. (o : Outcome) → Contract o
+    → (A : Accepted (k .p) (k .G) (k .H)) → norm (setting A) (six A c 0 (o .1)) ≡ polyOf A N)
+Holds (narrow k c l) = Units k c l (λ rows scratch Contract. Only Contract (made 11 0 0, rows, scratch))
+Holds empty-book = Only (λ (a : Answer). Tells (80 ∷ 67 ∷ 70 ∷ 49 ∷ 0 ∷ 0 ∷ []) (answerSays a)) Yes
+Holds (no-book n) = (s : List ℕ) → length s ≡ n → Only (λ (a : Answer). Tells s (answerSays a)) (Refused Mark)
+
+abbrev pub AllHold : List (ℕ × Line) → Type 0
+AllHold [] = Unit {0}
+AllHold ((n, l) ∷ ls) = Holds l × AllHold ls
