@@ -1,10 +1,12 @@
 -- Two outcomes of a function of the C interface that meet its contract are equal: results and lent arrays.
---   order-tells-one, from-order-tells-one
+--   order-tells-one, step-tells-one, walk-tells-one, from-order-tells-one
 --   check-says-one, ask-says-one, list-says-one, write-says-one, add-says-one, attest-says-one
 use mathlib.Core.Path.{_≡_, _∙_, sym, ap, subst}
+use mathlib.Core.Logic.{inl, inr}
 use mathlib.Core.List.{List}
 use Prim.Native.Nat.{ℕ, zero, suc}
 use native.Mathlib.Omega.{arith}
+use native.Mathlib.Decide.{ℕ-discrete}
 use Rattle.book_body.specs.Said.{Said}
 use Rattle.book_body.specs.Body.{Body}
 use Rattle.book_body.proofs.One.{list-one}
@@ -14,9 +16,13 @@ use Rattle.book_add.proofs.One.{add-one}
 use Rattle.book_attest.proofs.One.{attest-one}
 use Rattle.bases.specs.declared.Ordered.{Ordered}
 use Rattle.bases.proofs.Answer.{orders-one}
+use Rattle.stepped.specs.declared.Stepped.{Stepped}
+use Rattle.stepped.proofs.Answers.{answers-one}
+use Rattle.walk.specs.declared.Walked.{Walked}
+use Rattle.walk.proofs.Walk.{walks-one}
 use Rattle.walks.specs.declared.Told.{Told}
 use Rattle.walks.proofs.Order.{from-order-one}
-use Rattle.capi.specs.Told.{Left, OrderTells, FromOrderTells}
+use Rattle.capi.specs.Told.{Left, OrderTells, StepTells, Ends, WalkTells, FromOrderTells}
 use Rattle.capi.specs.Books.{numbers, Place, found, none, CheckSays, AskSays, ListSays, WriteSays, AddSays, AttestSays}
 
 -- ---- what is lent
@@ -29,6 +35,36 @@ order-tells-one {a = a} {n = n} {b′ = b′} t u =
     let e = orders-one (t .o) (u .o) (t .orders) (u .orders) in
     let m = t .number ∙ ap (λ (o : Ordered). o .refusal) e ∙ sym (u .number) in
     (m, left-one n (ap (λ (o : Ordered). o .basis) e) (t .rows) (subst (λ k. Left k a b′ (u .o .basis)) (sym m) (u .rows)))
+
+pub step-tells-one : {p : ℕ} {G H a : List ℕ} {n n′ d d′ : ℕ} {b b′ : List ℕ} → StepTells p G H a n d b → StepTells p G H a n′ d′ b′ → (n ≡ n′) × (d ≡ d′) × (b ≡ b′)
+step-tells-one {a = a} {n = n} {b′ = b′} t u =
+    let e = answers-one (t .s) (u .s) (t .answers) (u .answers) in
+    let m = t .number ∙ ap (λ (s : Stepped). s .refusal) e ∙ sym (u .number) in (
+      m,
+      t .degree-is ∙ ap (λ (s : Stepped). s .degree) e ∙ sym (u .degree-is),
+      left-one n (ap (λ (s : Stepped). s .basis) e) (t .rows) (subst (λ k. Left k a b′ (u .s .basis)) (sym m) (u .rows)),
+    )
+
+ends-one : (n : ℕ) {a b b′ x x′ : List ℕ} → x ≡ x′ → Ends n a b x → Ends n a b′ x′ → b ≡ b′
+ends-one n {b = b} {b′ = b′} f l l′ = at-zero (ℕ-discrete n 0)
+  where
+    at-ten : (n ≡ 0 → ⊥) → Dec (n ≡ 10) → b ≡ b′
+    at-ten z (yes e) = l .stored (inr e) ∙ f ∙ sym (l′ .stored (inr e))
+    at-ten z (no w) = l .kept z w ∙ sym (l′ .kept z w)
+
+    at-zero : Dec (n ≡ 0) → b ≡ b′
+    at-zero (yes e) = l .stored (inl e) ∙ f ∙ sym (l′ .stored (inl e))
+    at-zero (no z) = at-ten z (ℕ-discrete n 10)
+
+pub walk-tells-one : {p k : ℕ} {G H a : List ℕ} {n n′ s s′ d d′ : ℕ} {b b′ : List ℕ} → WalkTells p G H k a n s d b → WalkTells p G H k a n′ s′ d′ b′ → (n ≡ n′) × (s ≡ s′) × (d ≡ d′) × (b ≡ b′)
+walk-tells-one {a = a} {n = n} {b′ = b′} t u =
+    let e = walks-one _ _ _ _ _ (t .o) (u .o) (t .walks) (u .walks) in
+    let m = t .number ∙ ap (λ (o : Walked). o .refusal) e ∙ sym (u .number) in (
+      m,
+      t .steps-is ∙ ap (λ (o : Walked). o .steps) e ∙ sym (u .steps-is),
+      t .sum-is ∙ ap (λ (o : Walked). o .sum) e ∙ sym (u .sum-is),
+      ends-one n (ap (λ (o : Walked). o .basis) e) (t .rows) (subst (λ k. Ends k a b′ (u .o .basis)) (sym m) (u .rows)),
+    )
 
 pub from-order-tells-one : {p : ℕ} {G H : List ℕ} {k n n′ l l′ r r′ : ℕ} → FromOrderTells p G H k n l r → FromOrderTells p G H k n′ l′ r′ → (n ≡ n′) × (l ≡ l′) × (r ≡ r′)
 from-order-tells-one t u =

@@ -10,7 +10,7 @@ ghost use Rattle.book_body.specs.Code.{gotSays};
 ghost use Rattle.book_write.specs.Write.{bodyFrom, wroteSays};
 ghost use Rattle.book_add.specs.Add.{addedSays};
 ghost use Rattle.book_attest.specs.Attest.{attestSays};
-ghost use Rattle.capi.specs.Told.{OrderTells, FromOrderTells};
+ghost use Rattle.capi.specs.Told.{OrderTells, StepTells, WalkTells, FromOrderTells};
 ghost use Rattle.capi.specs.Books.{numbers, CheckSays, AskSays, ListSays, WriteSays, AddSays, AttestSays};
 
 // The number of the first refusal of p, G, H; 0 where the field is accepted.
@@ -39,6 +39,59 @@ pub extern "C" fn zaminuk_order(p: u64, g: &[u64], h: &[u64], rows: &mut [u16; 1
     if n == 0 {
         let b = o.basis;
         *rows = b;
+    }
+    n
+}
+
+// One step, in place: the next record, and the degree of the m divided by, 0 beside a refusal.
+#[no_mangle]
+pub extern "C" fn zaminuk_step(
+    p: u64,
+    g: &[u64],
+    h: &[u64],
+    rows: &mut [u16; 119],
+    degree: &mut u64,
+) -> u32
+    ensures { λ n. ⌜ StepTells p (now (g .entry)) (now (h .entry)) (now (rows .entry)) n (now (degree .exit)) (now (rows .exit)) ⌝ }
+{
+    let from = *rows;
+    let s = stepped::step(p, g, h, from);
+    let n = s.refusal;
+    *degree = s.degree;
+    if n == 0 {
+        let b = s.basis;
+        *rows = b;
+    }
+    n
+}
+
+// A walk of at most `budget` steps, in place: the last record, also where the budget was spent (10); steps and degree sum, 0 beside the
+// other refusals.
+#[no_mangle]
+pub extern "C" fn zaminuk_walk(
+    p: u64,
+    g: &[u64],
+    h: &[u64],
+    budget: u64,
+    rows: &mut [u16; 119],
+    steps: &mut u64,
+    sum: &mut u64,
+) -> u32
+    ensures { λ n. ⌜ WalkTells p (now (g .entry)) (now (h .entry)) budget (now (rows .entry)) n (now (steps .exit)) (now (sum .exit)) (now (rows .exit)) ⌝ }
+{
+    let from = *rows;
+    let o = walks::walk(p, g, h, from, budget);
+    let n = o.refusal;
+    *steps = o.steps;
+    *sum = o.sum;
+    let b = o.basis;
+    if n == 0 {
+        *rows = b;
+        return n;
+    }
+    if n == 10 {
+        *rows = b;
+        return n;
     }
     n
 }
