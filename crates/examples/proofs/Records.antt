@@ -1,10 +1,10 @@
 -- The lines of bases, steps and walks.
---   order-sound, steps-sound, closes-sound, spends-sound
+--   order-sound, steps-sound, closes-sound, spends-sound, period-sound, no-period-sound
 -- Each line's own answer meets the contract; the contract has one answer.
 use mathlib.Core.Path.{_≡_, refl, sym, subst}
 use mathlib.Core.Bool.{true}
 use mathlib.Core.List.{List, [], _∷_}
-use Prim.Native.Nat.{ℕ}
+use Prim.Native.Nat.{ℕ, _+_}
 use lib.Dec.{T, eqb, leb, eqb→eq, leb→le}
 use lib.ListN.{length, getD}
 use Rattle.fp.proofs.Trial.{and-l, and-r}
@@ -14,7 +14,7 @@ use Rattle.ideals.specs.Ideal.{Basis}
 use Rattle.ideals.specs.Next.{Next, Start}
 use Rattle.chain.specs.Chain.{Degree, Chain, Closing, Open}
 use Rattle.record.specs.Record.{setting, basisOf, IsRecord}
-use Rattle.bases.specs.Answer.{Orders}
+use Rattle.bases.specs.Answer.{IsFirst, Orders}
 use Rattle.bases.proofs.Answer.{orders-one}
 use Rattle.stepped.specs.Answer as stepped
 use Rattle.stepped.specs.Answer.{Answers}
@@ -22,6 +22,9 @@ use Rattle.stepped.proofs.Answers.{answers-one}
 use Rattle.walk.specs.Walk as walk
 use Rattle.walk.specs.Walk.{Walks}
 use Rattle.walk.proofs.Walk.{walks-one}
+use Rattle.walks.specs.Order as told
+use Rattle.walks.specs.Order.{FromOrder}
+use Rattle.walks.proofs.Order.{from-order-one}
 use Rattle.reckon.specs.Lists.{alike}
 use Rattle.worked.specs.Rows.{Rows, stored}
 use Rattle.worked.specs.Tests.{every, goes}
@@ -30,8 +33,8 @@ use Rattle.worked.proofs.Fields.{every-at, accepted-of}
 use Rattle.worked.proofs.Bases.{basisL, good-rows}
 use Rattle.worked.proofs.Steps.{next-rows, basis-is, record-of}
 use Rattle.worked.proofs.Chains.{good-at, chain-of, degree-at, open-of, closing-of, start-of}
-use Rattle.examples.specs.Lines.{Input, order, steps, closes, spends, Holds}
-use Rattle.examples.specs.Decide.{Hints, closed, field, isGood, isRecord, orders, goesOn, walked, closing, spending, decide}
+use Rattle.examples.specs.Lines.{Input, order, steps, closes, spends, period, no-period, Holds}
+use Rattle.examples.specs.Decide.{Hints, closed, field, isGood, isRecord, isOne, orders, goesOn, walked, closing, spending, periodic, unperiodic, decide}
 
 module _ (k : Input) (h : Hints) where
   pub field-of : T (field k h) → Accepted (k .p) (k .G) (k .H)
@@ -45,16 +48,19 @@ module _ (k : Input) (h : Hints) where
   basis-of b t A = sym (basis-is A (stored b) b (every-at (isRecord k h b) t 0))
 
   -- ---- the order
+  first-is : (b : Rows) → T (field k h) → T (every (isRecord k h b)) → T (isOne k h (b .U)) → IsFirst (k .p) (k .G) (k .H) (stored b)
+  first-is b f t u = record {
+    is-record = record-is b f t;
+    start = λ A. subst (Start (setting A)) (basis-of b t A) (start-of A (h .r) (h .w) b (every-at (isRecord k h b) t 1) u);
+  }
+
   pub order-sound : (b : Rows) → T (decide (order k b) h) → Holds (order k b)
   order-sound b t =
       let q : (i : ℕ) → T (getD (orders k h b) i true) = every-at (orders k h b) t in
       let m : Orders (k .p) (k .G) (k .H) (record { refusal = 0; basis = stored b }) = record {
         number = accepted-none (k .p) (k .G) (k .H) (field-of (q 0));
         zeros = λ f. absurd (f refl);
-        first = λ e. record {
-          is-record = record-is b (q 0) (q 1);
-          start = λ A. subst (Start (setting A)) (basis-of b (q 1) A) (start-of A (h .r) (h .w) b (every-at (isRecord k h b) (q 1) 1) (q 2));
-        };
+        first = λ e. first-is b (q 0) (q 1) (q 2);
       } in
       record { meets = m; alone = λ o u. orders-one o (record { refusal = 0; basis = stored b }) u m }
 
@@ -149,3 +155,40 @@ module _ (k : Input) (h : Hints) where
         });
       } in
       record { meets = m; alone = λ v u. walks-one (k .p) (k .G) (k .H) n (stored a) v (record { refusal = 10; steps = n; sum = d; basis = stored b }) u m }
+
+  -- ---- the walk from the order
+  pub period-sound : (n l e : ℕ) → T (decide (period k n l e) h) → Holds (period k n l e)
+  period-sound n l e t =
+      let a : Rows = h .start in
+      let b : Rows = at a (h .passed) in
+      let z : (i : ℕ) → T (getD (periodic k h n l e) i true) = every-at (periodic k h n l e) t in
+      let c : (i : ℕ) → T (getD (closing k h n a l (e + e) b) i true) = every-at (closing k h n a l (e + e) b) (z 0) in
+      let w : (i : ℕ) → T (getD (walked k h n a l (e + e) b) i true) = q n a l (e + e) b (c 0) in
+      let m : FromOrder (k .p) (k .G) (k .H) n (record { refusal = 0; period = record { 0 = l }; regulator = record { 0 = e } }) = record {
+        no = 0;
+        first = accepted-none (k .p) (k .G) (k .H) (field-of (w 0));
+        none = λ f. absurd (f refl);
+        goes = λ f. told.closed (leb→le n 1000000 (w 1)) (stored a) (first-is a (w 0) (w 2) (z 1)) (record {
+          last = stored b;
+          number = refl;
+          within = leb→le l n (c 2);
+          closes = record { is-record = last-record n a l (e + e) b (c 0); closing = walk-closing n a l (e + e) b (c 0) (c 1) };
+        });
+      } in
+      record { meets = m; alone = λ v u. from-order-one (k .p) (k .G) (k .H) n v (record { refusal = 0; period = record { 0 = l }; regulator = record { 0 = e } }) u m }
+
+  pub no-period-sound : (n : ℕ) → T (decide (no-period k n) h) → Holds (no-period k n)
+  no-period-sound n t =
+      let a : Rows = h .start in
+      let b : Rows = at a (h .passed) in
+      let d : ℕ = total a (h .passed) in
+      let z : (i : ℕ) → T (getD (unperiodic k h n) i true) = every-at (unperiodic k h n) t in
+      let c : (i : ℕ) → T (getD (spending k h n a d b) i true) = every-at (spending k h n a d b) (z 0) in
+      let w : (i : ℕ) → T (getD (walked k h n a n d b) i true) = q n a n d b (c 0) in
+      let m : FromOrder (k .p) (k .G) (k .H) n (told.refusal 10) = record {
+        no = 0;
+        first = accepted-none (k .p) (k .G) (k .H) (field-of (w 0));
+        none = λ f. absurd (f refl);
+        goes = λ f. told.spent (leb→le n 1000000 (w 1)) (stored a) (first-is a (w 0) (w 2) (z 1)) (walk-open n a n d b (c 0) (c 1)) refl;
+      } in
+      record { meets = m; alone = λ v u. from-order-one (k .p) (k .G) (k .H) n v (told.refusal 10) u m }

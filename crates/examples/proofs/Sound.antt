@@ -5,10 +5,10 @@ use mathlib.Core.List.{List, [], _∷_}
 use Prim.Native.Nat.{ℕ}
 use lib.Dec.{T}
 use Rattle.fp.proofs.Trial.{and-l, and-r}
-use Rattle.examples.specs.Lines.{whatever, empty-G, Line, refuses, series, order, steps, closes, spends, unit, unit-norm, narrow, empty-book, no-book, Holds, AllHold}
+use Rattle.examples.specs.Lines.{whatever, empty-G, Line, refuses, series, order, steps, closes, spends, period, no-period, unit, unit-norm, narrow, empty-book, no-book, Holds, AllHold}
 use Rattle.examples.specs.Decide.{Hints, decide, decideAll}
 use Rattle.examples.proofs.Firsts.{refuses-one, series-sound, empty-book-holds, no-book-sound}
-use Rattle.examples.proofs.Records.{order-sound, steps-sound, closes-sound, spends-sound}
+use Rattle.examples.proofs.Records.{order-sound, steps-sound, closes-sound, spends-sound, period-sound, no-period-sound}
 use Rattle.examples.proofs.Units.{unit-sound, norm-sound, narrow-sound}
 
 pub sound : (l : Line) (h : Hints) → T (decide l h) → Holds l
@@ -19,6 +19,8 @@ sound (order k b) h t = order-sound k h b t
 sound (steps k a d b) h t = steps-sound k h a d b t
 sound (closes k n a s d b) h t = closes-sound k h n a s d b t
 sound (spends k n a d b) h t = spends-sound k h n a d b t
+sound (period k n l e) h t = period-sound k h n l e t
+sound (no-period k n) h t = no-period-sound k h n t
 sound (unit k c l e E F) h t = unit-sound k h c l e E F t
 sound (unit-norm k c l N) h t = norm-sound k h c l N t
 sound (narrow k c l) h t = narrow-sound k h c l t

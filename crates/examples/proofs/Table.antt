@@ -8,7 +8,7 @@ use Rattle.reading.specs.Sum.{sumTo}
 use Rattle.cubicfield.specs.First.{conv}
 use Rattle.cubicfield.specs.Prefix.{partAt, plusPart, minusPart}
 use Rattle.examples.specs.Lines.{element, AllHold}
-use Rattle.examples.specs.Table.{b₁, b₂, b₃, b₄, e₃, f₃, table}
+use Rattle.examples.specs.Table.{num, t, b₁, b₂, b₃, b₄, e₃, f₃, table}
 use Rattle.examples.specs.Decide.{Hints}
 use Rattle.examples.proofs.Sound.{all-sound}
 
@@ -20,7 +20,7 @@ h₁ = record {
   start = b₁;
   passed = b₁ ∷ [];
   E = b₁ .M;
-  F = element (0 ∷ 1 ∷ []) (4 ∷ []) [];
+  F = element t (num 4) [];
 }
 
 -- G = t, H = t+1
@@ -31,7 +31,7 @@ h₂ = record {
   start = b₂;
   passed = b₂ ∷ [];
   E = b₂ .M;
-  F = element (4 ∷ []) (3 ∷ []) (2 ∷ []);
+  F = element (num 4) (num 3) (num 2);
 }
 
 -- G = t³+t, H = 1
@@ -51,7 +51,7 @@ once = record { r = h₃ .r; w = h₃ .w; start = b₃; passed = b₄ ∷ []; E 
 
 abbrev hints : List Hints
 hints =
-    h₁ ∷ h₁ ∷ h₂ ∷ h₂ ∷ h₂ ∷ h₃ ∷ h₃ ∷ h₃ ∷ h₃ ∷ once ∷ h₃ ∷ h₃ ∷ h₃
+    h₁ ∷ h₁ ∷ h₂ ∷ h₂ ∷ h₂ ∷ h₃ ∷ h₃ ∷ h₃ ∷ h₃ ∷ once ∷ h₃ ∷ once ∷ h₃ ∷ h₃ ∷ h₃
     -- the lines of P11 and P12 need none
     ∷ h₁ ∷ h₁ ∷ h₁ ∷ h₁ ∷ h₁ ∷ []
 

@@ -116,12 +116,12 @@ module _ (k : Input) (h : Hints) where
     made-only : Holds (unit k c l e E F)
     made-only n u b rows scratch er es =
         let p : length (h .passed) ≡ l = eqb→eq (length (h .passed)) l (q c l (s 0) 6) in
-        let m : Makes (k .p) (k .G) (k .H) n rows scratch (made 0 l e) (sixRows c E F) (replicate (6 * c) 0) =
-        answer-of c l (s 0) n rows scratch (made 0 l e) (sixRows c E F) (replicate (6 * c) 0)
+        let m : Makes (k .p) (k .G) (k .H) n rows scratch (made l e) (sixRows c E F) (replicate (6 * c) 0) =
+        answer-of c l (s 0) n rows scratch (made l e) (sixRows c E F) (replicate (6 * c) 0)
         (unitAnswer.made c (length (h .passed)) (total (h .start) (h .passed)) (lent-of c l (s 0) n b rows scratch er es) (omega arith) (finds-of c l (s 0))
         (ltb→lt (total (h .start) (h .passed)) c (s 2))
         (record { number = refl; period = sym p; regulator = eqb→eq (e + e) (total (h .start) (h .passed)) (s 1); rows-hold = rows-hold; scratch-blank = ap (λ i. replicate i 0) (sym es) })) in
-        only k n rows scratch (made 0 l e) (sixRows c E F) (replicate (6 * c) 0) m
+        only k n rows scratch (made l e) (sixRows c E F) (replicate (6 * c) 0) m
 
     norm-is : (A : Accepted (k .p) (k .G) (k .H)) → norm (setting A) (six A c 0 (sixRows c E F)) ≡ polyOf A (normT (lists (k .p)) (k .G) (k .H) E)
     norm-is A = ap (norm (setting A)) (six-E A) ∙ sym (hom-eval (polyOf A) (poly-hom (k .p) (A .prime)) (Nm X) (k .G ∷ k .H ∷ E .a ∷ E .b ∷ E .c ∷ []))
@@ -144,7 +144,7 @@ module _ (k : Input) (h : Hints) where
       let a : T (every (fromOrder k h c l)) = and-l (every (fromOrder k h c l)) _ t in
       let z : T (leb c (total (h .start) (h .passed))) = and-l (leb c (total (h .start) (h .passed))) _ (and-r (every (fromOrder k h c l)) _ t) in
       let p : length (h .passed) ≡ l = eqb→eq (length (h .passed)) l (q c l a 6) in
-      only k n rows scratch (made 11 0 0) rows scratch
-      (answer-of c l a n rows scratch (made 11 0 0) rows scratch
+      only k n rows scratch (unitAnswer.refusal 11) rows scratch
+      (answer-of c l a n rows scratch (unitAnswer.refusal 11) rows scratch
       (unitAnswer.narrow c (length (h .passed)) (total (h .start) (h .passed)) (lent-of c l a n b rows scratch er es) (omega arith) (finds-of c l a) (leb→le c (total (h .start) (h .passed)) z)
       (record { number = refl; period = refl; regulator = refl; rows-same = refl; scratch-same = refl })))

@@ -18,7 +18,7 @@ use Rattle.reckon.specs.Lists.{lists, alike, alikeT}
 use Rattle.worked.specs.Rows.{Rows, stored}
 use Rattle.worked.specs.Tests.{every, below, accepts, begins, good, kept}
 use Rattle.worked.specs.Walks.{at, degreeL, total, unclosed, step, walks, isUnit}
-use Rattle.examples.specs.Lines.{Input, Line, refuses, series, order, steps, closes, spends, unit, unit-norm, narrow, empty-book, no-book, sixRows}
+use Rattle.examples.specs.Lines.{Input, Line, refuses, series, order, steps, closes, spends, period, no-period, unit, unit-norm, narrow, empty-book, no-book, sixRows}
 
 pub record Hints : Type 0 where
   pub r : List ℕ
@@ -74,6 +74,13 @@ module _ (k : Input) (h : Hints) where
   abbrev pub spending : ℕ → Rows → ℕ → Rows → List Bool
   spending n a d b = every (walked n a n d b) ∷ unclosed (k .p) (h .passed) ∷ []
 
+  -- the same from the order, to wherever the bases passed end
+  abbrev pub periodic : ℕ → ℕ → ℕ → List Bool
+  periodic n l e = every (closing n (h .start) l (e + e) (at (h .start) (h .passed))) ∷ isOne (h .start .U) ∷ []
+
+  abbrev pub unperiodic : ℕ → List Bool
+  unperiodic n = every (spending n (h .start) (total (h .start) (h .passed)) (at (h .start) (h .passed))) ∷ isOne (h .start .U) ∷ []
+
   -- the walk from the order, which closes after l steps; c is within its rule
   abbrev pub fromOrder : ℕ → ℕ → List Bool
   fromOrder c l = field ∷ leb c longest ∷ isGood (h .start) ∷ isOne (h .start .U) ∷ isWalk (h .start) ∷ closed (k .p) (h .passed) ∷ eqb (length (h .passed)) l ∷ []
@@ -96,6 +103,8 @@ decide (order k b) h = every (orders k h b)
 decide (steps k a d b) h = every (goesOn k h a d b)
 decide (closes k n a s d b) h = every (closing k h n a s d b)
 decide (spends k n a d b) h = every (spending k h n a d b)
+decide (period k n l e) h = every (periodic k h n l e)
+decide (no-period k n) h = every (unperiodic k h n)
 decide (unit k c l e E F) h = every (makes k h c l e E F)
 decide (unit-norm k c l N) h =
     every (every (makes k h c l (total (h .start) (h .passed) / 2) (h .E) (h .F)) ∷ alike (k .p) (normT (lists (k .p)) (k .G) (k .H) (h .E)) N ∷ [])

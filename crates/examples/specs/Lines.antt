@@ -8,7 +8,7 @@
 --   Holds            what a line says: at that input the contract is met by the line's answer only
 --   AllHold          all of a list of lines hold
 -- A polynomial is a list of coefficients, lowest first. The contracts' definitions are those of crates field, series, bases, stepped, walk,
--- unit and book; `Rows` and `stored` (crate worked) write a basis and its record of 119 numbers.
+-- walks, unit and book; `Rows` and `stored` (crate worked) write a basis and its record of 119 numbers.
 use mathlib.Core.Path.{_≡_}
 use mathlib.Core.List.{List, [], _∷_, _++_}
 use Prim.Native.Nat.{ℕ, _*_, _≤_}
@@ -22,7 +22,9 @@ use Rattle.series.specs.Answer as filled
 use Rattle.bases.specs.Answer.{Orders}
 use Rattle.stepped.specs.Answer.{Answers}
 use Rattle.walk.specs.Walk.{most, Walks}
-use Rattle.unit.specs.Unit.{six, Makes}
+use Rattle.walks.specs.Order as told
+use Rattle.walks.specs.Order.{FromOrder}
+use Rattle.unit.specs.Unit.{refusal, six, Makes}
 use Rattle.unit.specs.declared.Made.{Made}
 use Rattle.book.specs.Answer.{answerSays, Tells}
 use Rattle.book.specs.declared.Answer.{Answer}
@@ -48,8 +50,8 @@ wide c l = take c (l ++ replicate c 0)
 abbrev pub sixRows : ℕ → Tri (List ℕ) → Tri (List ℕ) → List ℕ
 sixRows c E F = wide c (E .a) ++ (wide c (E .b) ++ (wide c (E .c) ++ (wide c (F .a) ++ (wide c (F .b) ++ wide c (F .c)))))
 
-abbrev pub made : ℕ → ℕ → ℕ → Made
-made n period regulator = record { refusal = n; period = record { 0 = period }; regulator = record { 0 = regulator } }
+abbrev pub made : ℕ → ℕ → Made
+made period regulator = record { refusal = 0; period = record { 0 = period }; regulator = record { 0 = regulator } }
 
 pub data Line : Type 0 where
   -- opening p with these lists is refused with this number
@@ -64,6 +66,10 @@ pub data Line : Type 0 where
   closes : (k : Input) (budget : ℕ) (from : Rows) (steps sum : ℕ) (basis : Rows) → Line
   -- it does not, and is refused 10: the sum and the basis reached
   spends : (k : Input) (budget : ℕ) (from : Rows) (sum : ℕ) (basis : Rows) → Line
+  -- the walk from O within a budget: period and regulator
+  period : (k : Input) (budget period regulator : ℕ) → Line
+  -- it does not close: refused 10
+  no-period : (k : Input) (budget : ℕ) → Line
   -- the unit in rows of c coefficients: period, regulator, the unit and its inverse
   unit : (k : Input) (c period regulator : ℕ) (E F : Tri (List ℕ)) → Line
   -- its norm
@@ -100,10 +106,12 @@ Holds (order k b) = Only (Orders (k .p) (k .G) (k .H)) (record { refusal = 0; ba
 Holds (steps k from d b) = Only (Answers (k .p) (k .G) (k .H) (stored from)) (record { refusal = 0; degree = d; basis = stored b })
 Holds (closes k n from s d b) = Only (Walks (k .p) (k .G) (k .H) n (stored from)) (record { refusal = 0; steps = s; sum = d; basis = stored b })
 Holds (spends k n from d b) = Only (Walks (k .p) (k .G) (k .H) n (stored from)) (record { refusal = 10; steps = n; sum = d; basis = stored b })
-Holds (unit k c l e E F) = Units k c l (λ rows scratch Contract. Only Contract (made 0 l e, sixRows c E F, replicate (6 * c) 0))
+Holds (period k n l e) = Only (FromOrder (k .p) (k .G) (k .H) n) (record { refusal = 0; period = record { 0 = l }; regulator = record { 0 = e } })
+Holds (no-period k n) = Only (FromOrder (k .p) (k .G) (k .H) n) (told.refusal 10)
+Holds (unit k c l e E F) = Units k c l (λ rows scratch Contract. Only Contract (made l e, sixRows c E F, replicate (6 * c) 0))
 Holds (unit-norm k c l N) = Units k c l (λ rows scratch Contract. (o : Outcome) → Contract o
     → (A : Accepted (k .p) (k .G) (k .H)) → norm (setting A) (six A c 0 (o .1)) ≡ polyOf A N)
-Holds (narrow k c l) = Units k c l (λ rows scratch Contract. Only Contract (made 11 0 0, rows, scratch))
+Holds (narrow k c l) = Units k c l (λ rows scratch Contract. Only Contract (refusal 11, rows, scratch))
 Holds empty-book = Only (λ (a : Answer). Tells (80 ∷ 67 ∷ 70 ∷ 49 ∷ 0 ∷ 0 ∷ []) (answerSays a)) Yes
 Holds (no-book n) = (s : List ℕ) → length s ≡ n → Only (λ (a : Answer). Tells s (answerSays a)) (Refused Mark)
 

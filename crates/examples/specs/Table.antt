@@ -1,79 +1,92 @@
 -- P1 to P12 of document 01 ("Worked by hand, p = 5"), each line with its number. `table-holds` in proofs/Table.antt: every line holds.
+-- A polynomial is written by t, its powers, sums and multiples, mod 5.
 use mathlib.Core.List.{List, [], _∷_}
 use Prim.Native.Nat.{ℕ}
 use Rattle.cubic.specs.Tri.{Tri}
+use Rattle.reckon.specs.Lists.{plus, scale}
 use Rattle.worked.specs.Rows.{Rows}
-use Rattle.examples.specs.Lines.{Input, element, whatever, empty-G, Line, refuses, series, order, steps, closes, spends, unit, unit-norm, narrow, empty-book, no-book}
+use Rattle.examples.specs.Lines.{Input, element, whatever, empty-G, Line, refuses, series, order, steps, closes, spends, period, no-period, unit, unit-norm, narrow, empty-book, no-book}
+
+abbrev pub num : ℕ → List ℕ
+num a = a ∷ []
+
+abbrev pub t : List ℕ
+t = 0 ∷ 1 ∷ []
+
+abbrev pub t² : List ℕ
+t² = 0 ∷ 0 ∷ 1 ∷ []
+
+abbrev pub t³ : List ℕ
+t³ = 0 ∷ 0 ∷ 0 ∷ 1 ∷ []
+
+abbrev pub t⁴ : List ℕ
+t⁴ = 0 ∷ 0 ∷ 0 ∷ 0 ∷ 1 ∷ []
+
+infixl 60 _+_
+infixl 70 _·_
+abbrev pub _+_ : List ℕ → List ℕ → List ℕ
+x + y = plus 5 x y
+
+abbrev pub _·_ : ℕ → List ℕ → List ℕ
+a · x = scale 5 a x
 
 -- "G = t³+4, H = 1"
 abbrev pub k₁ : Input
-k₁ = record { p = 5; G = 4 ∷ 0 ∷ 0 ∷ 1 ∷ []; H = 1 ∷ [] }
+k₁ = record { p = 5; G = t³ + num 4; H = num 1 }
 
 -- "m = t²+tr+w, n = 3t+r"
 abbrev pub b₁ : Rows
-b₁ = record {
-  M = element (0 ∷ 0 ∷ 1 ∷ []) (0 ∷ 1 ∷ []) (1 ∷ []);
-  N = element (0 ∷ 3 ∷ []) (1 ∷ []) [];
-  U = 1 ∷ [];
-}
+b₁ = record { M = element t² t (num 1); N = element (3 · t) (num 1) []; U = num 1 }
 
 -- "G = t, H = t+1"
 abbrev pub k₂ : Input
-k₂ = record { p = 5; G = 0 ∷ 1 ∷ []; H = 1 ∷ 1 ∷ [] }
+k₂ = record { p = 5; G = t; H = t + num 1 }
 
 -- "m = (t²+t+4)+(t+2)r+(t+4)w, n = (3t+4)+3r+3w"
 abbrev pub b₂ : Rows
-b₂ = record {
-  M = element (4 ∷ 1 ∷ 1 ∷ []) (2 ∷ 1 ∷ []) (4 ∷ 1 ∷ []);
-  N = element (4 ∷ 3 ∷ []) (3 ∷ []) (3 ∷ []);
-  U = 1 ∷ [];
-}
+b₂ = record { M = element (t² + t + num 4) (t + num 2) (t + num 4); N = element (3 · t + num 4) (num 3) (num 3); U = num 1 }
 
 -- "G = t³+t, H = 1"
 abbrev pub k₃ : Input
-k₃ = record { p = 5; G = 0 ∷ 1 ∷ 0 ∷ 1 ∷ []; H = 1 ∷ [] }
+k₃ = record { p = 5; G = t³ + t; H = num 1 }
 
 -- "m = (t³+4t)+(t²+2)r+tw, n = (2t²+1)+2tr+2w"
 abbrev pub b₃ : Rows
-b₃ = record {
-  M = element (0 ∷ 4 ∷ 0 ∷ 1 ∷ []) (2 ∷ 0 ∷ 1 ∷ []) (0 ∷ 1 ∷ []);
-  N = element (1 ∷ 0 ∷ 2 ∷ []) (0 ∷ 2 ∷ []) (2 ∷ []);
-  U = 1 ∷ [];
-}
+b₃ = record { M = element (t³ + 4 · t) (t² + num 2) t; N = element (2 · t² + num 1) (2 · t) (num 2); U = num 1 }
 
 -- "U = t, m = (t²+tr+w)/t, n = (3tr+2w)/t"
 abbrev pub b₄ : Rows
-b₄ = record {
-  M = element (0 ∷ 0 ∷ 1 ∷ []) (0 ∷ 1 ∷ []) (1 ∷ []);
-  N = element [] (0 ∷ 3 ∷ []) (2 ∷ []);
-  U = 0 ∷ 1 ∷ [];
-}
+b₄ = record { M = element t² t (num 1); N = element [] (3 · t) (num 2); U = t }
 
--- the unit of k₃ and its inverse
+-- the unit of k₃ (in the lister's example 4,0,1,0,1;0,4,0,1;2,0,1) and "inverse 4+2tr+3w"
 abbrev pub e₃ : Tri (List ℕ)
-e₃ = element (4 ∷ 0 ∷ 1 ∷ 0 ∷ 1 ∷ []) (0 ∷ 4 ∷ 0 ∷ 1 ∷ []) (2 ∷ 0 ∷ 1 ∷ [])
+e₃ = element (t⁴ + t² + num 4) (t³ + 4 · t) (t² + num 2)
 
 abbrev pub f₃ : Tri (List ℕ)
-f₃ = element (4 ∷ []) (0 ∷ 2 ∷ []) (3 ∷ [])
+f₃ = element (num 4) (2 · t) (num 3)
 
 abbrev pub table : List (ℕ × Line)
 table =
+    -- "basis of O is m = t²+tr+w, n = 3t+r"
     (1, order k₁ b₁)
     -- "inverse of the unit t+4r"; the unit is m
-    ∷ (2, unit k₁ 3 1 1 (b₁ .M) (element (0 ∷ 1 ∷ []) (4 ∷ []) []))
+    ∷ (2, unit k₁ 3 1 1 (b₁ .M) (element t (num 4) []))
     ∷ (3, order k₂ b₂)
     -- "norm 4, inverse 4+3r+2w"
-    ∷ (4, unit-norm k₂ 3 1 (4 ∷ []))
-    ∷ (4, unit k₂ 3 1 1 (b₂ .M) (element (4 ∷ []) (3 ∷ []) (2 ∷ [])))
+    ∷ (4, unit-norm k₂ 3 1 (num 4))
+    ∷ (4, unit k₂ 3 1 1 (b₂ .M) (element (num 4) (num 3) (num 2)))
     -- "r begins 1,0,2,0,1 and w 1,0,4,0,1"
     ∷ (5, series k₃ (1 ∷ 0 ∷ 2 ∷ 0 ∷ 1 ∷ []) (1 ∷ 0 ∷ 4 ∷ 0 ∷ 1 ∷ []))
     ∷ (6, order k₃ b₃)
+    -- "after one step U = t, m = (t²+tr+w)/t, n = (3tr+2w)/t"
     ∷ (7, steps k₃ b₃ 3 b₄)
     -- "unit inverse 4+2tr+3w"
     ∷ (8, unit k₃ 5 2 2 e₃ f₃)
     -- "B = 1 refused 10 with sum 3; B = 2 closes, sum 4"
     ∷ (9, spends k₃ 1 b₃ 3 b₄)
     ∷ (9, closes k₃ 2 b₃ 2 4 b₃)
+    ∷ (9, no-period k₃ 1)
+    ∷ (9, period k₃ 2 2 2)
     -- "c = 4 refused 11, c = 5 does"
     ∷ (10, narrow k₃ 4 2)
     ∷ (10, unit k₃ 5 2 2 e₃ f₃)

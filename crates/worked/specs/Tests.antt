@@ -1,12 +1,14 @@
 -- The tests. Each computes on written lists; what a passed test proves is in proofs/.
---   every, upTo            all of a list of tests; a test at all numbers below n
---   below                  numbers below p
---   listed, oneBy, accepts   a list of coefficients; u a + v b = 1; an accepted field (Fields: `accepted-of`)
---   begins                 first coefficients of the two series (Fields: `series-of`)
---   lies                   an element lies in the lattice of a basis (Bases: `lies-in`)
---   shaped, good           sizes; the scaled reduced basis of a reduced ideal (Bases: `good-rows`)
---   divides, goes          an exact quotient; one basis is the next of another (Steps: `next-rows`)
---   kept                   a record holds these rows (Steps: `record-of`)
+--   every, upTo              all of a list of tests; a test at all numbers below n
+--   last, below, some        the place of a list's last number that is not 0; numbers below p; a number that p does not divide
+--   listed, apart, accepts   a list of coefficients; u a + v b = 1; an accepted field (proofs/Fields: `accepted-of`)
+--   begins                   first coefficients of the two series (Fields: `series-of`)
+--   detL, linL, lies         e, α U + β M + γ N, and whether an element lies in the lattice (proofs/Bases: `lies-in`)
+--   pure, rootR, rootW, by   a polynomial as an element, r, w, and products of elements
+--   xPart, yPart, shaped     the polynomial parts of X and Y, and the sizes of a scaled reduced basis
+--   good                     the scaled reduced basis of a reduced ideal (Bases: `good-rows`)
+--   over, backBy, goes       quotients, and whether one basis is the next of another (proofs/Steps: `next-rows`)
+--   kept                     a record holds these rows (Steps: `record-of`)
 -- β, γ and α are found by long division (crate reckon) and then tested.
 use mathlib.Core.Bool.{Bool, true, _&&_, _||_, not}
 use mathlib.Core.List.{List, [], _∷_}

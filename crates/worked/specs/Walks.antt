@@ -2,9 +2,9 @@
 --   at b cs           where the walk stands
 --   degreeL, total    deg m; the sum of the degrees of the m passed
 --   walks             every step is one, to a good basis (proofs/Chains: `chain-of`)
---   unclosed, closes  no U so far is 1; and then it is (`open-of`, `closing-of`)
+--   unclosed          no U so far is 1 (`open-of`, `closing-of`)
 --   topsL, bottomsL   the products of the M and of the U passed
---   isUnit            E is the product of the m passed with E0 monic, and F its inverse (proofs/Units: `unit-of`)
+--   isUnit            E is the product of the m passed with E0 monic, and F its inverse (`unit-of`)
 use mathlib.Core.Bool.{Bool, true, _&&_}
 use mathlib.Core.List.{List, [], _∷_}
 use Prim.Native.Nat.{ℕ, suc, _+_, _-_}
