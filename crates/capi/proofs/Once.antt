@@ -1,5 +1,5 @@
 -- Two outcomes of a function of the C interface that meet its contract are equal: results and lent arrays.
---   order-tells-one, step-tells-one, walk-tells-one, from-order-tells-one
+--   order-tells-one, step-tells-one, walk-tells-one, from-order-tells-one, unit-tells-one
 --   check-says-one, ask-says-one, list-says-one, write-says-one, add-says-one, attest-says-one
 use mathlib.Core.Path.{_≡_, _∙_, sym, ap, subst}
 use mathlib.Core.Logic.{inl, inr}
@@ -22,7 +22,8 @@ use Rattle.walk.specs.declared.Walked.{Walked}
 use Rattle.walk.proofs.Walk.{walks-one}
 use Rattle.walks.specs.declared.Told.{Told}
 use Rattle.walks.proofs.Order.{from-order-one}
-use Rattle.capi.specs.Told.{Left, OrderTells, StepTells, Ends, WalkTells, FromOrderTells}
+use Rattle.unit.proofs.Once.{makes-one}
+use Rattle.capi.specs.Told.{Left, OrderTells, StepTells, Ends, WalkTells, FromOrderTells, UnitTells}
 use Rattle.capi.specs.Books.{numbers, Place, found, none, CheckSays, AskSays, ListSays, WriteSays, AddSays, AttestSays}
 
 -- ---- what is lent
@@ -72,6 +73,16 @@ from-order-tells-one t u =
       t .number ∙ ap (λ (o : Told). o .refusal) e ∙ sym (u .number),
       t .period-is ∙ ap (λ (o : Told). o .period .0) e ∙ sym (u .period-is),
       t .regulator-is ∙ ap (λ (o : Told). o .regulator .0) e ∙ sym (u .regulator-is),
+    )
+
+pub unit-tells-one : {p k : ℕ} {G H a b : List ℕ} {n n′ l l′ r r′ : ℕ} {c c′ d d′ : List ℕ} → UnitTells p G H k a b n l r c d → UnitTells p G H k a b n′ l′ r′ c′ d′ → (n ≡ n′) × (l ≡ l′) × (r ≡ r′) × (c ≡ c′) × (d ≡ d′)
+unit-tells-one t u =
+    let e = makes-one _ _ _ _ _ _ (t .m) (u .m) _ _ _ _ (t .makes) (u .makes) in (
+      t .number ∙ e .number ∙ sym (u .number),
+      t .period-is ∙ e .period ∙ sym (u .period-is),
+      t .regulator-is ∙ e .regulator ∙ sym (u .regulator-is),
+      e .rows-same,
+      e .scratch-same,
     )
 
 -- ---- books

@@ -5,6 +5,7 @@
 --   Ends n a b x         of a walk, what is lent: it holds x afterwards where the walk closed or its budget was spent, else it is as it was
 --   WalkTells            the last record in place of the first one, steps and degree sum
 --   FromOrderTells       period and regulator of the walk from the order
+--   UnitTells            the unit and its inverse in the lent slices, period and regulator
 -- In proofs/Once.antt: two outcomes that meet one of them are equal.
 use mathlib.Core.Path.{_≡_}
 use mathlib.Core.Logic.{_≢_, _⊎_}
@@ -18,6 +19,8 @@ use Rattle.walk.specs.declared.Walked.{Walked}
 use Rattle.walk.specs.Walk.{Walks}
 use Rattle.walks.specs.declared.Told.{Told}
 use Rattle.walks.specs.Order.{FromOrder}
+use Rattle.unit.specs.declared.Made.{Made}
+use Rattle.unit.specs.Unit.{Makes}
 
 pub record Left (n : ℕ) (before after x : List ℕ) : Type 0 where
   pub stored : n ≡ 0 → after ≡ x
@@ -54,3 +57,10 @@ pub record FromOrderTells (p : ℕ) (G H : List ℕ) (budget n period regulator 
   pub number : n ≡ o .refusal
   pub period-is : period ≡ o .period .0
   pub regulator-is : regulator ≡ o .regulator .0
+
+pub record UnitTells (p : ℕ) (G H : List ℕ) (budget : ℕ) (rows scratch : List ℕ) (n period regulator : ℕ) (rows′ scratch′ : List ℕ) : Type 0 where
+  pub m : Made
+  pub makes : Makes p G H budget rows scratch m rows′ scratch′
+  pub number : n ≡ m .refusal
+  pub period-is : period ≡ m .period .0
+  pub regulator-is : regulator ≡ m .regulator .0

@@ -10,7 +10,7 @@ ghost use Rattle.book_body.specs.Code.{gotSays};
 ghost use Rattle.book_write.specs.Write.{bodyFrom, wroteSays};
 ghost use Rattle.book_add.specs.Add.{addedSays};
 ghost use Rattle.book_attest.specs.Attest.{attestSays};
-ghost use Rattle.capi.specs.Told.{OrderTells, StepTells, WalkTells, FromOrderTells};
+ghost use Rattle.capi.specs.Told.{OrderTells, StepTells, WalkTells, FromOrderTells, UnitTells};
 ghost use Rattle.capi.specs.Books.{numbers, CheckSays, AskSays, ListSays, WriteSays, AddSays, AttestSays};
 
 // The number of the first refusal of p, G, H; 0 where the field is accepted.
@@ -109,6 +109,28 @@ pub extern "C" fn zaminuk_from_order(
     ensures { λ n. ⌜ FromOrderTells p (now (g .entry)) (now (h .entry)) budget n (now (period .exit)) (now (regulator .exit)) ⌝ }
 {
     let o = walks::from_order(p, g, h, budget);
+    let t = o.period;
+    let r = o.regulator;
+    *period = t.0;
+    *regulator = r.0;
+    o.refusal
+}
+
+// The unit and its inverse into the first of two lent slices of one length; period and regulator, 0 beside a refusal.
+#[no_mangle]
+pub extern "C" fn zaminuk_unit(
+    p: u64,
+    g: &[u64],
+    h: &[u64],
+    budget: u64,
+    rows: &mut [u16],
+    scratch: &mut [u16],
+    period: &mut u64,
+    regulator: &mut u64,
+) -> u32
+    ensures { λ n. ⌜ UnitTells p (now (g .entry)) (now (h .entry)) budget (now (rows .entry)) (now (scratch .entry)) n (now (period .exit)) (now (regulator .exit)) (now (rows .exit)) (now (scratch .exit)) ⌝ }
+{
+    let o = unit::unit(p, g, h, budget, rows, scratch);
     let t = o.period;
     let r = o.regulator;
     *period = t.0;
