@@ -1,7 +1,7 @@
 -- The products r v and w v on rows, and what their membership says.
---   coords-of-rows rows-of-coords   exact quotients on rows are exact quotients in the lattice
---   r-in w-in                       what `member` asks of r v and w v: every product fits
---   kept kept-not-r kept-not-w      the two answers together
+--   r-in w-in              what `member` asks of r v and w v: every product fits
+--   decides-r decides-w    what its answer says of the lattice
+--   keeps-no keeps-yes     the two answers together
 use mathlib.Core.Path.{_≡_, refl, sym, ap, ap₂, _∙_}
 use mathlib.Core.Bool.{Bool, true, false}
 use mathlib.Core.List.{List}
@@ -31,6 +31,7 @@ use Rattle.book_bytes.specs.Decides.{Decides}
 use Rattle.book_bytes.proofs.Tests.{answer-no}
 use Rattle.generators.specs.Rows.{Seven, AreRows, rowsOf, Holds}
 use Rattle.generators.specs.Quotients.{Fits, Det, Quotients}
+use Rattle.generators.proofs.Products.{quot-of, coords-from, times-g-is, times-h-is, times-gh-is}
 use Rattle.closure.specs.Lattice.{MemberIn, MemberAt, Member}
 use Rattle.closure.specs.Closed.{Room, Given, KeepsIn, Kept, Keeps, element}
 use Rattle.closure.proofs.Members.{carried}
@@ -84,50 +85,18 @@ module _ {p : ℕ} {g h gh va vb vc : List ℕ} {b : Seven} {e : List ℕ} {ie :
 
 -- ---- rows and elements
 module _ {p : ℕ} {G H : List ℕ} (σ : Accepted p G H) (b : Seven) {e : List ℕ} (he : Det p (b .m1) (b .n2) (b .m2) (b .n1) e) where
-  abbrev ρ : Reading p
-  ρ = reading p (σ .prime)
-
-  open Ops (reading p (σ .prime) .𝓥 .L .ops) using (add as _⊕_, mul as _⊗_, neg as ⊖_)
-
-  infixl 60 _⊕_
-  infixl 70 _⊗_
-  infix 80 ⊖_
-  module _ {xa xb xc : List ℕ} (v : O (setting σ) .El) (ea : row ρ xa ≡ v .a .0) (eb : row ρ xb ≡ v .b .0) (ec : row ρ xc ≡ v .c .0) where
-    pub rows-of-coords : Coords (setting σ) (rowsOf σ b) v → MemberAt (σ .prime) xa xb xc b e
-    rows-of-coords q = record {
-      α = q .α .0;
-      β = q .β .0;
-      γ = q .γ .0;
-      quotients = record {
-        α-poly = q .α .1;
-        β-poly = q .β .1;
-        γ-poly = q .γ .1;
-        e-β = ap₂ (λ s t. s ⊗ row ρ (b .n2) ⊕ ⊖ (t ⊗ row ρ (b .n1))) eb ec ∙ ap (λ t. t .0) (q .e-β) ∙ ap (λ t. t ⊗ q .β .0) (sym (he .law (σ .prime)));
-        e-γ = ap₂ (λ s t. t ⊗ row ρ (b .m1) ⊕ ⊖ (s ⊗ row ρ (b .m2))) eb ec ∙ ap (λ t. t .0) (q .e-γ) ∙ ap (λ t. t ⊗ q .γ .0) (sym (he .law (σ .prime)));
-        U-α = ap (λ t. t ⊕ ⊖ (q .β .0 ⊗ row ρ (b .m0) ⊕ q .γ .0 ⊗ row ρ (b .n0))) ea ∙ ap (λ t. t .0) (q .U-α);
-      };
-    }
-
-    pub coords-of-rows : MemberAt (σ .prime) xa xb xc b e → Coords (setting σ) (rowsOf σ b) v
-    coords-of-rows m = record {
-      α = (m .α, m .quotients .α-poly);
-      β = (m .β, m .quotients .β-poly);
-      γ = (m .γ, m .quotients .γ-poly);
-      e-β = P-path (ρ .𝓥) (sym (ap₂ (λ s t. s ⊗ row ρ (b .n2) ⊕ ⊖ (t ⊗ row ρ (b .n1))) eb ec) ∙ m .quotients .e-β ∙ ap (λ t. t ⊗ m .β) (he .law (σ .prime)));
-      e-γ = P-path (ρ .𝓥) (sym (ap₂ (λ s t. t ⊗ row ρ (b .m1) ⊕ ⊖ (s ⊗ row ρ (b .m2))) eb ec) ∙ m .quotients .e-γ ∙ ap (λ t. t ⊗ m .γ) (he .law (σ .prime)));
-      U-α = P-path (ρ .𝓥) (sym (ap (λ t. t ⊕ ⊖ (m .β ⊗ row ρ (b .m0) ⊕ m .γ ⊗ row ρ (b .n0))) ea) ∙ m .quotients .U-α);
-    }
-
-    pub decides-coords : {o : Bool} → Member p xa xb xc b e o → Decides o (Coords (setting σ) (rowsOf σ b) v)
-    decides-coords m = carried coords-of-rows rows-of-coords (m (σ .prime))
+  -- exact quotients on rows are exact quotients in the lattice
+  decides-coords : {xa xb xc : List ℕ} (v : O (setting σ) .El) → row (reading p (σ .prime)) xa ≡ v .a .0 → row (reading p (σ .prime)) xb ≡ v .b .0 → row (reading p (σ .prime)) xc ≡ v .c .0
+      → {o : Bool} → Member p xa xb xc b e o → Decides o (Coords (setting σ) (rowsOf σ b) v)
+  decides-coords v ea eb ec m = carried (λ z. coords-from σ b he v ea eb ec (z .quotients)) (λ q. record { α = q .α .0; β = q .β .0; γ = q .γ .0; quotients = quot-of σ b he v ea eb ec q }) (m (σ .prime))
 
   -- the two products, at the rows that hold the field
   module _ {g h gh : List ℕ} (k : Holds σ g h gh) {va vb vc : List ℕ} where
     pub decides-r : {xa xc : List ℕ} {o : Bool} → Product p vc gh xa → Product p vb h xc → Member p xa va xc b e o → Decides o (Coords (setting σ) (rowsOf σ b) (times-r (setting σ) (element σ va vb vc)))
-    decides-r ha hc = decides-coords (times-r (setting σ) (element σ va vb vc)) (ha .law (σ .prime) ∙ ap (λ t. row ρ vc ⊗ t) (k .gh-is)) refl (hc .law (σ .prime) ∙ ap (λ t. row ρ vb ⊗ t) (k .h-is))
+    decides-r ha hc = decides-coords _ (times-gh-is σ k ha) refl (times-h-is σ k hc)
 
     pub decides-w : {xa xb : List ℕ} {o : Bool} → Product p vb gh xa → Product p vc g xb → Member p xa xb va b e o → Decides o (Coords (setting σ) (rowsOf σ b) (times-w (setting σ) (element σ va vb vc)))
-    decides-w ha hb = decides-coords (times-w (setting σ) (element σ va vb vc)) (ha .law (σ .prime) ∙ ap (λ t. row ρ vb ⊗ t) (k .gh-is)) (hb .law (σ .prime) ∙ ap (λ t. row ρ vc ⊗ t) (k .g-is)) refl
+    decides-w ha hb = decides-coords _ (times-gh-is σ k ha) (times-g-is σ k hb) refl
 
 -- ---- the answer of `keeps`
 module _ {p : ℕ} {g h gh va vb vc : List ℕ} {b : Seven} {e : List ℕ} {ie : ℕ} (i : KeepsIn p g h gh va vb vc b e ie) {ra rc : List ℕ} {o : Bool}

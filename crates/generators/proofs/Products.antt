@@ -26,6 +26,7 @@ use Rattle.reading.proofs.Floors.{sized, zero-row}
 use Rattle.reading.proofs.Unique.{cast-inj}
 use Rattle.poly.specs.Leaf.{MulIn, Product}
 use Rattle.ideals.specs.Setting.{Setting, dGH}
+use Rattle.ideals.specs.Element.{O}
 use Rattle.ideals.specs.Ideal.{Basis, det}
 use Rattle.ideals.specs.Basis.{Good}
 use Rattle.ideals.proofs.Values.{dr-dw, dr-eq, dr-pos, dw-pos}
@@ -120,9 +121,6 @@ module _ {p : ℕ} {g h gh : List ℕ} {ie : ℕ} {b : Seven} (i : GeneratorsIn 
   gh-has : Has (ρ .𝓥) (row ρ gh) (i .σ .degG + i .σ .degH)
   gh-has = d.has-eq (ρ .𝓥) (d.has-mul (ρ .𝓥) (setting (i .σ) .G-deg) (setting (i .σ) .H-deg)) (sym (i .holds .gh-is))
 
-  gh-lt : Lt (ρ .𝓥) (row ρ gh) (suc (i .σ .degG + i .σ .degH))
-  gh-lt = d.has-up (ρ .𝓥) (suc (i .σ .degG + i .σ .degH)) gh-has (omega arith)
-
   room : {x y : List ℕ} (j k : ℕ) → Row p x → Row p y → Lt (ρ .𝓥) (row ρ x) j → Lt (ρ .𝓥) (row ρ y) k → j + k ≤ 33 → MulIn p x y
   room j k hx hy lx ly l = record { modulus = modulus; hx = hx; hy = hy; room = fits-of ρ j k hx hy lx ly l }
 
@@ -137,17 +135,25 @@ module _ {p : ℕ} {g h gh : List ℕ} {ie : ℕ} {b : Seven} (i : GeneratorsIn 
     right = fits-of ρ (suc (setting (i .σ) .dr)) (setting (i .σ) .dw) (i .rows .m2) (i .rows .n1) (z .m2) (z .n1) (omega (arith, z .both, z .all));
   }
 
-  pub m1-h : MulIn p (b .m1) h
-  m1-h = room (suc (setting (i .σ) .dw)) (suc (i .σ .degH)) (i .rows .m1) (i .hh) (z .m1) h-lt (omega (arith, z .two-r, z .both, z .w-pos, z .all))
+  -- G, H and G H, each no larger than G H
+  pub record Factor (y : List ℕ) : Type 0 where
+    pub is-row : Row p y
+    pub low : Lt (ρ .𝓥) (row ρ y) (suc (i .σ .degG + i .σ .degH))
 
-  pub m2-g : MulIn p (b .m2) g
-  m2-g = room (suc (setting (i .σ) .dr)) (suc (i .σ .degG)) (i .rows .m2) (i .hg) (z .m2) g-lt (omega (arith, z .two-r, z .both, z .r-pos, z .all))
+  pub by-g : Factor g
+  by-g = record { is-row = i .hg; low = d.lt-up (ρ .𝓥) (suc (i .σ .degG + i .σ .degH)) g-lt (omega arith) }
 
-  pub m1-gh : MulIn p (b .m1) gh
-  m1-gh = room (suc (setting (i .σ) .dw)) (suc (i .σ .degG + i .σ .degH)) (i .rows .m1) (i .hgh) (z .m1) gh-lt (omega (arith, z .both, z .r-pos, z .all))
+  pub by-h : Factor h
+  by-h = record { is-row = i .hh; low = d.lt-up (ρ .𝓥) (suc (i .σ .degG + i .σ .degH)) h-lt (omega arith) }
 
-  pub m2-gh : MulIn p (b .m2) gh
-  m2-gh = room (suc (setting (i .σ) .dr)) (suc (i .σ .degG + i .σ .degH)) (i .rows .m2) (i .hgh) (z .m2) gh-lt (omega (arith, z .both, z .w-pos, z .all))
+  pub by-gh : Factor gh
+  by-gh = record { is-row = i .hgh; low = d.has-up (ρ .𝓥) (suc (i .σ .degG + i .σ .degH)) gh-has (omega arith) }
+
+  pub m1-by : {y : List ℕ} → Factor y → MulIn p (b .m1) y
+  m1-by f = room (suc (setting (i .σ) .dw)) (suc (i .σ .degG + i .σ .degH)) (i .rows .m1) (f .is-row) (z .m1) (f .low) (omega (arith, z .both, z .r-pos, z .all))
+
+  pub m2-by : {y : List ℕ} → Factor y → MulIn p (b .m2) y
+  m2-by f = room (suc (setting (i .σ) .dr)) (suc (i .σ .degG + i .σ .degH)) (i .rows .m2) (f .is-row) (z .m2) (f .low) (omega (arith, z .both, z .w-pos, z .all))
 
   -- ---- division by e and by U
   pub by-e : {e : List ℕ} → Det p (b .m1) (b .n2) (b .m2) (b .n1) e → Inverts p e ie
@@ -186,8 +192,8 @@ module _ {p : ℕ} {g h gh : List ℕ} {ie : ℕ} {b : Seven} (i : GeneratorsIn 
   pub by-u : Inverts p (b .u) 1
   by-u = monic-inverts (i .σ .prime) (i .rows .u) (i .good .scaled .monic)
 
--- ---- the exact quotients: r m and w m in coordinates
-module _ {p : ℕ} {G H : List ℕ} (σ : Accepted p G H) {g h gh : List ℕ} (k : Holds σ g h gh) (b : Seven) {e : List ℕ} (de : Det p (b .m1) (b .n2) (b .m2) (b .n1) e) where
+-- ---- the exact quotients: an element on rows, and in coordinates
+module _ {p : ℕ} {G H : List ℕ} (σ : Accepted p G H) (b : Seven) {e : List ℕ} (de : Det p (b .m1) (b .n2) (b .m2) (b .n1) e) where
   abbrev ρ₁ : Reading p
   ρ₁ = reading p (σ .prime)
 
@@ -196,30 +202,47 @@ module _ {p : ℕ} {G H : List ℕ} (σ : Accepted p G H) {g h gh : List ℕ} (k
   infixl 60 _⊕_
   infixl 70 _⊗_
   infix 80 ⊖_
-  pub quot-r : {v c : List ℕ} → Product p (b .m2) gh v → Product p (b .m1) h c → (q : Coords (setting σ) (rowsOf σ b) (times-r (setting σ) (rowsOf σ b .M)))
-      → Quotients (σ .prime) v (b .m0) c b e (q .α .0) (q .β .0) (q .γ .0)
-  quot-r {v} {c} hv hc q =
-      let c-is : row ρ₁ c ≡ row ρ₁ (b .m1) ⊗ row ρ₁ H = hc .law (σ .prime) ∙ ap (λ t. row ρ₁ (b .m1) ⊗ t) (k .h-is) in
-      let v-is : row ρ₁ v ≡ row ρ₁ (b .m2) ⊗ (row ρ₁ G ⊗ row ρ₁ H) = hv .law (σ .prime) ∙ ap (λ t. row ρ₁ (b .m2) ⊗ t) (k .gh-is) in
-      record {
-        α-poly = q .α .1;
-        β-poly = q .β .1;
-        γ-poly = q .γ .1;
-        e-β = ap (λ t. row ρ₁ (b .m0) ⊗ row ρ₁ (b .n2) ⊕ ⊖ (t ⊗ row ρ₁ (b .n1))) c-is ∙ ap (λ t. t .0) (q .e-β) ∙ ap (λ t. t ⊗ q .β .0) (sym (de .law (σ .prime)));
-        e-γ = ap (λ t. t ⊗ row ρ₁ (b .m1) ⊕ ⊖ (row ρ₁ (b .m0) ⊗ row ρ₁ (b .m2))) c-is ∙ ap (λ t. t .0) (q .e-γ) ∙ ap (λ t. t ⊗ q .γ .0) (sym (de .law (σ .prime)));
-        U-α = ap (λ t. t ⊕ ⊖ (q .β .0 ⊗ row ρ₁ (b .m0) ⊕ q .γ .0 ⊗ row ρ₁ (b .n0))) v-is ∙ ap (λ t. t .0) (q .U-α);
-      }
+  module _ {xa xb xc : List ℕ} (v : O (setting σ) .El) (ea : row ρ₁ xa ≡ v .a .0) (eb : row ρ₁ xb ≡ v .b .0) (ec : row ρ₁ xc ≡ v .c .0) where
+    pub quot-of : (q : Coords (setting σ) (rowsOf σ b) v) → Quotients (σ .prime) xa xb xc b e (q .α .0) (q .β .0) (q .γ .0)
+    quot-of q = record {
+      α-poly = q .α .1;
+      β-poly = q .β .1;
+      γ-poly = q .γ .1;
+      e-β = ap₂ (λ s t. s ⊗ row ρ₁ (b .n2) ⊕ ⊖ (t ⊗ row ρ₁ (b .n1))) eb ec ∙ ap (λ t. t .0) (q .e-β) ∙ ap (λ t. t ⊗ q .β .0) (sym (de .law (σ .prime)));
+      e-γ = ap₂ (λ s t. t ⊗ row ρ₁ (b .m1) ⊕ ⊖ (s ⊗ row ρ₁ (b .m2))) eb ec ∙ ap (λ t. t .0) (q .e-γ) ∙ ap (λ t. t ⊗ q .γ .0) (sym (de .law (σ .prime)));
+      U-α = ap (λ t. t ⊕ ⊖ (q .β .0 ⊗ row ρ₁ (b .m0) ⊕ q .γ .0 ⊗ row ρ₁ (b .n0))) ea ∙ ap (λ t. t .0) (q .U-α);
+    }
 
-  pub quot-w : {v c : List ℕ} → Product p (b .m1) gh v → Product p (b .m2) g c → (q : Coords (setting σ) (rowsOf σ b) (times-w (setting σ) (rowsOf σ b .M)))
-      → Quotients (σ .prime) v c (b .m0) b e (q .α .0) (q .β .0) (q .γ .0)
-  quot-w {v} {c} hv hc q =
-      let c-is : row ρ₁ c ≡ row ρ₁ (b .m2) ⊗ row ρ₁ G = hc .law (σ .prime) ∙ ap (λ t. row ρ₁ (b .m2) ⊗ t) (k .g-is) in
-      let v-is : row ρ₁ v ≡ row ρ₁ (b .m1) ⊗ (row ρ₁ G ⊗ row ρ₁ H) = hv .law (σ .prime) ∙ ap (λ t. row ρ₁ (b .m1) ⊗ t) (k .gh-is) in
-      record {
-        α-poly = q .α .1;
-        β-poly = q .β .1;
-        γ-poly = q .γ .1;
-        e-β = ap (λ t. t ⊗ row ρ₁ (b .n2) ⊕ ⊖ (row ρ₁ (b .m0) ⊗ row ρ₁ (b .n1))) c-is ∙ ap (λ t. t .0) (q .e-β) ∙ ap (λ t. t ⊗ q .β .0) (sym (de .law (σ .prime)));
-        e-γ = ap (λ t. row ρ₁ (b .m0) ⊗ row ρ₁ (b .m1) ⊕ ⊖ (t ⊗ row ρ₁ (b .m2))) c-is ∙ ap (λ t. t .0) (q .e-γ) ∙ ap (λ t. t ⊗ q .γ .0) (sym (de .law (σ .prime)));
-        U-α = ap (λ t. t ⊕ ⊖ (q .β .0 ⊗ row ρ₁ (b .m0) ⊕ q .γ .0 ⊗ row ρ₁ (b .n0))) v-is ∙ ap (λ t. t .0) (q .U-α);
-      }
+    pub coords-from : {α β γ : reading p (σ .prime) .𝓥 .L .El} → Quotients (σ .prime) xa xb xc b e α β γ → Coords (setting σ) (rowsOf σ b) v
+    coords-from {α} {β} {γ} q = record {
+      α = (α, q .α-poly);
+      β = (β, q .β-poly);
+      γ = (γ, q .γ-poly);
+      e-β = P-path (ρ₁ .𝓥) (sym (ap₂ (λ s t. s ⊗ row ρ₁ (b .n2) ⊕ ⊖ (t ⊗ row ρ₁ (b .n1))) eb ec) ∙ q .e-β ∙ ap (λ t. t ⊗ β) (de .law (σ .prime)));
+      e-γ = P-path (ρ₁ .𝓥) (sym (ap₂ (λ s t. t ⊗ row ρ₁ (b .m1) ⊕ ⊖ (s ⊗ row ρ₁ (b .m2))) eb ec) ∙ q .e-γ ∙ ap (λ t. t ⊗ γ) (de .law (σ .prime)));
+      U-α = P-path (ρ₁ .𝓥) (sym (ap (λ t. t ⊕ ⊖ (β ⊗ row ρ₁ (b .m0) ⊕ γ ⊗ row ρ₁ (b .n0))) ea) ∙ q .U-α);
+    }
+
+-- products with the rows that hold the field
+module _ {p : ℕ} {G H : List ℕ} (σ : Accepted p G H) {g h gh : List ℕ} (k : Holds σ g h gh) where
+  open Ops (reading p (σ .prime) .𝓥 .L .ops) using (mul as _⊗_)
+
+  infixl 70 _⊗_
+  pub times-g-is : {x z : List ℕ} → Product p x g z → row (reading p (σ .prime)) z ≡ row (reading p (σ .prime)) x ⊗ row (reading p (σ .prime)) G
+  times-g-is {x} hz = hz .law (σ .prime) ∙ ap (λ t. row (reading p (σ .prime)) x ⊗ t) (k .g-is)
+
+  pub times-h-is : {x z : List ℕ} → Product p x h z → row (reading p (σ .prime)) z ≡ row (reading p (σ .prime)) x ⊗ row (reading p (σ .prime)) H
+  times-h-is {x} hz = hz .law (σ .prime) ∙ ap (λ t. row (reading p (σ .prime)) x ⊗ t) (k .h-is)
+
+  pub times-gh-is : {x z : List ℕ} → Product p x gh z → row (reading p (σ .prime)) z ≡ row (reading p (σ .prime)) x ⊗ (row (reading p (σ .prime)) G ⊗ row (reading p (σ .prime)) H)
+  times-gh-is {x} hz = hz .law (σ .prime) ∙ ap (λ t. row (reading p (σ .prime)) x ⊗ t) (k .gh-is)
+
+  -- r m and w m
+  module _ (b : Seven) {e : List ℕ} (de : Det p (b .m1) (b .n2) (b .m2) (b .n1) e) where
+    pub quot-r : {v c : List ℕ} → Product p (b .m2) gh v → Product p (b .m1) h c → (q : Coords (setting σ) (rowsOf σ b) (times-r (setting σ) (rowsOf σ b .M)))
+        → Quotients (σ .prime) v (b .m0) c b e (q .α .0) (q .β .0) (q .γ .0)
+    quot-r hv hc q = quot-of σ b de _ (times-gh-is hv) refl (times-h-is hc) q
+
+    pub quot-w : {v c : List ℕ} → Product p (b .m1) gh v → Product p (b .m2) g c → (q : Coords (setting σ) (rowsOf σ b) (times-w (setting σ) (rowsOf σ b .M)))
+        → Quotients (σ .prime) v c (b .m0) b e (q .α .0) (q .β .0) (q .γ .0)
+    quot-w hv hc q = quot-of σ b de _ (times-gh-is hv) (times-g-is hc) refl q

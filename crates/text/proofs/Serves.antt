@@ -16,15 +16,15 @@ use Rattle.text.specs.declared.cut.Step.the-variants.{Whole, Broken, Pen
 use Rattle.text.proofs.Puts.{placed-none, put-then}
 use Rattle.text.proofs.Feeds.{answered-append}
 
-same-lines : {earlier s : List ℕ} {at : ℕ} {before : List Line} {k : List ℕ} {m : ℕ} → Fed earlier s at before k m → Fed earlier s at (before ++ []) k m
+pub same-lines : {earlier s : List ℕ} {at : ℕ} {before : List Line} {k : List ℕ} {m : ℕ} → Fed earlier s at before k m → Fed earlier s at (before ++ []) k m
 same-lines {earlier} {s} {at} {before} {k} {m} f = subst (λ (z : List Line). Fed earlier s at z k m) (sym (append-nil before)) f
 
 module _ {A : List ℕ → List ℕ → Type 0} where
-  pub served-none : (k : List ℕ) (m : ℕ) (s : List ℕ) (at : ℕ) (d : List ℕ) (to : ℕ) → Served A k m s at d to k m at d to
+  unfoldable pub served-none : (k : List ℕ) (m : ℕ) (s : List ℕ) (at : ℕ) (d : List ℕ) (to : ℕ) → Served A k m s at d to k m at d to
   served-none k m s at d to =
       record { lines = []; text = []; fed = λ f. same-lines f; answered = no-line; put = placed-none (length d) d to }
 
-  pub served-whole : (k : List ℕ) (m : ℕ) (s : List ℕ) (at : ℕ) (d : List ℕ) (to m' next : ℕ) (k' t : List ℕ) (to' : ℕ) (d' : List ℕ)
+  unfoldable pub served-whole : (k : List ℕ) (m : ℕ) (s : List ℕ) (at : ℕ) (d : List ℕ) (to m' next : ℕ) (k' t : List ℕ) (to' : ℕ) (d' : List ℕ)
       → CutTells k m s at (Whole m' next) k' → A (take m' k') t → Put d to t to' d' → Served A k m s at d to k' 0 next d' to'
   served-whole k m s at d to m' next k' t to' d' c a p =
       record {
@@ -35,7 +35,7 @@ module _ {A : List ℕ → List ℕ → Type 0} where
         put = p;
       }
 
-  pub served-broken : (k : List ℕ) (m : ℕ) (s : List ℕ) (at : ℕ) (d : List ℕ) (to next : ℕ) (k' : List ℕ) (to' : ℕ) (d' : List ℕ)
+  unfoldable pub served-broken : (k : List ℕ) (m : ℕ) (s : List ℕ) (at : ℕ) (d : List ℕ) (to next : ℕ) (k' : List ℕ) (to' : ℕ) (d' : List ℕ)
       → CutTells k m s at (Broken next) k' → Put d to (refused-text 12) to' d' → Served A k m s at d to k' 0 next d' to'
   served-broken k m s at d to next k' to' d' c p =
       record {
@@ -46,12 +46,12 @@ module _ {A : List ℕ → List ℕ → Type 0} where
         put = p;
       }
 
-  pub served-pending : (k : List ℕ) (m : ℕ) (s : List ℕ) (at : ℕ) (d : List ℕ) (to m' : ℕ) (k' : List ℕ)
+  unfoldable pub served-pending : (k : List ℕ) (m : ℕ) (s : List ℕ) (at : ℕ) (d : List ℕ) (to m' : ℕ) (k' : List ℕ)
       → CutTells k m s at (Pending m') k' → Served A k m s at d to k' m' (length s) d to
   served-pending k m s at d to m' k' c =
       record { lines = []; text = []; fed = λ f. same-lines (piece-ends m' k' f c); answered = no-line; put = placed-none (length d) d to }
 
-  pub served-then : {k : List ℕ} {m : ℕ} {s : List ℕ} {at : ℕ} {d : List ℕ} {to : ℕ} {k₁ : List ℕ} {m₁ at₁ : ℕ} {d₁ : List ℕ} {to₁ : ℕ} {k₂ : List ℕ} {m₂ at₂ : ℕ} {d₂ : List ℕ} {to₂ : ℕ}
+  unfoldable pub served-then : {k : List ℕ} {m : ℕ} {s : List ℕ} {at : ℕ} {d : List ℕ} {to : ℕ} {k₁ : List ℕ} {m₁ at₁ : ℕ} {d₁ : List ℕ} {to₁ : ℕ} {k₂ : List ℕ} {m₂ at₂ : ℕ} {d₂ : List ℕ} {to₂ : ℕ}
       → Served A k m s at d to k₁ m₁ at₁ d₁ to₁ → Served A k₁ m₁ s at₁ d₁ to₁ k₂ m₂ at₂ d₂ to₂ → Served A k m s at d to k₂ m₂ at₂ d₂ to₂
   served-then {s = s} {d = d} {to} {d₁ = d₁} {to₁} {k₂} {m₂} {at₂} {d₂} {to₂} a b =
       record {

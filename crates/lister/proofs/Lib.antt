@@ -1,0 +1,6 @@
+pub mod Trims
+pub mod Prints
+pub mod Replies
+pub mod Short
+pub mod Once
+pub mod Paces

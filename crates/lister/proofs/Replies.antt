@@ -1,0 +1,52 @@
+-- The answer to a line, from what `parse` answers.
+--   read-as      what a line that reads left in the slices; lent-G, lent-H: its lists are within them
+--   told-read    the answer to a line that reads
+--   told-not     the answer to a line that does not
+use mathlib.Core.Path.{_≡_, sym, ap, ap₂, _∙_, subst}
+use mathlib.Core.List.{List, _++_}
+use Prim.Native.Nat.{ℕ, _+_, _≤_}
+use native.Mathlib.Omega.{arith}
+use lib.ListN.{length, take, drop, length-append}
+use lib.Seq.{take-at}
+use Rattle.text.specs.Print.{Put, line-text, refused-text}
+use Rattle.text.specs.Tells.{ReadAs, ParseTells}
+use Rattle.text.specs.declared.read.Line.{Line}
+use Rattle.text.specs.declared.read.Parsed.{Parsed}
+use Rattle.text.specs.declared.read.Parsed.the-variants.{Read, Malformed}
+use Rattle.text.proofs.Answers.{malformed-means}
+use Rattle.text.proofs.Writings.{line-is-text}
+use Rattle.unit.specs.Unit.{Makes}
+use Rattle.lister.specs.Text.{made-text}
+use Rattle.lister.specs.Listing.{budget, blank, Lists, malformed, read, Told, Answer}
+
+pub read-as : {line g h g' h' : List ℕ} {r : Parsed} {l : Line} → r ≡ Read l → ParseTells line g h r g' h' → ReadAs line g h (l .p) (l .ng) (l .nh) g' h'
+read-as {line} {g} {h} {g'} {h'} e t = subst (λ z. ParseTells line g h z g' h') e t
+
+front-length : (G d d' : List ℕ) (n : ℕ) → length G ≡ n → d' ≡ G ++ drop n d → n ≤ length d'
+front-length G d d' n e f = let o : length d' ≡ length G + length (drop n d) = ap length f ∙ length-append G (drop n d) in omega arith
+
+module _ {line g h : List ℕ} {p ng nh : ℕ} {g' h' : List ℕ} (q : ReadAs line g h p ng nh g' h') where
+  pub lent-G : ng ≤ length g'
+  lent-G = front-length (q .G) g g' ng (q .count-G) (q .front-G)
+
+  pub lent-H : nh ≤ length h'
+  lent-H = front-length (q .H) h h' nh (q .count-H) (q .front-H)
+
+  pub told-read : {d : List ℕ} {at r : ℕ} {d' : List ℕ} → Told line p (take ng g') (take nh h') d at r d' → Answer line d at r d'
+  told-read {d} {at} {r} {d'} t =
+      let G = q .G in
+      let H = q .H in
+      let a : take ng g' ≡ G = ap (take ng) (q .front-G) ∙ take-at G (drop ng g) ng (q .count-G) in
+      let b : take nh h' ≡ H = ap (take nh) (q .front-H) ∙ take-at H (drop nh h) nh (q .count-H) in
+      let m : Makes p G H budget blank blank (t .m) (t .rows) (t .scratch) =
+      subst (λ z. Makes p G z budget blank blank (t .m) (t .rows) (t .scratch)) b (subst (λ z. Makes p z (take nh h') budget blank blank (t .m) (t .rows) (t .scratch)) a (t .makes)) in
+      record {
+        text = made-text (line-text p G H) (t .m) (t .rows);
+        lists = read p G H (t .m) (t .rows) (t .scratch) (q .reads) m;
+        put = subst (λ s. Put d at (made-text s (t .m) (t .rows)) r d') (line-is-text (q .reads)) (t .put);
+      }
+
+pub told-not : {line : List ℕ} (g h g' h' : List ℕ) {r : Parsed} {d : List ℕ} {at q : ℕ} {d' : List ℕ} → 126 ≤ length g → 126 ≤ length h → r ≡ Malformed
+    → ParseTells line g h r g' h' → Put d at (refused-text 12) q d' → Answer line d at q d'
+told-not {line} g h g' h' u v e t a =
+    record { text = refused-text 12; lists = malformed (malformed-means line g h g' h' u v (subst (λ z. ParseTells line g h z g' h') e t)); put = a }

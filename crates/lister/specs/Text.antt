@@ -1,0 +1,42 @@
+-- The bytes of an answer (document 01: "The fields are p, G, H, period, regulator, E0, E1, E2").
+--   trim l                        the list l without the zeros at its end: a row as a polynomial
+--   rows-text E0 E1 E2            the rows of the unit, a semicolon before each, and a newline
+--   unit-text s l R E0 E1 E2      s, the period l, the regulator R and the rows of the unit, with semicolons
+--   told n t                      refused n, or the text t where n is 0
+--   made-text s m rows            what is printed of what `unit` answers: the refusal, or the unit, behind the text s of the field
+-- Laws: proofs/Trims, proofs/Prints.
+use mathlib.Core.List.{List, [], _∷_, _++_}
+use Prim.Native.Nat.{ℕ, zero, suc}
+use Rattle.text.specs.Grammar.{semicolon, newline}
+use Rattle.text.specs.Print.{number-text, list-text, refused-text}
+use Rattle.six.specs.Six.{cut}
+use Rattle.unit.specs.declared.Made.{Made}
+
+-- a coefficient in front of a trimmed list
+unfoldable pub ahead : ℕ → List ℕ → List ℕ
+ahead zero [] = []
+ahead zero (y ∷ l) = zero ∷ y ∷ l
+ahead (suc x) l = suc x ∷ l
+
+unfoldable pub trim : List ℕ → List ℕ
+trim [] = []
+trim (x ∷ l) = ahead x (trim l)
+
+-- "c = 1,024"
+abbrev pub width : ℕ
+width = 1024
+
+unfoldable pub rows-text : List ℕ → List ℕ → List ℕ → List ℕ
+rows-text E0 E1 E2 = semicolon ∷ list-text E0 ++ semicolon ∷ list-text E1 ++ semicolon ∷ list-text E2 ++ newline ∷ []
+
+unfoldable pub unit-text : List ℕ → ℕ → ℕ → List ℕ → List ℕ → List ℕ → List ℕ
+unit-text s l R E0 E1 E2 = s ++ semicolon ∷ number-text l ++ semicolon ∷ number-text R ++ rows-text E0 E1 E2
+
+-- refusal 0 is none
+unfoldable pub told : ℕ → List ℕ → List ℕ
+told zero t = t
+told (suc n) t = refused-text (suc n)
+
+unfoldable pub made-text : List ℕ → Made → List ℕ → List ℕ
+made-text s m rows =
+    told (m .refusal) (unit-text s (m .period .0) (m .regulator .0) (trim (cut 0 width rows)) (trim (cut 1024 width rows)) (trim (cut 2048 width rows)))

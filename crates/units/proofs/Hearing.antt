@@ -1,0 +1,48 @@
+-- The passes through a piece, one after the other.
+--   Heard k n s g k'     the lines met so far in the piece s, up to the place g .at
+--   heard-none, heard-more, heard-done
+--   put-prefix           what is put ends within the slice
+use mathlib.Core.Path.{_≡_, refl, sym, ap, _∙_, subst}
+use mathlib.Core.List.{List, [], _++_, append-assoc}
+use Prim.Native.Nat.{ℕ, _+_, _≤_, min, max}
+use native.Mathlib.Omega.{arith}
+use lib.ListN.{length}
+use Rattle.text.specs.Lines.{Line}
+use Rattle.text.specs.Feed.{Fed, next-piece, Answered, no-line}
+use Rattle.text.specs.Print.{Put}
+use Rattle.text.proofs.Puts.{placed-same}
+use Rattle.text.proofs.Feeds.{answered-append}
+use Rattle.text.proofs.Serves.{same-lines}
+use Rattle.lister.specs.declared.Going.{Going}
+use Rattle.lister.specs.Listing.{Lists, Passes}
+use Rattle.lister.proofs.Paces.{Pace, passes-pace}
+use Rattle.units.specs.Serve.{Passed}
+
+pub record Heard (k : List ℕ) (n : ℕ) (s : List ℕ) (at n' : ℕ) (k' : List ℕ) : Type 0 where
+  pub lines : List Line
+  pub text : List ℕ
+  pub answered : Answered Lists lines text
+  pub fed : {earlier : List ℕ} {before : List Line} → Fed earlier s 0 before k n → Fed earlier s at (before ++ lines) k' n'
+
+pub heard-none : (k : List ℕ) (n : ℕ) (s : List ℕ) → Heard k n s 0 n k
+heard-none k n s = record { lines = []; text = []; answered = no-line; fed = λ f. same-lines f }
+
+pub heard-more : {k : List ℕ} {n : ℕ} {s : List ℕ} {g r : Going} {k' k₂ d d' : List ℕ} → Heard k n s (g .at) (g .n) k' → Passes k' s d g r k₂ d' → Heard k n s (r .at) (r .n) k₂
+heard-more {s = s} {r = r} {k₂ = k₂} a x =
+    let b = passes-pace x .served in
+    record {
+      lines = a .lines ++ b .lines;
+      text = a .text ++ b .text;
+      answered = answered-append (a .answered) (b .answered);
+      fed = λ {earlier} {before} f. subst (λ (z : List Line). Fed earlier s (r .at) z k₂ (r .n)) (append-assoc before (a .lines) (b .lines)) (b .fed (a .fed f));
+    }
+
+pub heard-done : {k : List ℕ} {n : ℕ} {s : List ℕ} {at n' : ℕ} {k' : List ℕ} → length s ≤ at → Heard k n s at n' k' → Passed k n s n' k'
+heard-done h a = record { lines = a .lines; text = a .text; answered = a .answered; fed = λ next f. next-piece next (a .fed f) h }
+
+-- the first bytes of the output, up to the place where it stopped
+pub put-prefix : {d : List ℕ} {at : ℕ} {x : List ℕ} {r : ℕ} {d' : List ℕ} → at ≤ length d → Put d at x r d' → r ≤ length d'
+put-prefix {d} {at} {x} {r} h p =
+    let a : r ≡ max at (min (at + length x) (length d)) = p .next in
+    let b = placed-same p in
+    omega arith

@@ -1,0 +1,20 @@
+-- What the program makes of a piece of the input.
+--   Serves k n s r k'   with the bytes k, n of them pending, the piece s was passed: the lines that end in it were met, in order and
+--                       each once, `text` answers them, and k', with r .n pending, is where a next piece goes on
+use mathlib.Core.Path.{_≡_}
+use mathlib.Core.Bool.{true}
+use mathlib.Core.List.{List, _++_}
+use Prim.Native.Nat.{ℕ}
+use Rattle.text.specs.Lines.{Line}
+use Rattle.text.specs.Feed.{Fed, Answered}
+use Rattle.lister.specs.Listing.{Lists}
+use Rattle.units.specs.declared.Standing.{Standing}
+
+pub record Passed (k : List ℕ) (n : ℕ) (s : List ℕ) (n' : ℕ) (k' : List ℕ) : Type 0 where
+  pub lines : List Line
+  pub text : List ℕ
+  pub answered : Answered Lists lines text
+  pub fed : {earlier : List ℕ} {before : List Line} (next : List ℕ) → Fed earlier s 0 before k n → Fed (earlier ++ s) next 0 (before ++ lines) k' n'
+
+abbrev pub Serves : List ℕ → ℕ → List ℕ → Standing → List ℕ → Type 0
+Serves k n s r k' = r .on ≡ true → Passed k n s (r .n) k'
