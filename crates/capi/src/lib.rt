@@ -2,6 +2,7 @@
 // The contracts are those of the functions behind them.
 ghost use Rattle.field.specs.Refusal.{Refusal};
 ghost use Rattle.series.specs.Answer.{Answer};
+ghost use Rattle.bases.specs.Answer.{Checks};
 ghost use mathlib.Core.Path.{_≡_};
 ghost use Rattle.book.specs.Answer.{reasonSays, answerSays, requestSays};
 ghost use Rattle.book.specs.Book.{count};
@@ -41,6 +42,15 @@ pub extern "C" fn zaminuk_order(p: u64, g: &[u64], h: &[u64], rows: &mut [u16; 1
         *rows = b;
     }
     n
+}
+
+// Whether the rows are the scaled reduced basis of a reduced ideal: 0, or the refusal.
+#[no_mangle]
+pub extern "C" fn zaminuk_check(p: u64, g: &[u64], h: &[u64], rows: &[u16; 119]) -> u32
+    ensures { λ n. ⌜ Checks p (now (g .entry)) (now (h .entry)) (now (rows .entry)) n ⌝ }
+{
+    let b = *rows;
+    bases::check(p, g, h, b)
 }
 
 // One step, in place: the next record, and the degree of the m divided by, 0 beside a refusal.
