@@ -1,5 +1,5 @@
 // Whole inputs of the lister against whole outputs: at once, in pieces of odd sizes and, where the input is short, byte by byte.
-use crate::vectors::{ensure, Tally, Verdict};
+use crate::vectors::{ensure, names, Tally, Verdict};
 use std::fs;
 use std::io::{Read, Write};
 use std::process::{Command, Stdio};
@@ -36,10 +36,11 @@ fn compare(input: &[u8], right: &[u8], sizes: &'static [usize]) -> Verdict {
     ensure(out == right, || format!("pieces of {:?}: output differs from line {} on", sizes, n + 1))
 }
 
-/// The lines of an input are its cases; the pieces are one more case each.
+/// One input, and the output beside it.
 pub fn file(path: &str) -> (usize, usize) {
     let input = fs::read(path).expect("a readable file");
-    let right = fs::read(path.trim_end_matches("in").to_string() + "out").expect("the output beside it");
+    let name = path.rsplit_once('.').map_or(path, |(name, _)| name);
+    let right = fs::read(format!("{}.out", name)).expect("the output beside it");
     let mut t = Tally::new();
     t.count(|| "the whole".into(), compare(&input, &right, &[1 << 20]));
     t.count(|| "pieces".into(), compare(&input, &right, &[1, 254, 3, 4097, 255, 70000, 256, 2]));
@@ -47,4 +48,19 @@ pub fn file(path: &str) -> (usize, usize) {
         t.count(|| "bytes".into(), compare(&input, &right, &[1]));
     }
     t.done(path)
+}
+
+/// The examples, each NAME.txt with NAME.out, and one of them many times over, so that lines stand across the edges of buffers.
+pub fn examples(dir: &str) -> (usize, usize) {
+    let (mut passed, mut failed) = (0, 0);
+    for name in names(dir).iter().filter(|n| n.ends_with(".txt")) {
+        let (a, b) = file(&format!("{}/{}", dir, name));
+        passed += a;
+        failed += b;
+    }
+    let read = |name: &str| fs::read(format!("{}/{}", dir, name)).expect("an example").repeat(4000);
+    let mut t = Tally::new();
+    t.count(|| "the whole".into(), compare(&read("fields.txt"), &read("fields.out"), &[1 << 20]));
+    let (a, b) = t.done("16,000 lines");
+    (passed + a, failed + b)
 }

@@ -223,15 +223,18 @@ fn lines(path: &str, case: fn(&str) -> Verdict) -> (usize, usize) {
     t.done(path)
 }
 
-/// Every file of a folder, in the order of their names.
-pub fn folder(dir: &str) -> (usize, usize) {
-    let mut names: Vec<String> = fs::read_dir(dir)
-        .expect("a folder")
-        .map(|e| e.unwrap().file_name().into_string().unwrap())
-        .collect();
+/// The files of a folder, in the order of their names.
+pub fn names(dir: &str) -> Vec<String> {
+    let entries = fs::read_dir(dir).expect("a folder");
+    let mut names: Vec<String> = entries.map(|e| e.unwrap().file_name().into_string().unwrap()).collect();
     names.sort();
+    names
+}
+
+/// Every file of a folder.
+pub fn folder(dir: &str) -> (usize, usize) {
     let (mut passed, mut failed) = (0, 0);
-    for name in names {
+    for name in names(dir) {
         let path = format!("{}/{}", dir, name);
         let kind = name.splitn(2, '-').nth(1).unwrap_or("");
         let (a, b) = match kind {
