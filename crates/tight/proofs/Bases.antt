@@ -12,7 +12,7 @@ use native.Mathlib.Decide.{decLt}
 use lib.ListN.{length, getD}
 use lib.Seq.{ext-getD}
 use Rattle.ring.proofs.Laws as rg
-use Rattle.ring.specs.Ring.{Ops, CRing}
+use Rattle.ring.specs.Ring.{Ops}
 use Rattle.ring.proofs.Solve.{var, one, minus, _:+_, _:*_, hyp, solve, solve-by}
 use Rattle.fp.specs.Fp.{Prime}
 use Rattle.fp.proofs.Trial.{prime}
@@ -32,7 +32,7 @@ use Rattle.reading.proofs.Unique.{list-unique}
 use Rattle.turn.proofs.Turn.{moved-back, moved-then}
 use Rattle.record.specs.Record.{part}
 use Rattle.record.proofs.Unique.{part-below}
-use Rattle.reduce.specs.Frame.{Frame, Meaning, rd, rowμ, pt, X, Y, Ltμ}
+use Rattle.reduce.specs.Frame.{Frame, Meaning, rd, rowμ, X, Y, Ltμ}
 use Rattle.reduce.specs.declared.Pair.{Pair}
 use Rattle.basis.specs.Store.{Stored, Loaded}
 use Rattle.basis.specs.Levels.{LevelIn, Leveled}

@@ -9,19 +9,16 @@ use native.Mathlib.Omega.{arith}
 use Rattle.ring.specs.Ring.{Ops, CRing}
 use Rattle.ring.proofs.Solve.{var, minus, one, _:+_, _:*_, hyp, solve-by}
 use Rattle.fp.specs.Fp.{Prime}
-use Rattle.valued.specs.Val.{Valued}
 use Rattle.valued.specs.Degree.{Has}
 use Rattle.valued.specs.Polynomial.{polys, Divides, IsUnit}
 use Rattle.valued.proofs.Degree.{has-move}
 use Rattle.valued.proofs.Polynomial.{factor, const-unit}
 use Rattle.valued.proofs.Divide.{p-cancel}
-use Rattle.reading.specs.Reading.{Reading}
 use Rattle.reading.specs.Made.{reading}
-use Rattle.reading.specs.Row.{row}
 use Rattle.ideals.specs.Setting.{Setting, P}
 use Rattle.ideals.specs.Ideal.{Basis, Ideal}
-use Rattle.chain.proofs.Parts.{Parts, Cut, x0, x1, x2, y0, y1, y2, base, parts-unique, cut-greatest}
-use Rattle.record.specs.Record.{setting, polyOf}
+use Rattle.chain.proofs.Parts.{Parts, Cut, x0, x2, y0, y2, base, parts-unique, cut-greatest}
+use Rattle.record.specs.Record.{setting}
 use Rattle.generators.specs.Rows.{Seven, rowsOf}
 use Rattle.generators.specs.Quotients.{Det, CoordsIn, Coordinates}
 use Rattle.generators.specs.Generated.{GeneratorsIn, AreGenerators}

@@ -7,11 +7,9 @@ use native.Mathlib.Omega.{arith}
 use native.Mathlib.Decide.{decLt}
 use lib.ListN.{length, getD}
 use lib.Seq.{ext-getD}
-use Rattle.ring.specs.Ring.{Ops, CRing}
 use Rattle.fp.specs.Fp.{Prime}
 use Rattle.fp.proofs.Value.{inverse-only}
 use Rattle.cubic.specs.Tri.{normT}
-use Rattle.valued.specs.Val.{Valued}
 use Rattle.valued.proofs.Degree.{has-inv}
 use Rattle.reading.specs.Reading.{Reading}
 use Rattle.reading.specs.Made.{reading}

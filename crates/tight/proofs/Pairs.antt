@@ -1,14 +1,14 @@
 -- Two pairs with one span, both with deg Y(m) < u ≤ deg Y(n) and deg X(n) < deg X(m), differ by a constant at each element.
 --   rises       a combination α m + β n with β not 0 and a small Y has a larger X than m
 --   pairs-one   m′ = a m and n′ = d n for constants a, d that are not 0
-use mathlib.Core.Path.{_≡_, refl, sym, ap, _∙_}
-use mathlib.Core.Logic.{_≢_, _⊎_, inl, inr}
+use mathlib.Core.Path.{_≡_, sym, ap, _∙_}
+use mathlib.Core.Logic.{_⊎_, inl, inr}
 use mathlib.Core.List.{[], _∷_}
-use Prim.Native.Nat.{ℕ, suc, _≤_, _<_}
+use Prim.Native.Nat.{ℕ, _≤_, _<_}
 use Prim.Native.Nat as N
 use native.Mathlib.Omega.{arith}
 use Rattle.ring.proofs.Laws as rg
-use Rattle.ring.specs.Ring.{Ops, CRing}
+use Rattle.ring.specs.Ring.{Ops}
 use Rattle.ring.proofs.Solve.{var, zer, one, minus, _:+_, _:*_, hyp, solve, solve-by}
 use Rattle.valued.specs.Val.{Valued}
 use Rattle.valued.specs.Degree.{Has, Lt}

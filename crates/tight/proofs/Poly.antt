@@ -6,7 +6,6 @@ use mathlib.Core.List.{List, [], _∷_}
 use Prim.Native.Nat.{ℕ, _+_, _-_}
 use native.Mathlib.Omega.{arith}
 use lib.Seq.{ext-getD}
-use Rattle.ring.specs.Ring.{Ops, CRing}
 use Rattle.ring.proofs.Solve.{var, minus, _:+_, solve}
 use Rattle.fp.specs.Fp.{Prime}
 use Rattle.valued.specs.Val.{Valued}
@@ -16,7 +15,6 @@ use Rattle.valued.proofs.Degree.{has-move}
 use Rattle.valued.proofs.Polynomial.{P-path, view, not-zero, factor, const-unit}
 use Rattle.valued.proofs.Coprime.{gcd-greatest, zero-divides}
 use Rattle.valued.proofs.Factor.{free-no-square, apart-no-common}
-use Rattle.reading.specs.Reading.{Reading}
 use Rattle.reading.specs.Made.{reading}
 use Rattle.reading.specs.Row.{Size, row}
 use Rattle.reading.proofs.Rows.{row-poly, size-has-at}

@@ -1,20 +1,18 @@
 -- Crate reduce.
 --   part-one, lead-of-one   at a meaning of the series; the second where the size has a degree
 --   reduced-one             two reductions have elements that differ by a constant each, and one length: more the contract does not settle
-use mathlib.Core.Path.{_≡_, sym, ap, _∙_}
-use mathlib.Core.Bool.{Bool, true, false}
+use mathlib.Core.Path.{_≡_}
+use mathlib.Core.Bool.{Bool}
 use mathlib.Core.List.{List}
-use Prim.Native.Nat.{ℕ, _+_, _-_, _<_, _≤_}
+use Prim.Native.Nat.{ℕ, _-_, _<_, _≤_}
 use native.Mathlib.Omega.{arith}
-use Rattle.valued.specs.Val.{Valued}
 use Rattle.valued.specs.Degree.{Has, Lt}
 use Rattle.valued.proofs.Degree.{has-eq, lt-up, same}
 use Rattle.valued.proofs.Compare.{has-scale}
-use Rattle.reading.specs.Reading.{Reading}
 use Rattle.reading.proofs.Floors.{floor-lt, floor-top, top-not}
 use Rattle.reading.proofs.Unique.{row-unique, cast-inj}
 use Rattle.turn.proofs.Turn.{moved-back, moved-then}
-use Rattle.reduce.specs.Frame.{Frame, Meaning, Held, point, rd, pt, side, X, Hasμ}
+use Rattle.reduce.specs.Frame.{Frame, Meaning, rd, pt, side, X, Hasμ}
 use Rattle.reduce.specs.Leaves.{Parted, Led}
 use Rattle.reduce.specs.Clear.{ClearIn, Reduced}
 use Rattle.reduce.specs.declared.Pair.{Pair}

@@ -9,7 +9,7 @@ use Prim.Native.Nat.{ℕ, _<_, _+_}
 use native.Mathlib.Omega.{arith}
 use lib.ListN.{length, getD}
 use Rattle.ring.proofs.Laws as rg
-use Rattle.ring.specs.Ring.{Ops, CRing}
+use Rattle.ring.specs.Ring.{Ops}
 use Rattle.ring.proofs.Solve.{var, minus, _:+_, _:*_, solve, hyp, one, solve-by}
 use Rattle.valued.specs.Val.{Valued}
 use Rattle.valued.specs.Degree.{Lt}

@@ -7,16 +7,14 @@ use Prim.Native.Nat.{ℕ}
 use Rattle.book_bytes.specs.Decides.{Decides}
 use Rattle.book_bytes.proofs.Tests.{settled}
 use Rattle.field.specs.Refusal.{Accepted}
-use Rattle.record.specs.Record.{setting}
-use Rattle.ideals.specs.Basis.{Good, NoFactor}
 use Rattle.reduce.specs.Frame.{Frame, Meaning}
-use Rattle.generators.specs.Rows.{Seven, Holds, rowsOf}
-use Rattle.closure.specs.Lattice.{InsideIn, InsideAt, Inside, MemberIn, MemberAt, Member}
+use Rattle.generators.specs.Rows.{Seven, Holds}
+use Rattle.closure.specs.Lattice.{InsideIn, Inside, MemberIn, Member}
 use Rattle.closure.specs.Closed.{Under}
 use Rattle.closure.proofs.Closing as closing
 use Rattle.series.specs.declared.Cubic.{Cubic}
 use Rattle.opened.specs.Known.{Known}
-use Rattle.accepts.specs.Tests.{Numbers, Shaped, Alone}
+use Rattle.accepts.specs.Tests.{Shaped, Alone}
 use Rattle.accepts.specs.Answer.{PassIn, Passes, Accepts}
 use Rattle.accepts.proofs.Accepting as accepting
 
