@@ -2,8 +2,11 @@
 --   first-in      an opened field meets what `basis::order` asks
 --   is-first      what it hands out is the record of the order
 --   orders-one    two answers of `order` to one p, G, H are equal
+--   checks-yes, checks-no   what `check` answers for an accepted field
+--   checks-one    two answers of `check` to one p, G, H and record are equal
 use mathlib.Core.Path.{_≡_, refl, sym, _∙_, subst}
-use mathlib.Core.Logic.{_≢_}
+use mathlib.Core.Logic.{_≢_, _⊎_, inl, inr}
+use mathlib.Core.Bool.{Bool, true, false}
 use mathlib.Core.List.{List}
 use Prim.Native.Nat.{ℕ, suc, _+_, _≤_, _<_}
 use native.Mathlib.Omega.{arith}
@@ -24,7 +27,8 @@ use Rattle.series.specs.Answer.{Prefix}
 use Rattle.series.specs.declared.Cubic.{Cubic}
 use Rattle.opened.proofs.Ground.{frameOf, frame-is, degrees, dr-is, dw-is, odd, fine, meaningOf, r-reads, w-reads}
 use Rattle.bases.specs.declared.Ordered.{Ordered}
-use Rattle.bases.specs.Answer.{IsFirst, First, Orders}
+use Rattle.book_bytes.specs.Decides.{Decides}
+use Rattle.bases.specs.Answer.{IsFirst, First, Orders, Checks}
 
 module _ {p : ℕ} {G H : List ℕ} (A : Accepted p G H) (c : Cubic) (h : Prefix p G H c) where
   pub first-in : OrderIn (frameOf c) (c .field .dr + c .field .dw + 1)
@@ -57,3 +61,19 @@ orders-one {p} {G} {H} o o′ h h′ =
     bases : o .refusal ≡ o′ .refusal → Dec (o .refusal ≡ 0) → o .basis ≡ o′ .basis
     bases e (yes z) = first-one (o .basis) (o′ .basis) (accepted p G H (subst (Refusal p G H) z (h .number))) (h .first z) (h′ .first (sym e ∙ z))
     bases e (no z) = h .zeros z ∙ sym (h′ .zeros (λ f. z (e ∙ f)))
+
+module _ {p : ℕ} {G H B : List ℕ} where
+  pub checks-yes : {o : Bool} → o ≡ true → Refusal p G H 0 → Decides o (IsRecord p G H B) → Checks p G H B 0
+  checks-yes e r h = inr (r, inr (h .yes! e, refl))
+
+  pub checks-no : {o : Bool} → o ≡ false → Refusal p G H 0 → Decides o (IsRecord p G H B) → Checks p G H B 9
+  checks-no e r h = inr (r, inl (h .no! e, refl))
+
+  pub checks-one : (n n′ : ℕ) → Checks p G H B n → Checks p G H B n′ → n ≡ n′
+  checks-one n n′ (inl (r, z)) (inl (r′, z′)) = refusal-one p G H n n′ r r′
+  checks-one n n′ (inl (r, z)) (inr (r′, w)) = absurd (z (refusal-one p G H n 0 r r′))
+  checks-one n n′ (inr (r, w)) (inl (r′, z)) = absurd (z (refusal-one p G H n′ 0 r′ r))
+  checks-one n n′ (inr (r, inl (f, e))) (inr (r′, inl (f′, e′))) = e ∙ sym e′
+  checks-one n n′ (inr (r, inl (f, e))) (inr (r′, inr (k, e′))) = absurd (f k)
+  checks-one n n′ (inr (r, inr (k, e))) (inr (r′, inl (f, e′))) = absurd (f k)
+  checks-one n n′ (inr (r, inr (k, e))) (inr (r′, inr (k′, e′))) = e ∙ sym e′

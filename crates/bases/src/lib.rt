@@ -1,6 +1,6 @@
 // The public functions of bases. specs/Answer.antt has their contracts.
 ghost use Rattle.opened.specs.Known.{Known};
-ghost use Rattle.bases.specs.Answer.{First, Orders};
+ghost use Rattle.bases.specs.Answer.{First, Orders, Checks};
 
 // The number of the refusal beside the basis; with a refusal the rows are zeros.
 pub struct Ordered {
@@ -43,4 +43,17 @@ pub fn order(p: u64, g: &[u64], h: &[u64]) -> Ordered
         refusal: 0,
         basis: b,
     }
+}
+
+// The number of the refusal of 119 numbers as a record of the field p, G, H: 1 to 8, then 9; 0 for a record.
+pub fn check(p: u64, g: &[u64], h: &[u64], rows: [u16; 119]) -> u32
+    ensures { λ n. ⌜ Checks p (now (g .entry)) (now (h .entry)) rows n ⌝ }
+{
+    let e = series::open_with_series(p, g, h);
+    let n = e.refusal;
+    if n != 0 {
+        return n;
+    }
+    let ok = accepts::accepts(e.cubic, rows);
+    if ok { 0 } else { 9 }
 }

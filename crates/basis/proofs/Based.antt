@@ -58,6 +58,9 @@ module _ {F : Frame} {q : Pair} {top : ℕ} {d x1 y1 : List ℕ} (g : BasisIn F 
   pub based-clear : ClearIn F q top lu
   based-clear = subst (λ n. ClearIn F q top n) (sym lu-is) (g .clear)
 
+  pub based-u : {s : ℕ} → s < F .p → ScaleIn (F .p) s d
+  based-u l = record { modulus = g .clear .room .fine .modulus; hc = l; hx = g .hd .is-row }
+
   module _ {o : Ends} (h : Reduced F q top lu o) where
     pub based-part : PartIn F (o .nb) (o .nc) top
     based-part = part-in (g .clear .room) (rows-of (h .hn))
@@ -83,9 +86,6 @@ module _ {F : Frame} {q : Pair} {top : ℕ} {d x1 y1 : List ℕ} (g : BasisIn F 
           }
 
       module _ {k : Factors} (hk : Scaling (F .p) (getD d (lu - 1) 0) (getD (o .mx) (o .lx - 1) 0) y k) where
-        pub based-u : ScaleIn (F .p) (k .u) d
-        based-u = record { modulus = g .clear .room .fine .modulus; hc = hk .u-low; hx = g .hd .is-row }
-
         module _ {u : List ℕ} (su : Scaled (F .p) (k .u) d u) where
           -- U leads with 1
           u-lead : (pr : Prime (F .p)) → reading (F .p) pr .𝓥 .Lead (row (reading (F .p) pr) u) (g .u) 0 (reading (F .p) pr .𝓥 .K .ops .𝟏)
@@ -146,11 +146,11 @@ module _ {F : Frame} {q : Pair} {top : ℕ} {d x1 y1 : List ℕ} (g : BasisIn F 
                 u-size = u-size;
               }
 
-          pub place-m : PlaceIn (F .p) 0 (k .m) (o .mb) (o .mc) (o .mx) x1 y1 u
-          place-m = place 0 (k .m) (omega arith) (hk .m-low) (h .hm)
+          pub place-m : {s : ℕ} → s < F .p → PlaceIn (F .p) 0 s (o .mb) (o .mc) (o .mx) x1 y1 u
+          place-m {s} l = place 0 s (omega arith) l (h .hm)
 
-          pub place-n : PlaceIn (F .p) 3 (k .n) (o .nb) (o .nc) (o .nx) x1 y1 u
-          place-n = place 3 (k .n) (omega arith) (hk .n-low) (h .hn)
+          pub place-n : {s : ℕ} → s < F .p → PlaceIn (F .p) 3 s (o .nb) (o .nc) (o .nx) x1 y1 u
+          place-n {s} l = place 3 s (omega arith) l (h .hn)
 
           pub place-u : StoreIn 6 u
           place-u = record { row = omega arith; each = λ j. let w : getD u j 0 < F .p = su .is-row .each j in let s : F .p ≤ 65535 = g .small in omega arith }

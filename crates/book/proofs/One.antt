@@ -2,19 +2,23 @@
 --   tells-one    the check: number, inner reason, entry and inner number
 --   ask-one      asking for an entry
 --   part-one     the part that is handed out
---   answer-one, request-one    what the numbers say settles the code's answer
+--   reason-one, answer-one, request-one    what the numbers say settles the code's answer
+--   judge-one, earliest-one    judging a body by itself; the first entry of one field with it
 use mathlib.Core.Path.{_≡_, refl, sym, ap, _∙_, subst}
 use mathlib.Core.List.{List}
-use Prim.Native.Nat.{ℕ, zero, suc, _<_}
+use Prim.Native.Nat.{ℕ, zero, suc, _<_, _≤_}
 use native.Mathlib.Omega.{arith}
 use native.Mathlib.Decide.{decLt}
 use Rattle.field.proofs.Stages.{refusal-one}
 use Rattle.book_body.specs.Said.{Said, malformed}
-use Rattle.book_body.specs.Body.{Body, FieldSays, bodyOf}
+use Rattle.book_body.specs.Body.{Body, FieldSays, bodyOf, Finished}
 use Rattle.book.specs.Book.{Sound, Accepted, entry}
-use Rattle.book.specs.Answer.{answerSays, requestSays, BodyFault, Fault, Tells, AskTells, AskedPart, rule, field, body, twice, mark, contents, at-entry, fine, book, no-entry, there, found, empty}
+use Rattle.book.specs.Code.{Earliest, JudgeTells}
+use Rattle.book.specs.Answer.{reasonSays, answerSays, requestSays, BodyFault, Fault, Tells, AskTells, AskedPart, rule, field, body, twice, mark, contents, at-entry, fine, book, no-entry, there, found, empty}
 use Rattle.book.specs.declared.Reason.{Reason}
 use Rattle.book.specs.declared.Reason.the-variants.{Mark, Contents, BodyRule, Field, Twice}
+use Rattle.book.specs.declared.Seen.{Seen}
+use Rattle.book.specs.declared.Seen.the-variants.{Good, Bad}
 use Rattle.book.specs.declared.Answer.{Answer}
 use Rattle.book.specs.declared.Answer.the-variants.{Yes, Refused}
 use Rattle.book.specs.declared.Request.{Request}
@@ -92,13 +96,16 @@ module _ (s : List ℕ) where
   part-one (empty f e) (empty g u) = e ∙ sym u
 
 -- ---- the code's answer out of the numbers
-reason : ℕ → ℕ → ℕ → Reason
+unfoldable pub reason : ℕ → ℕ → ℕ → Reason
 reason zero i j = Mark
 reason (suc zero) i j = Mark
 reason (suc (suc zero)) i j = Contents
 reason (suc (suc (suc zero))) i j = BodyRule i
 reason (suc (suc (suc (suc zero)))) i j = Field i j
 reason (suc (suc (suc (suc (suc n))))) i j = Twice i j
+
+abbrev pub reasonOf : Said → Reason
+reasonOf x = reason (x .reason) (x .entry) (x .other)
 
 abbrev answer : ℕ → Reason → Answer
 answer zero why = Yes
@@ -110,10 +117,18 @@ request (suc k) zero why = asked.NoEntry
 request (suc k) (suc n) why = asked.Refused why
 
 abbrev answerOf : Said → Answer
-answerOf x = answer (x .number) (reason (x .reason) (x .entry) (x .other))
+answerOf x = answer (x .number) (reasonOf x)
 
 abbrev requestOf : Said → Request
-requestOf x = request (x .number) (x .reason) (reason (x .reason) (x .entry) (x .other))
+requestOf x = request (x .number) (x .reason) (reasonOf x)
+
+pub reason-back : (a : Reason) → reasonOf (reasonSays a) ≡ a
+unfolding reason
+reason-back Mark = refl
+reason-back Contents = refl
+reason-back (BodyRule i) = refl
+reason-back (Field i n) = refl
+reason-back (Twice i j) = refl
 
 answer-back : (a : Answer) → answerOf (answerSays a) ≡ a
 unfolding reason
@@ -134,8 +149,30 @@ request-back (asked.Refused (BodyRule i)) = refl
 request-back (asked.Refused (Field i n)) = refl
 request-back (asked.Refused (Twice i j)) = refl
 
+pub reason-one : (a b : Reason) → reasonSays a ≡ reasonSays b → a ≡ b
+reason-one a b e = sym (reason-back a) ∙ ap reasonOf e ∙ reason-back b
+
 pub answer-one : (a b : Answer) → answerSays a ≡ answerSays b → a ≡ b
 answer-one a b e = sym (answer-back a) ∙ ap answerOf e ∙ answer-back b
 
 pub request-one : (a b : Request) → requestSays a ≡ requestSays b → a ≡ b
 request-one a b e = sym (request-back a) ∙ ap requestOf e ∙ request-back b
+
+-- ---- whole answers
+pub finished-no : {b : List ℕ} {i : ℕ} {x : Said} → Finished b → BodyFault b i x → ⊥
+finished-no f (rule g e) = g (f .formed)
+finished-no {b} f (field g n h o e) = h (field-one (bodyOf b) n 0 o (f .field))
+
+pub judge-one : (b : List ℕ) (i : ℕ) (r q : Seen) → JudgeTells b i r → JudgeTells b i q → r ≡ q
+judge-one b i Good Good t u = refl
+judge-one b i Good (Bad why) t u = absurd (finished-no (record { formed = t .0; field = t .1 }) u)
+judge-one b i (Bad why) Good t u = absurd (finished-no (record { formed = u .0; field = u .1 }) t)
+judge-one b i (Bad why) (Bad wer) t u = ap Bad (reason-one why wer (body-one t u))
+
+pub earliest-one : {s : List ℕ} {b : Body} {i j k : ℕ} → Earliest s b i j → Earliest s b i k → j ≡ k
+earliest-one {s} {b} {i} {j} {k} t u = least (decLt j k) (decLt k j)
+  where
+    least : Dec (j < k) → Dec (k < j) → j ≡ k
+    least (yes a) c = let h : k ≤ i = u .within in absurd (u .none j a (t .found (omega arith)))
+    least (no a) (yes c) = let h : j ≤ i = t .within in absurd (t .none k c (u .found (omega arith)))
+    least (no a) (no c) = omega arith

@@ -14,7 +14,7 @@ use Rattle.book_body.proofs.Field.{fits}
 use Rattle.book.specs.Book.{mark, Marked, Listed, count, startAt, lengthAt, ends, part, entry, Accepted}
 use Rattle.book.specs.Value.{valueOf, table, bodies, bookBytes, none, at, Obeys, Written}
 use Rattle.book.proofs.Facts.{ends-zero}
-use Rattle.book.proofs.Value.{book-obeys, book-back}
+use Rattle.book.proofs.Value.{length-rows, at-rows, book-obeys, book-back}
 
 -- ---- the writing of a value that obeys the rules is accepted, and reads back
 -- where the body i starts in the writing
@@ -209,6 +209,13 @@ module _ (bs : List Body) (o : Obeys bs) where
 
   pub written-count : count w ≡ length bs
   written-count = count-w
+
+  pub value-back : valueOf w ≡ bs
+  value-back =
+      let c : count w ≡ length bs = count-w in
+      let n : length (valueOf w) ≡ count w = length-rows w 0 (count w) in
+      ext-getD none (valueOf w) bs (n ∙ c)
+      (λ i h. (let u : i < count w = omega arith in let v : 0 + i ≡ i = omega arith in at-rows w 0 (count w) i u ∙ ap (entry w) v ∙ reads-back i (omega arith)))
 
 -- ---- the theorem
 -- bytes are accepted exactly when they are the writing of a value that obeys the rules

@@ -5,3 +5,4 @@ pub mod New
 pub mod Put
 pub mod Adding
 pub mod One
+pub mod Accepted

@@ -4,7 +4,7 @@ use mathlib.Core.Logic.{inl, inr}
 use mathlib.Core.List.{List}
 use Prim.Native.Nat.{ℕ, _<_, _≤_}
 use native.Mathlib.Omega.{arith}
-use Rattle.book_body.specs.Body.{FieldSays, bodyOf, Formed}
+use Rattle.book_body.specs.Body.{FieldSays, bodyOf, Formed, Finished}
 use Rattle.book.specs.Book.{count, Accepted}
 use Rattle.book.specs.Answer.{reasonSays, answerSays, BodyFault, Tells}
 use Rattle.book.specs.Code.{Earliest, JudgeTells}
@@ -15,7 +15,6 @@ use Rattle.book.specs.declared.Answer.{Answer}
 use Rattle.book.specs.declared.Answer.the-variants.{Refused}
 use Rattle.book.specs.declared.Seen.{Seen}
 use Rattle.book.specs.declared.Seen.the-variants.{Bad}
-use Rattle.book_add.specs.Add.{Finished}
 use Rattle.book_add.specs.Code.{VerdictTells}
 use Rattle.book_add.specs.declared.Verdict.the-variants.{May, No, Has}
 

@@ -1,19 +1,49 @@
 -- The outcome of adding is settled by the slice, the book's length and the body.
-use mathlib.Core.Path.{_≡_, sym, _∙_}
+--   add-one       what is said, and the slice
+--   added-one     the answer itself, and the slice
+--   verdict-one   whether a body may be added
+use mathlib.Core.Path.{_≡_, refl, sym, ap, _∙_}
 use mathlib.Core.Logic.{_⊎_, inl, inr}
 use mathlib.Core.List.{List}
-use Prim.Native.Nat.{ℕ, _<_, _≤_}
+use Prim.Native.Nat.{ℕ, zero, suc, _-_, _<_, _≤_}
 use native.Mathlib.Omega.{arith}
 use lib.ListN.{length, take}
 use Rattle.book_body.specs.Said.{Said}
-use Rattle.book_body.specs.Body.{bodyOf}
-use Rattle.book.specs.Answer.{BodyFault, rule, field}
-use Rattle.book.proofs.One.{tells-one, body-one, field-one}
-use Rattle.book_add.specs.Add.{Finished, AddTells, newLength, length-out, book, body, known, short, added}
+use Rattle.book_body.specs.Body.{Finished}
+use Rattle.book.specs.Book.{Accepted}
+use Rattle.book.proofs.One.{tells-one, body-one, finished-no, reason, reasonOf, reason-one}
+use Rattle.book.specs.declared.Reason.{Reason}
+use Rattle.book.specs.declared.Reason.the-variants.{Mark, Contents, BodyRule, Field, Twice}
+use Rattle.book_add.specs.Code.{VerdictTells}
+use Rattle.book_add.specs.declared.Added.{Added}
+use Rattle.book_add.specs.declared.Added.the-variants.{Length, LengthOut, Refused, Known, Short}
+use Rattle.book_add.specs.declared.Verdict.{Verdict}
+use Rattle.book_add.specs.declared.Verdict.the-variants.{May, No, Has}
+use Rattle.book_add.specs.Add.{addedSays, AddTells, newLength, length-out, book, body, known, short, added}
 
-finished-no : {b : List ℕ} {i : ℕ} {x : Said} → Finished b → BodyFault b i x → ⊥
-finished-no f (rule g e) = g (f .formed)
-finished-no {b} f (field g n h o e) = h (field-one (bodyOf b) n 0 o (f .field))
+-- ---- the code's answer out of the numbers: 0, 11, 13, 14 and 15
+abbrev answer : ℕ → ℕ → Reason → Added
+answer zero n why = Length n
+answer (suc zero) n why = Short
+answer (suc (suc zero)) n why = Short
+answer (suc (suc (suc zero))) n why = Refused why
+answer (suc (suc (suc (suc zero)))) n why = LengthOut
+answer (suc (suc (suc (suc (suc k))))) n why = Known
+
+abbrev addedOf : Said → Added
+addedOf x = answer (x .number - 10) (x .result) (reasonOf x)
+
+added-back : (r : Added) → addedOf (addedSays r) ≡ r
+unfolding reason
+added-back (Length m) = refl
+added-back LengthOut = refl
+added-back (Refused Mark) = refl
+added-back (Refused Contents) = refl
+added-back (Refused (BodyRule i)) = refl
+added-back (Refused (Field i n)) = refl
+added-back (Refused (Twice i j)) = refl
+added-back Known = refl
+added-back Short = refl
 
 module _ (d : List ℕ) (n : ℕ) (b : List ℕ) where
   no-room : (length d < newLength n b) ⊎ (65536 < newLength n b) → newLength n b ≤ length d → newLength n b ≤ 65536 → ⊥
@@ -57,3 +87,34 @@ module _ (d : List ℕ) (n : ℕ) (b : List ℕ) where
   add-one (added h f i w z c p q) (known k a g j l o u v) = absurd (w j l o)
   add-one (added h f i w z c p q) (short k a g l r u v) = absurd (no-room r z c)
   add-one (added h f i w z c p q) (added k a g l r m u v) = (p ∙ sym u, q ∙ sym v)
+
+  pub added-one : (r q : Added) {e f : List ℕ} → AddTells d n b (addedSays r) e → AddTells d n b (addedSays q) f → (r ≡ q) × (e ≡ f)
+  added-one r q t u = let w = add-one t u in (sym (added-back r) ∙ ap addedOf (w .0) ∙ added-back q, w .1)
+
+-- ---- whether a body may be added
+module _ (s b : List ℕ) where
+  -- May and Has
+  apart : {c : ℕ} → VerdictTells s b (May c) → VerdictTells s b Has → ⊥
+  apart t u = t .3 (u .2 .0) (u .2 .1) (u .2 .2)
+
+  -- No and the other two
+  refused : (why : Reason) → VerdictTells s b (No why) → Accepted s → Finished b → ⊥
+  refused why (inl w) a f = w .0 a
+  refused why (inr w) a f = finished-no f (w .1)
+
+  why-one : (why wer : Reason) → VerdictTells s b (No why) → VerdictTells s b (No wer) → why ≡ wer
+  why-one why wer (inl w) (inl z) = reason-one why wer (tells-one s (w .1) (z .1))
+  why-one why wer (inl w) (inr z) = absurd (w .0 (z .0))
+  why-one why wer (inr w) (inl z) = absurd (z .0 (w .0))
+  why-one why wer (inr w) (inr z) = reason-one why wer (body-one (w .1) (z .1))
+
+  pub verdict-one : (r q : Verdict) → VerdictTells s b r → VerdictTells s b q → r ≡ q
+  verdict-one (May c) (May k) t u = ap May (t .0 ∙ sym (u .0))
+  verdict-one (May c) (No why) t u = absurd (refused why u (t .1) (t .2))
+  verdict-one (May c) Has t u = absurd (apart t u)
+  verdict-one (No why) (May k) t u = absurd (refused why t (u .1) (u .2))
+  verdict-one (No why) (No wer) t u = ap No (why-one why wer t u)
+  verdict-one (No why) Has t u = absurd (refused why t (u .0) (u .1))
+  verdict-one Has (May k) t u = absurd (apart u t)
+  verdict-one Has (No why) t u = absurd (refused why u (t .0) (t .1))
+  verdict-one Has Has t u = refl

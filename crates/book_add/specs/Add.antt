@@ -1,5 +1,4 @@
 -- Adding a finished body to a book that stands in a lent slice.
---   Finished b          the body's bytes b obey the body rule and their field is accepted
 --   Unlisted s b        no entry of the book s is of one field with b
 --   newLength n b       the old length + a contents entry + the body
 --   newBook s b         the book s with the body b last
@@ -7,23 +6,20 @@
 --   AddTells d n b x d' adding b to the book of length n in the slice d, which is d' then, says x: 14 when the length exceeds the
 --                       slice; 13 for the book; 13 for the body, with the old count as its entry; 15; 11 when there is too little room
 --                       in the slice or in 65,536 bytes; else the new length, and only the book's new extent is changed
--- That x and d' are settled by d, n and b is `add-one`, in proofs/One.antt.
+-- That x and d', and the answer itself, are settled by d, n and b is `add-one` and `added-one`, in proofs/One.antt; that after 0 the
+-- new book is accepted and says the old bodies and the new one is `added-accepted`, in proofs/Accepted.antt.
 use mathlib.Core.Path.{_≡_}
 use mathlib.Core.Logic.{_⊎_}
 use mathlib.Core.List.{List, [], _∷_, _++_}
 use Prim.Native.Nat.{ℕ, _+_, _<_, _≤_}
 use lib.ListN.{length, take, drop}
 use Rattle.book_body.specs.Said.{Said, passed, refused}
-use Rattle.book_body.specs.Body.{FieldSays, OneField, bodyOf, Formed}
+use Rattle.book_body.specs.Body.{OneField, bodyOf, Finished}
 use Rattle.book.specs.Book.{width, count, entry, Accepted}
 use Rattle.book.specs.Value.{bookBytes, valueOf}
 use Rattle.book.specs.Answer.{reasonSays, BodyFault, Tells}
 use Rattle.book_add.specs.declared.Added.{Added}
 use Rattle.book_add.specs.declared.Added.the-variants.{Length, LengthOut, Refused, Known, Short}
-
-pub record Finished (b : List ℕ) : Type 0 where
-  pub formed : Formed b
-  pub field : FieldSays (bodyOf b) 0
 
 abbrev pub Unlisted : List ℕ → List ℕ → Type 0
 Unlisted s b = (j : ℕ) → j < count s → OneField (bodyOf b) (entry s j) → ⊥

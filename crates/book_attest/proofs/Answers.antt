@@ -4,7 +4,7 @@ use mathlib.Core.List.{List}
 use Prim.Native.Nat.{ℕ, _<_}
 use native.Mathlib.Omega.{arith}
 use Rattle.book_body.specs.Said.{Said, passed, refused}
-use Rattle.book_body.specs.Body.{bodyOf}
+use Rattle.book_body.specs.Body.{bodyOf, Finished}
 use Rattle.book.specs.Book.{count, part, Accepted}
 use Rattle.book.specs.Answer as asking
 use Rattle.book.specs.Answer.{reasonSays, requestSays, Tells, AskTells}
@@ -13,7 +13,6 @@ use Rattle.book.specs.declared.Reason.{Reason}
 use Rattle.book.specs.declared.Request.{Request}
 use Rattle.book.specs.declared.Request.the-variants as asked
 use Rattle.book_attest.specs.Attest.{Attested, AttestTells, book, no-entry, yes, no}
-use Rattle.book_attest.specs.Code.{Finished}
 
 number-of : {x y : Said} → x ≡ y → x .number ≡ y .number
 number-of = ap (λ (z : Said). z .number)

@@ -25,10 +25,10 @@ use Rattle.field.proofs.Accept.{accepted}
 use Rattle.book_bytes.specs.Decides.{Decides}
 use Rattle.book_bytes.proofs.Tests.{answer-yes, answer-no}
 use Rattle.book_body.specs.Said.{Said}
-use Rattle.book_body.specs.Body.{listAt, bodyOf, UnitList}
+use Rattle.book_body.specs.Body.{listAt, bodyOf, Finished}
 use Rattle.book_body.specs.Code.{ListTells, read, none, short}
 use Rattle.book_attest.specs.Attest.{NonZeroConstant, norm, Attested}
-use Rattle.book_attest.specs.Code.{Long, Finished, LoadIn, Loaded, NormIn, Norm, BodyNormIn, BodyNorm}
+use Rattle.book_attest.specs.Code.{Long, LoadIn, Loaded, NormIn, Norm, BodyNormIn, BodyNorm}
 
 -- ---- one list
 -- zeros after a list do not show

@@ -1,11 +1,17 @@
--- The bytes settle what attesting says.
-use mathlib.Core.Path.{_≡_, sym, _∙_}
+-- The bytes settle the answer to attesting.
+--   attest-one        what it says
+--   attestation-one   the answer itself
+use mathlib.Core.Path.{_≡_, refl, sym, ap, _∙_}
 use mathlib.Core.List.{List}
-use Prim.Native.Nat.{ℕ}
+use Prim.Native.Nat.{ℕ, zero, suc, _-_}
 use native.Mathlib.Omega.{arith}
 use Rattle.book_body.specs.Said.{Said}
-use Rattle.book.proofs.One.{tells-one}
-use Rattle.book_attest.specs.Attest.{AttestTells, book, no-entry, yes, no}
+use Rattle.book.proofs.One.{tells-one, reason, reasonOf}
+use Rattle.book.specs.declared.Reason.{Reason}
+use Rattle.book.specs.declared.Reason.the-variants.{Mark, Contents, BodyRule, Field, Twice}
+use Rattle.book_attest.specs.Attest.{attestSays, AttestTells, book, no-entry, yes, no}
+use Rattle.book_attest.specs.declared.Attestation.{Attestation}
+use Rattle.book_attest.specs.declared.Attestation.the-variants.{Yes, No, Refused, NoEntry}
 
 pub attest-one : (s : List ℕ) (i : ℕ) (x y : Said) → AttestTells s i x → AttestTells s i y → x ≡ y
 attest-one s i x y (book f t) (book g u) = tells-one s t u
@@ -24,3 +30,27 @@ attest-one s i x y (no a l w e) (book f t) = absurd (f a)
 attest-one s i x y (no a l w e) (no-entry b k g) = absurd (omega arith)
 attest-one s i x y (no a l w e) (yes b k v g) = absurd (w v)
 attest-one s i x y (no a l w e) (no b k v g) = e ∙ sym g
+
+-- ---- the code's answer out of the numbers: 0 with the result, 13 and 14
+abbrev answer : ℕ → ℕ → Reason → Attestation
+answer zero zero why = No
+answer zero (suc r) why = Yes
+answer (suc zero) r why = Refused why
+answer (suc (suc n)) r why = NoEntry
+
+abbrev attestOf : Said → Attestation
+attestOf x = answer (x .number - 12) (x .result) (reasonOf x)
+
+attest-back : (a : Attestation) → attestOf (attestSays a) ≡ a
+unfolding reason
+attest-back Yes = refl
+attest-back No = refl
+attest-back (Refused Mark) = refl
+attest-back (Refused Contents) = refl
+attest-back (Refused (BodyRule i)) = refl
+attest-back (Refused (Field i n)) = refl
+attest-back (Refused (Twice i j)) = refl
+attest-back NoEntry = refl
+
+pub attestation-one : (s : List ℕ) (i : ℕ) (a b : Attestation) → AttestTells s i (attestSays a) → AttestTells s i (attestSays b) → a ≡ b
+attestation-one s i a b t u = sym (attest-back a) ∙ ap attestOf (attest-one s i (attestSays a) (attestSays b) t u) ∙ attest-back b

@@ -1,6 +1,5 @@
 -- What the code's own functions ask of and promise each other. Polynomials are `row` of lists (crate reading).
 --   Long p n l                  n numbers below p
---   Finished s                  the body's bytes s obey the body rule and their field is accepted
 --   load        Loaded          the slice holds list k of the body, zeros above it
 --   product4    Product4        the product of f, z, x and y
 --   terms       Terms           a³ + ghh b³ + ggh c³ − 3 gh a b c
@@ -18,7 +17,7 @@ use Rattle.reading.specs.Reading.{Reading}
 use Rattle.reading.specs.Made.{reading}
 use Rattle.reading.specs.Row.{row}
 use Rattle.slice_poly.specs.Slice.{Small}
-use Rattle.book_body.specs.Body.{FieldSays, listAt, bodyOf, Formed}
+use Rattle.book_body.specs.Body.{listAt, bodyOf, Finished}
 use Rattle.book_attest.specs.Attest.{norm}
 
 -- the places of the norm
@@ -28,10 +27,6 @@ places = 12327
 pub record Long (p n : ℕ) (l : List ℕ) : Type 0 where
   pub small : Small p l
   pub size : length l ≡ n
-
-pub record Finished (s : List ℕ) : Type 0 where
-  pub formed : Formed s
-  pub field : FieldSays (bodyOf s) 0
 
 pub record LoadIn (s : List ℕ) (k : ℕ) (d : List ℕ) : Type 0 where
   pub list : k < 5

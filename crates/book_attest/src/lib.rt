@@ -5,9 +5,9 @@
 ghost use mathlib.Core.Path.{_≡_};
 ghost use Prim.Native.Nat.{_<_};
 ghost use Rattle.book_bytes.specs.Decides.{Decides};
-ghost use Rattle.book_body.specs.Body.{bodyOf};
+ghost use Rattle.book_body.specs.Body.{bodyOf, Finished};
 ghost use Rattle.book_attest.specs.Attest.{Attested, attestSays, AttestTells};
-ghost use Rattle.book_attest.specs.Code.{LoadIn, Loaded, FactorsIn, Product4, TermsIn, Terms, NormIn, Norm, BodyNormIn, BodyNorm, Finished};
+ghost use Rattle.book_attest.specs.Code.{LoadIn, Loaded, FactorsIn, Product4, TermsIn, Terms, NormIn, Norm, BodyNormIn, BodyNorm};
 
 // The answer to attesting an entry: yes or no; 13 with the reason; 14.
 pub enum Attestation {

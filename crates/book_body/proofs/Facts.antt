@@ -1,58 +1,22 @@
 -- The code's tests against the definitions: the rule of an E list, the body rule, of one field.
-use mathlib.Core.Path.{_≡_, refl, sym, ap, _∙_}
+use mathlib.Core.Path.{_≡_, sym, ap, _∙_, subst}
 use mathlib.Core.Logic.{_≢_}
+use mathlib.Core.Bool.{Bool}
 use mathlib.Core.List.{List, _++_}
 use Prim.Native.Nat.{ℕ, _+_, _-_, _*_, _%_, _<_, _≤_}
 use native.Mathlib.Omega.{arith}
-use lib.ListN.{length, getD, drop}
-use lib.Seq.{sets-eq}
+use lib.ListN.{length, getD, take, drop}
+use lib.Seq.{sets-eq, take-at}
 use Rattle.book_bytes.specs.Bytes.{u2, u4, Put}
-use Rattle.book_bytes.proofs.Lists.{length-list, list-read, list-last}
+use Rattle.book_bytes.specs.Decides.{Decides}
+use Rattle.book_bytes.proofs.Lists.{length-list, list-last}
 use Rattle.book_body.specs.Body.{UnitList, FirstList, OneField, listStart, listAt, bodyOf, Formed}
 use Rattle.book_body.specs.Said.{passed}
 use Rattle.book_body.specs.Code.{ListTells, read}
 
-module _ (s : List ℕ) (k n : ℕ) (m : n ≡ u2 s (2 + 2 * k)) (p : ℕ) where
-  pub row-some : n ≡ 0 → UnitList p (listAt s k) → ⊥
-  row-some e r = let a : 0 < length (listAt s k) = r .some in let b : length (listAt s k) ≡ u2 s (2 + 2 * k) = length-list 16 2 s k in omega arith
-
-  pub row-short : 4096 < n → UnitList p (listAt s k) → ⊥
-  row-short e r = let a : length (listAt s k) ≤ 4096 = r .short in let b : length (listAt s k) ≡ u2 s (2 + 2 * k) = length-list 16 2 s k in omega arith
-
--- ---- a list's rule, as the code goes through it
-pub record RowKnown (s : List ℕ) (k p n at top : ℕ) : Type 0 where
-  pub prime : p ≡ u2 s 0
-  pub size : n ≡ u2 s (2 + 2 * k)
-  pub place : at ≡ listStart s k
-  pub low : at < 2000000
-  pub some : 0 < n
-  pub short : n ≤ 4096
-  pub high : top ≡ u2 s (at + 2 * (n - 1))
-  pub last : top ≢ 0
-
-pub row-last-no : (s : List ℕ) (k n at top p : ℕ) → n ≡ u2 s (2 + 2 * k) → 0 < n → at ≡ listStart s k → top ≡ u2 s (at + 2 * (n - 1)) → top ≡ 0
-    → UnitList p (listAt s k) → ⊥
-row-last-no s k n at top p m h e f z r = r .last (sym (list-last 16 2 s k n at top m h e f) ∙ z)
-
-pub row-each-no : (s : List ℕ) (k p n at top i v : ℕ) → RowKnown s k p n at top → i < n → v ≡ u2 s (at + 2 * i) → p ≤ v → UnitList (u2 s 0) (listAt s k) → ⊥
-row-each-no s k p n at top i v w h e z r =
-    let l : length (listAt s k) ≡ u2 s (2 + 2 * k) = length-list 16 2 s k in
-    let d : v ≡ getD (listAt s k) i 0 = list-read 16 2 s k i at v (omega arith) (w .place) e in
-    let b : getD (listAt s k) i 0 < u2 s 0 = r .each i (omega arith) in
-    omega arith
-
-pub row-yes : (s : List ℕ) (k p n at top : ℕ) → RowKnown s k p n at top → ((j : ℕ) → j < n → u2 s (at + 2 * j) < p) → UnitList (u2 s 0) (listAt s k)
-row-yes s k p n at top w f =
-    let l : length (listAt s k) ≡ u2 s (2 + 2 * k) = length-list 16 2 s k in
-    record {
-      some = omega arith;
-      short = omega arith;
-      each = λ i h.
-          (let d : u2 s (at + 2 * i) ≡ getD (listAt s k) i 0 = list-read 16 2 s k i at (u2 s (at + 2 * i)) (omega arith) (w .place) refl in
-          let b : u2 s (at + 2 * i) < p = f i (omega arith) in
-          omega arith);
-      last = λ z. w .last (list-last 16 2 s k n at top (w .size) (w .some) (w .place) (w .high) ∙ z);
-    }
+-- ---- a list's rule
+pub row-short : (s : List ℕ) (k n p : ℕ) → n ≡ u2 s (2 + 2 * k) → 4096 < n → UnitList p (listAt s k) → ⊥
+row-short s k n p m e r = let a : length (listAt s k) ≤ 4096 = r .short in let b : length (listAt s k) ≡ u2 s (2 + 2 * k) = length-list 16 2 s k in omega arith
 
 -- ---- the rule of E0
 module _ (s : List ℕ) where
@@ -138,10 +102,24 @@ module _ (s t : List ℕ) where
   one-yes p q a b e g h = record { p = sym a ∙ e ∙ b; g = g; h = h }
 
 -- ---- a list read out
-pub list-got : (s : List ℕ) (k : ℕ) (d d' : List ℕ) (r : ℕ) → k < 5 → u2 s (2 + 2 * k) ≤ length d → Put d 0 (listAt s k) (u2 s (2 + 2 * k)) r d' → ListTells s k d (passed r) d'
-list-got s k d d' r h l q =
-    let n : length (listAt s k) ≡ u2 s (2 + 2 * k) = length-list 16 2 s k in
-    let e : r ≡ 0 + u2 s (2 + 2 * k) = q .next in
-    let m : r ≡ length (listAt s k) = omega arith in
-    let z : 0 + length (listAt s k) ≡ length (listAt s k) = omega arith in
-    read h (omega arith) (ap passed m) (q .done ∙ sets-eq (listAt s k) d 0 (omega arith) ∙ ap (λ (j : ℕ). listAt s k ++ drop j d) z)
+module _ (s : List ℕ) (k : ℕ) (d d' : List ℕ) (r : ℕ) (h : u2 s (2 + 2 * k) ≤ length d) (q : Put d 0 (listAt s k) (u2 s (2 + 2 * k)) r d') where
+  read-long : length (listAt s k) ≡ r
+  read-long = let n : length (listAt s k) ≡ u2 s (2 + 2 * k) = length-list 16 2 s k in let e : r ≡ 0 + u2 s (2 + 2 * k) = q .next in omega arith
+
+  read-whole : d' ≡ listAt s k ++ drop (length (listAt s k)) d
+  read-whole =
+      let n : length (listAt s k) ≡ u2 s (2 + 2 * k) = length-list 16 2 s k in
+      let z : 0 + length (listAt s k) ≡ length (listAt s k) = omega arith in
+      q .done ∙ sets-eq (listAt s k) d 0 (omega arith) ∙ ap (λ (j : ℕ). listAt s k ++ drop j d) z
+
+  read-front : take r d' ≡ listAt s k
+  read-front = ap (take r) read-whole ∙ take-at (listAt s k) (drop (length (listAt s k)) d) r read-long
+
+  pub read-count : r ≡ length (take r d')
+  read-count = sym (ap length read-front ∙ read-long)
+
+  pub row-decided : (p : ℕ) (b : Bool) → p ≡ u2 s 0 → Decides b (UnitList p (take r d')) → Decides b (UnitList (u2 s 0) (listAt s k))
+  row-decided p b e w = subst (λ (x : ℕ). Decides b (UnitList x (listAt s k))) e (subst (λ (l : List ℕ). Decides b (UnitList p l)) read-front w)
+
+  pub list-got : k < 5 → ListTells s k d (passed r) d'
+  list-got l = let n : length (listAt s k) ≡ u2 s (2 + 2 * k) = length-list 16 2 s k in read l (omega arith) (ap passed (sym read-long)) read-whole

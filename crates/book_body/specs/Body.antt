@@ -8,6 +8,7 @@
 --   bodyBytes b     the body's bytes: p, the lengths of the lists, the period, the lists
 --   bodyOf s        the value that bytes say
 --   Formed s        the bytes' length is right, and what they say obeys the body rule
+--   Finished s      they are formed, and their field is accepted
 -- That a body written reads back, and that bytes of the right length are the writing of what they say, is in proofs/Body.antt.
 use mathlib.Core.Path.{_≡_}
 use mathlib.Core.Logic.{_≢_}
@@ -89,3 +90,7 @@ bodyOf s = record {
 pub record Formed (s : List ℕ) : Type 0 where
   pub size : length s ≡ listStart s 5
   pub rule : Rule (bodyOf s)
+
+pub record Finished (s : List ℕ) : Type 0 where
+  pub formed : Formed s
+  pub field : FieldSays (bodyOf s) 0

@@ -21,32 +21,44 @@ pub enum Got {
 }
 
 // A list of a unit: its rule.
-fn unit_list(s: &[u8], k: usize) -> bool
-    requires { ⌜ k < 5 ⌝ }
-    ensures { λ r. ⌜ Decides r (UnitList (u2 (now (s .entry)) 0) (listAt (now (s .entry)) k)) ⌝ }
+pub fn unit_list(p: u64, l: &[u64]) -> bool
+    ensures { λ r. ⌜ Decides r (UnitList p (now (l .entry))) ⌝ }
 {
-    let p = book_bytes::two(s, 0);
-    let n = book_bytes::two(s, LENGTHS + 2 * k);
-    let at = book_bytes::start(s, HEAD, LENGTHS, k);
+    let n = l.len();
     if n == 0 {
         return false;
     }
     if n > 4096 {
         return false;
     }
-    let top = book_bytes::two(s, at + 2 * (n - 1));
+    let top = l[n - 1];
     if top == 0 {
         return false;
     }
     let mut i: usize = 0;
     while i < n {
-        let v = book_bytes::two(s, at + 2 * i);
+        let v = l[i];
         if v >= p {
             return false;
         }
         i += 1;
     }
     true
+}
+
+// The same of list k of a body.
+fn unit_at(s: &[u8], k: usize) -> bool
+    requires { ⌜ k < 5 ⌝ }
+    ensures { λ r. ⌜ Decides r (UnitList (u2 (now (s .entry)) 0) (listAt (now (s .entry)) k)) ⌝ }
+{
+    let p = book_bytes::two(s, 0);
+    let n = book_bytes::two(s, LENGTHS + 2 * k);
+    if n > 4096 {
+        return false;
+    }
+    let mut l: [u64; 4096] = [0; 4096];
+    let m = book_bytes::read_list(s, HEAD, LENGTHS, k, &mut l);
+    unit_list(p as u64, &l[..m])
 }
 
 // Of E0 alone: an odd length of 3 or more, and monic.
@@ -83,15 +95,15 @@ pub fn body_rule(s: &[u8]) -> bool
     if t > 1000000 {
         return false;
     }
-    let r0 = unit_list(s, 2);
+    let r0 = unit_at(s, 2);
     if !r0 {
         return false;
     }
-    let r1 = unit_list(s, 3);
+    let r1 = unit_at(s, 3);
     if !r1 {
         return false;
     }
-    let r2 = unit_list(s, 4);
+    let r2 = unit_at(s, 4);
     if !r2 {
         return false;
     }

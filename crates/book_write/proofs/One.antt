@@ -1,12 +1,22 @@
 -- The outcome of writing a body is settled by the body and the slice.
-use mathlib.Core.Path.{_≡_, sym, ap, _∙_}
+--   write-one   what is said, and the slice
+--   wrote-one   the answer itself, and the slice
+use mathlib.Core.Path.{_≡_, refl, sym, ap, _∙_}
 use mathlib.Core.List.{List}
-use Prim.Native.Nat.{ℕ}
+use Prim.Native.Nat.{ℕ, _≤_}
 use native.Mathlib.Omega.{arith}
 use Rattle.field.proofs.Stages.{refusal-one}
 use Rattle.book_body.specs.Said.{Said, refused}
 use Rattle.book_body.specs.Body.{Body, FieldSays}
-use Rattle.book_write.specs.Write.{WriteTells, field, rule, short, done}
+use Rattle.book_write.specs.Write.{wroteSays, WriteTells, Numbered, field, rule, short, done}
+use Rattle.book_write.specs.declared.Wrote.{Wrote}
+use Rattle.book_write.specs.declared.Wrote.the-variants.{Length, FieldRefused, RuleBroken, Short}
+
+number-of : {x y : Said} → x ≡ y → x .number ≡ y .number
+number-of = ap (λ (z : Said). z .number)
+
+result-of : {x y : Said} → x ≡ y → x .result ≡ y .result
+result-of = ap (λ (z : Said). z .result)
 
 module _ (b : Body) (d : List ℕ) where
   one-field : (n m : ℕ) → FieldSays b n → FieldSays b m → n ≡ m
@@ -29,3 +39,25 @@ module _ (b : Body) (d : List ℕ) where
   write-one (done o h i p q) (rule u k v w) = absurd (k h)
   write-one (done o h i p q) (short u k l v w) = absurd (omega arith)
   write-one (done o h i p q) (done u k l v w) = (p ∙ sym v, q ∙ sym w)
+
+  -- answers that say the same are equal, for a field's number is neither 0 nor 11
+  same-answer : (r q : Wrote) → wroteSays r ≡ wroteSays q → Numbered r → Numbered q → r ≡ q
+  same-answer (Length n) (Length m) e h k = ap Length (result-of e)
+  same-answer (Length n) (FieldRefused j) e h k = let u = number-of e in let v : 1 ≤ j = k .0 in absurd (omega arith)
+  same-answer (Length n) RuleBroken e h k = let u = number-of e in absurd (omega arith)
+  same-answer (Length n) Short e h k = let u = number-of e in absurd (omega arith)
+  same-answer (FieldRefused i) (Length m) e h k = let u = number-of e in let v : 1 ≤ i = h .0 in absurd (omega arith)
+  same-answer (FieldRefused i) (FieldRefused j) e h k = ap FieldRefused (number-of e)
+  same-answer (FieldRefused i) RuleBroken e h k = let u = number-of e in let v : i ≤ 8 = h .1 in absurd (omega arith)
+  same-answer (FieldRefused i) Short e h k = let u = number-of e in let v : i ≤ 8 = h .1 in absurd (omega arith)
+  same-answer RuleBroken (Length m) e h k = let u = number-of e in absurd (omega arith)
+  same-answer RuleBroken (FieldRefused j) e h k = let u = number-of e in let v : j ≤ 8 = k .1 in absurd (omega arith)
+  same-answer RuleBroken RuleBroken e h k = refl
+  same-answer RuleBroken Short e h k = let u = number-of e in absurd (omega arith)
+  same-answer Short (Length m) e h k = let u = number-of e in absurd (omega arith)
+  same-answer Short (FieldRefused j) e h k = let u = number-of e in let v : j ≤ 8 = k .1 in absurd (omega arith)
+  same-answer Short RuleBroken e h k = let u = number-of e in absurd (omega arith)
+  same-answer Short Short e h k = refl
+
+  pub wrote-one : (r q : Wrote) {e f : List ℕ} → WriteTells b d (wroteSays r) e × Numbered r → WriteTells b d (wroteSays q) f × Numbered q → (r ≡ q) × (e ≡ f)
+  wrote-one r q t u = let w = write-one (t .0) (u .0) in (same-answer r q (w .0) (t .1) (u .1), w .1)

@@ -1,7 +1,8 @@
 -- Head and lists, one piece after another, are the body; what the code knows on the way.
 use mathlib.Core.Path.{_≡_, refl, sym, ap, _∙_, subst}
+use mathlib.Core.Logic.{_≢_}
 use mathlib.Core.List.{List, [], _++_, append-assoc, append-nil}
-use Prim.Native.Nat.{ℕ, _+_, _*_, _≤_}
+use Prim.Native.Nat.{ℕ, zero, suc, _+_, _*_, _≤_}
 use native.Mathlib.Omega.{arith}
 use lib.ListN.{length, drop, length-append}
 use lib.Seq.{sets-eq}
@@ -9,10 +10,11 @@ use Rattle.field.specs.Refusal.{Refusal}
 use Rattle.book_bytes.specs.Bytes.{le, words, Put}
 use Rattle.book_bytes.proofs.Read.{length-words}
 use Rattle.book_bytes.proofs.Write.{andThen}
-use Rattle.book_body.specs.Said.{passed}
+use Rattle.book_body.specs.Said.{passed, refused}
 use Rattle.book_body.specs.Body.{Body, Rule, FieldSays, bodyBytes}
 use Rattle.book_body.proofs.Field.{Fits, fits}
-use Rattle.book_write.specs.Write.{bodyFrom, WriteTells, done}
+use Rattle.book_body.proofs.One.{field-most}
+use Rattle.book_write.specs.Write.{bodyFrom, WriteTells, field, done}
 use Rattle.book_write.specs.Code.{Head, headBytes, Lists, listBytes, listLong}
 
 -- ---- the numbers of a body
@@ -85,6 +87,14 @@ done-of b d d1 d2 x r o ru m q u =
     let e : r ≡ length (bodyBytes b) = omega arith in
     let f : 0 + length (bodyBytes b) ≡ length (bodyBytes b) = omega arith in
     done o ru (omega arith) (ap passed e) (w .done ∙ sets-eq (bodyBytes b) d 0 (omega arith) ∙ ap (λ (z : ℕ). bodyBytes b ++ drop z d) f)
+
+-- the field is refused with one of its numbers
+pub field-of : (b : Body) (d : List ℕ) (n : ℕ) → n ≢ 0 → FieldSays b n → WriteTells b d (refused n) d × ((1 ≤ n) × (n ≤ 8))
+field-of b d n h o = (field n h o refl refl, (low n h, field-most b n o))
+  where
+    low : (k : ℕ) → k ≢ 0 → 1 ≤ k
+    low zero h = absurd (h refl)
+    low (suc k) h = omega arith
 
 -- ---- what the code knows once the field and the rule are passed
 pub record Known (b : Body) : Type 0 where

@@ -3,7 +3,8 @@
 --   wroteSays r               what the answer says in document 01's numbers
 --   WriteTells b d x d'       writing b into the slice d, which is d' then, says x: refusals 1 to 8; 13 (body rule, entry 0); 11 when
 --                             the slice is shorter; else the length, with the body at the front and the rest of the slice as it was
--- That x and d' are settled by b and d is `write-one`, in proofs/One.antt.
+--   Numbered r                a refusal of the field in r is one of the field's numbers, 1 to 8
+-- That x and d', and the answer itself, are settled by b and d is `write-one` and `wrote-one`, in proofs/One.antt.
 use mathlib.Core.Path.{_≡_}
 use mathlib.Core.Logic.{_≢_}
 use mathlib.Core.List.{List, _++_}
@@ -29,3 +30,9 @@ pub data WriteTells (b : Body) (d : List ℕ) (x : Said) (d' : List ℕ) : Type 
   short : FieldSays b 0 → Rule b → length d < length (bodyBytes b) → x ≡ refused 11 → d' ≡ d → WriteTells b d x d'
   done : FieldSays b 0 → Rule b → length (bodyBytes b) ≤ length d → x ≡ passed (length (bodyBytes b))
       → d' ≡ bodyBytes b ++ drop (length (bodyBytes b)) d → WriteTells b d x d'
+
+abbrev pub Numbered : Wrote → Type 0
+Numbered (Length n) = Unit {0}
+Numbered (FieldRefused k) = (1 ≤ k) × (k ≤ 8)
+Numbered RuleBroken = Unit {0}
+Numbered Short = Unit {0}

@@ -3,9 +3,9 @@ ghost use mathlib.Core.List.{[]};
 ghost use Prim.Native.Nat.{_+_, _*_, _<_};
 ghost use Rattle.book_bytes.specs.Bytes.{Put};
 ghost use Rattle.book_bytes.specs.Decides.{Decides};
-ghost use Rattle.book_body.specs.Body.{UnitList, FirstList, Rule};
+ghost use Rattle.book_body.specs.Body.{FirstList, Rule};
 ghost use Rattle.book_write.specs.Code.{Head, headBytes, Lists, listBytes, listLong};
-ghost use Rattle.book_write.specs.Write.{bodyFrom, wroteSays, WriteTells};
+ghost use Rattle.book_write.specs.Write.{bodyFrom, wroteSays, WriteTells, Numbered};
 
 // The answer to writing a body: its length; a refusal 1 to 8 of the field; 13 (body rule, entry 0); 11.
 pub enum Wrote {
@@ -51,32 +51,6 @@ fn put_lists(
     book_bytes::put_list(out, x3, c)
 }
 
-// A list of a unit that the caller hands over: its rule.
-fn unit_list(p: u64, l: &[u64]) -> bool
-    ensures { λ r. ⌜ Decides r (UnitList p (now (l .entry))) ⌝ }
-{
-    let n = l.len();
-    if n == 0 {
-        return false;
-    }
-    if n > 4096 {
-        return false;
-    }
-    let top = l[n - 1];
-    if top == 0 {
-        return false;
-    }
-    let mut i: usize = 0;
-    while i < n {
-        let v = l[i];
-        if v >= p {
-            return false;
-        }
-        i += 1;
-    }
-    true
-}
-
 // Of E0 alone: an odd length of 3 or more, and monic.
 fn first_list(l: &[u64]) -> bool
     ensures { λ r. ⌜ Decides r (FirstList (now (l .entry))) ⌝ }
@@ -105,15 +79,15 @@ fn rule_of(p: u64, t: u64, a: &[u64], b: &[u64], c: &[u64]) -> bool
     if t > 1000000 {
         return false;
     }
-    let r0 = unit_list(p, a);
+    let r0 = book_body::unit_list(p, a);
     if !r0 {
         return false;
     }
-    let r1 = unit_list(p, b);
+    let r1 = book_body::unit_list(p, b);
     if !r1 {
         return false;
     }
-    let r2 = unit_list(p, c);
+    let r2 = book_body::unit_list(p, c);
     if !r2 {
         return false;
     }
@@ -137,7 +111,7 @@ pub fn write_body(
 ) -> Wrote
     ensures { λ r.
         ⌜ WriteTells (bodyFrom p (now (g .entry)) (now (h .entry)) (period .0) (now (a .entry)) (now (b .entry)) (now (c .entry)))
-        (now (out .entry)) (wroteSays r) (now (out .exit)) ⌝ }
+        (now (out .entry)) (wroteSays r) (now (out .exit)) × Numbered r ⌝ }
 {
     let x = field::refusal(p, g, h);
     if x != 0 {

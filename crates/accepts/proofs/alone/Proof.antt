@@ -1,4 +1,5 @@
 -- `accepts::alone` meets its contract: the length of a greatest common divisor of the seven.
+use native.Mathlib.Omega.{arith}
 use borrow.Author.Needs.{needs}
 use Rattle.accepts.proofs.Sevens.{alone-yes, alone-no}
 use Rattle.accepts.proofs.alone.Statement.{statement}
@@ -28,7 +29,7 @@ size-requires : tie.Need-size-requires
 size-requires c κs = search needs
 
 returns : tie.Need-returns
-returns c = alone-yes (c .before .before .before .before .before .before .before .before .before .before .before .before .before .gcd .ensures) (c .before .before .before .before .before .before .before .before .before .before .before .gcd2 .ensures) (c .before .before .before .before .before .before .before .before .before .gcd3 .ensures) (c .before .before .before .before .before .before .before .gcd4 .ensures) (c .before .before .before .before .before .gcd5 .ensures) (c .before .before .before .gcd6 .ensures) (c .before .size .ensures) (c .if1 .taken)
+returns c = alone-yes (c .before .before .before .before .before .before .before .before .before .before .before .before .before .gcd .ensures) (c .before .before .before .before .before .before .before .before .before .before .before .gcd2 .ensures) (c .before .before .before .before .before .before .before .before .before .gcd3 .ensures) (c .before .before .before .before .before .before .before .gcd4 .ensures) (c .before .before .before .before .before .gcd5 .ensures) (c .before .before .before .gcd6 .ensures) (c .before .size .ensures) (omega (arith, c .if1 .taken))
 
 returns-2 : tie.Need-returns-2
 returns-2 c = alone-no (c .before .before .before .before .before .before .before .before .before .before .before .before .before .gcd .ensures) (c .before .before .before .before .before .before .before .before .before .before .before .gcd2 .ensures) (c .before .before .before .before .before .before .before .before .before .gcd3 .ensures) (c .before .before .before .before .before .before .before .gcd4 .ensures) (c .before .before .before .before .before .gcd5 .ensures) (c .before .before .before .gcd6 .ensures) (c .before .size .ensures) (c .if1 .left)

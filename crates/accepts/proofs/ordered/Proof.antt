@@ -8,22 +8,22 @@ use Rattle.accepts.proofs.ordered.Reads as reads
 use Rattle.accepts.proofs.ordered.Lts as lts
 
 returns : tie.Need-returns
-returns c = answer-no (λ s. let h = s .Y-M in omega (arith, h))
+returns c = answer-no (λ s. omega (arith, s .Y-M, s .Z-M, s .Z-N, s .Y-N, s .X-M, s .X-N))
 
 returns-2 : tie.Need-returns-2
-returns-2 c = answer-no (λ s. let h = s .Z-M in omega (arith, h))
+returns-2 c = answer-no (λ s. omega (arith, s .Y-M, s .Z-M, s .Z-N, s .Y-N, s .X-M, s .X-N))
 
 returns-3 : tie.Need-returns-3
-returns-3 c = answer-no (λ s. let h = s .Z-N in omega (arith, h))
+returns-3 c = answer-no (λ s. omega (arith, s .Y-M, s .Z-M, s .Z-N, s .Y-N, s .X-M, s .X-N))
 
 returns-4 : tie.Need-returns-4
-returns-4 c = answer-no (λ s. let h = s .Y-N in omega (arith, h))
+returns-4 c = answer-no (λ s. omega (arith, s .Y-M, s .Z-M, s .Z-N, s .Y-N, s .X-M, s .X-N))
 
 returns-5 : tie.Need-returns-5
-returns-5 c = answer-no (λ s. let h = s .X-M in omega (arith, h))
+returns-5 c = answer-no (λ s. omega (arith, s .Y-M, s .Z-M, s .Z-N, s .Y-N, s .X-M, s .X-N))
 
 returns-6 : tie.Need-returns-6
-returns-6 c = answer-no (λ s. let h = s .X-N in omega (arith, h))
+returns-6 c = answer-no (λ s. omega (arith, s .Y-M, s .Z-M, s .Z-N, s .Y-N, s .X-M, s .X-N))
 
 returns-7 : tie.Need-returns-7
 returns-7 c = answer-yes (record { Y-M = omega arith; Z-M = omega arith; Z-N = omega arith; Y-N = omega arith; X-M = omega arith; X-N = omega arith; N-large = inl (omega arith) })

@@ -35,13 +35,13 @@ factors-of-requires : tie.Need-factors-of-requires
 factors-of-requires c κs = based-scales (c .before .before .before .before .before .before .before .before .before .before .before .before .pre) (c .before .before .before .before .before .before .before .before .before .before .before .size .ensures) (c .before .before .before .before .before .before .before .before .before .before .reduced .ensures) (c .before .lead-of .ensures)
 
 scale-requires : tie.Need-scale-requires
-scale-requires c κs = based-u (c .before .before .before .before .before .before .before .before .before .before .before .before .before .pre) (c .before .before .before .before .before .before .before .before .before .before .before .before .size .ensures) (c .before .before .before .before .before .before .before .before .before .before .before .reduced .ensures) (c .before .before .lead-of .ensures) (c .factors-of .ensures)
+scale-requires c κs = based-u (c .before .before .before .before .before .before .before .before .before .before .before .before .before .pre) (c .before .before .before .before .before .before .before .before .before .before .before .before .size .ensures) (search needs)
 
 placed-requires : tie.Need-placed-requires
-placed-requires c κs = place-m (c .before .before .before .before .before .before .before .before .before .before .before .before .before .before .before .before .before .before .pre) (c .before .before .before .before .before .before .before .before .before .before .before .before .before .before .before .before .before .size .ensures) (c .before .before .before .before .before .before .before .before .before .before .before .before .before .before .before .before .reduced .ensures) (c .before .before .before .before .before .before .before .lead-of .ensures) (c .before .before .before .before .before .factors-of .ensures) (c .before .before .before .before .scale .ensures)
+placed-requires c κs = place-m (c .before .before .before .before .before .before .before .before .before .before .before .before .before .before .before .before .before .before .pre) (c .before .before .before .before .before .before .before .before .before .before .before .before .before .before .before .before .before .size .ensures) (c .before .before .before .before .before .before .before .before .before .before .before .before .before .before .before .before .reduced .ensures) (c .before .before .before .before .before .before .before .lead-of .ensures) (c .before .before .before .before .before .factors-of .ensures) (c .before .before .before .before .scale .ensures) (search needs)
 
 placed-requires-2 : tie.Need-placed-requires-2
-placed-requires-2 c κs = place-n (c .before .before .before .before .before .before .before .before .before .before .before .before .before .before .before .before .before .before .before .before .before .before .before .pre) (c .before .before .before .before .before .before .before .before .before .before .before .before .before .before .before .before .before .before .before .before .before .before .size .ensures) (c .before .before .before .before .before .before .before .before .before .before .before .before .before .before .before .before .before .before .before .before .before .reduced .ensures) (c .before .before .before .before .before .before .before .before .before .before .before .before .lead-of .ensures) (c .before .before .before .before .before .before .before .before .before .before .factors-of .ensures) (c .before .before .before .before .before .before .before .before .before .scale .ensures)
+placed-requires-2 c κs = place-n (c .before .before .before .before .before .before .before .before .before .before .before .before .before .before .before .before .before .before .before .before .before .before .before .pre) (c .before .before .before .before .before .before .before .before .before .before .before .before .before .before .before .before .before .before .before .before .before .before .size .ensures) (c .before .before .before .before .before .before .before .before .before .before .before .before .before .before .before .before .before .before .before .before .before .reduced .ensures) (c .before .before .before .before .before .before .before .before .before .before .before .before .lead-of .ensures) (c .before .before .before .before .before .before .before .before .before .before .factors-of .ensures) (c .before .before .before .before .before .before .before .before .before .scale .ensures) (search needs)
 
 stored-requires : tie.Need-stored-requires
 stored-requires c κs = place-u (c .before .before .before .before .before .before .before .before .before .before .before .before .before .before .before .before .before .before .before .before .before .before .before .before .before .pre) (c .before .before .before .before .before .before .before .before .before .before .before .before .before .before .before .before .before .before .before .before .before .before .before .before .size .ensures) (c .before .before .before .before .before .before .before .before .before .before .before .before .before .before .before .before .before .before .before .before .before .before .before .reduced .ensures) (c .before .before .before .before .before .before .before .before .before .before .before .before .before .before .lead-of .ensures) (c .before .before .before .before .before .before .before .before .before .before .before .before .factors-of .ensures) (c .before .before .before .before .before .before .before .before .before .before .before .scale .ensures)

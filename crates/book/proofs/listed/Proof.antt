@@ -38,7 +38,7 @@ four-requires : tie.Need-four-requires Inv-loop μ-loop
 four-requires c κs = search needs
 
 returns : tie.Need-returns Inv-loop μ-loop
-returns c = answer-no (listed-no _ _ _ _ _ (c .before .before .before .before .two .ensures .0) (omega arith) (c .before .before .before .loop .inv .2) (c .before .four .ensures .0) (c .if1 .taken))
+returns c = answer-no (listed-no _ _ _ _ _ (c .before .before .before .before .two .ensures .0) (omega arith) (c .before .before .before .loop .inv .2) (c .before .four .ensures .0) (λ z. omega arith))
 
 mul-four-2 : tie.Need-mul-four-2 Inv-loop μ-loop
 mul-four-2 c = search needs

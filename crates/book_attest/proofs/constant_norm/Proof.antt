@@ -1,4 +1,5 @@
 -- `book_attest::constant_norm` meets its contract.
+use native.Mathlib.Omega.{arith}
 use Rattle.book_bytes.proofs.Tests.{answer-yes, answer-no}
 use Rattle.book_attest.proofs.Bodies.{attested-yes, attested-no}
 use borrow.Author.Needs.{needs}
@@ -18,10 +19,10 @@ size-requires : tie.Need-size-requires
 size-requires c κs = search needs
 
 returns : tie.Need-returns
-returns c = answer-no (attested-no _ _ _ _ (c .before .before .before .before .before .before .before .pre) (c .before .before .before .before .body-norm .ensures) (c .before .size .ensures) (c .if1 .taken))
+returns c = answer-no (attested-no _ _ _ _ (c .before .before .before .before .before .before .before .pre) (c .before .before .before .before .body-norm .ensures) (c .before .size .ensures) (λ z. omega arith))
 
 returns-2 : tie.Need-returns-2
-returns-2 c = answer-yes (attested-yes _ _ _ _ (c .before .before .before .before .body-norm .ensures) (c .before .size .ensures) (c .if1 .left))
+returns-2 c = answer-yes (attested-yes _ _ _ _ (c .before .before .before .before .body-norm .ensures) (c .before .size .ensures) (omega arith))
 
 pub constant-norm-spec : {M : Type 1} → statement M
 constant-norm-spec =

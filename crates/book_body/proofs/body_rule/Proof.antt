@@ -12,7 +12,7 @@ start-requires : tie.Need-start-requires
 start-requires c κs = search needs
 
 returns : tie.Need-returns
-returns c = answer-no (λ b. c .if1 .taken (b .size ∙ sym (c .before .start .ensures .0)))
+returns c = answer-no (λ b. let e = b .size in let f = c .before .start .ensures .0 in omega arith)
 
 four-requires : tie.Need-four-requires
 four-requires c κs = search needs
@@ -23,23 +23,23 @@ returns-2 c = answer-no (body-from (c .before .before .before .before .before .a
 returns-3 : tie.Need-returns-3
 returns-3 c = answer-no (body-to (c .before .before .before .before .before .before .args .s .now) _ (c .before .before .four .ensures .0) (c .if3 .taken))
 
-unit-list-requires : tie.Need-unit-list-requires
-unit-list-requires c κs = search needs
+unit-at-requires : tie.Need-unit-at-requires
+unit-at-requires c κs = search needs
 
 returns-4 : tie.Need-returns-4
-returns-4 c = answer-no (body-row0 (c .before .before .before .before .before .before .before .before .args .s .now) (c .before .unit-list .ensures .no! (not-true _ (c .if4 .taken))))
+returns-4 c = answer-no (body-row0 (c .before .before .before .before .before .before .before .before .args .s .now) (c .before .unit-at .ensures .no! (not-true _ (c .if4 .taken))))
 
-unit-list-requires-2 : tie.Need-unit-list-requires-2
-unit-list-requires-2 c κs = search needs
+unit-at-requires-2 : tie.Need-unit-at-requires-2
+unit-at-requires-2 c κs = search needs
 
 returns-5 : tie.Need-returns-5
-returns-5 c = answer-no (body-row1 (c .before .before .before .before .before .before .before .before .before .before .args .s .now) (c .before .unit-list2 .ensures .no! (not-true _ (c .if5 .taken))))
+returns-5 c = answer-no (body-row1 (c .before .before .before .before .before .before .before .before .before .before .args .s .now) (c .before .unit-at2 .ensures .no! (not-true _ (c .if5 .taken))))
 
-unit-list-requires-3 : tie.Need-unit-list-requires-3
-unit-list-requires-3 c κs = search needs
+unit-at-requires-3 : tie.Need-unit-at-requires-3
+unit-at-requires-3 c κs = search needs
 
 returns-6 : tie.Need-returns-6
-returns-6 c = answer-no (body-row2 (c .before .before .before .before .before .before .before .before .before .before .before .before .args .s .now) (c .before .unit-list3 .ensures .no! (not-true _ (c .if6 .taken))))
+returns-6 c = answer-no (body-row2 (c .before .before .before .before .before .before .before .before .before .before .before .before .args .s .now) (c .before .unit-at3 .ensures .no! (not-true _ (c .if6 .taken))))
 
 first-list-requires : tie.Need-first-list-requires
 first-list-requires c κs = search needs
@@ -48,7 +48,7 @@ returns-7 : tie.Need-returns-7
 returns-7 c = answer-no (body-first (c .before .before .before .before .before .before .before .before .before .before .before .before .before .before .args .s .now) (c .before .first-list .ensures .no! (not-true _ (c .if7 .taken))))
 
 returns-8 : tie.Need-returns-8
-returns-8 c = answer-yes (body-yes (c .before .before .before .before .before .before .before .before .before .before .before .before .before .before .args .s .now) _ _ (c .before .before .before .before .before .before .before .before .before .before .before .before .start .ensures .0) (c .before .before .before .before .before .before .before .before .before .before .before .if1 .left) (c .before .before .before .before .before .before .before .before .before .before .four .ensures .0) (omega arith) (omega arith) (c .before .before .before .before .before .before .before .unit-list .ensures .yes! (not-false _ (c .before .before .before .before .before .before .if4 .left))) (c .before .before .before .before .before .unit-list2 .ensures .yes! (not-false _ (c .before .before .before .before .if5 .left))) (c .before .before .before .unit-list3 .ensures .yes! (not-false _ (c .before .before .if6 .left))) (c .before .first-list .ensures .yes! (not-false _ (c .if7 .left))))
+returns-8 c = answer-yes (body-yes (c .before .before .before .before .before .before .before .before .before .before .before .before .before .before .args .s .now) _ _ (c .before .before .before .before .before .before .before .before .before .before .before .before .start .ensures .0) (omega arith) (c .before .before .before .before .before .before .before .before .before .before .four .ensures .0) (omega arith) (omega arith) (c .before .before .before .before .before .before .before .unit-at .ensures .yes! (not-false _ (c .before .before .before .before .before .before .if4 .left))) (c .before .before .before .before .before .unit-at2 .ensures .yes! (not-false _ (c .before .before .before .before .if5 .left))) (c .before .before .before .unit-at3 .ensures .yes! (not-false _ (c .before .before .if6 .left))) (c .before .first-list .ensures .yes! (not-false _ (c .if7 .left))))
 
 pub body-rule-spec : {M : Type 1} → statement M
 body-rule-spec =
@@ -59,11 +59,11 @@ body-rule-spec =
     four-requires
     returns-2
     returns-3
-    unit-list-requires
+    unit-at-requires
     returns-4
-    unit-list-requires-2
+    unit-at-requires-2
     returns-5
-    unit-list-requires-3
+    unit-at-requires-3
     returns-6
     first-list-requires
     returns-7

@@ -13,7 +13,7 @@ returns : tie.Need-returns
 returns c = answer-no (first-three (c .before .before .before .args .s .now) _ (c .before .two .ensures .0) (c .if1 .taken))
 
 returns-2 : tie.Need-returns-2
-returns-2 c = answer-no (first-odd (c .before .before .before .before .args .s .now) _ (c .before .before .two .ensures .0) (c .if2 .taken))
+returns-2 c = answer-no (first-odd (c .before .before .before .before .args .s .now) _ (c .before .before .two .ensures .0) (λ z. omega arith))
 
 start-requires : tie.Need-start-requires
 start-requires c κs = search needs
