@@ -1,5 +1,6 @@
 -- What `level` makes: half of t less the remainder of t + 2e by u.
 use mathlib.Core.Path.{_≡_, sym, ap, ap₂, _∙_}
+use mathlib.Core.Bool.{true}
 use mathlib.Core.List.{List, [], _∷_}
 use Prim.Native.Nat.{ℕ, _<_, _≤_, _%_, _/_}
 use Prim.Native.Nat as N
@@ -19,7 +20,8 @@ use Rattle.reading.specs.Row.{Row, Size, row, tpow}
 use Rattle.reading.proofs.Rows.{row-poly, cast-sub, const-neg}
 use Rattle.reading.proofs.Turn.{comb, lt-scale}
 use Rattle.poly.specs.Leaf.{Crossed, CrossIn, Difference, Scaled}
-use Rattle.poly.specs.Division.{DivIn, Divided}
+use Rattle.poly.specs.Division.{DivIn, Divided, Quotient}
+use Rattle.sized.specs.Sized.{Mixed}
 use Rattle.basis.specs.Levels.{LevelIn, Leveled, Monic}
 
 module _ {p : ℕ} (ρ : Reading p) where
@@ -70,6 +72,16 @@ module _ {p : ℕ} {t e u : List ℕ} (i : LevelIn p t e u) where
     hb = i .hu;
     hi = b;
     inv = λ n s. ap (λ a. N._*_ 1 a % p) (i .monic n s) ∙ mod-eq-of-lt b;
+  }
+
+  -- what is left of k where the product of its quotient and u is taken off
+  pub level-rest : {k q r : List ℕ} {l m : ℕ} → Quotient p k u q → Mixed p true q l u m k r → Divided p k u q r
+  level-rest {k} {q} {r} g f = record {
+    q-row = g .is-row;
+    r-row = f .is-row;
+    law = λ pr. let ρ = reading p pr in
+        solve-by (ρ .𝓥 .L) (var 0) (var 1 :* var 2 :+ var 3) (hyp (minus one) (var 3) (var 0 :+ minus (var 1 :* var 2)) ∷ []) tt (row ρ k ∷ row ρ q ∷ row ρ u ∷ row ρ r ∷ []) (f .law pr, tt);
+    low = λ pr n h. lt-eq (reading p pr .𝓥) (g .law pr n h) (sym (f .law pr));
   }
 
   module _ {k q r d a : List ℕ} (c : Crossed p 1 t (N._-_ p 2) 0 e k) (v : Divided p k u q r) (w : Difference p t r d) (s : Scaled p (N._+_ p 1 / 2) d a) where

@@ -2,12 +2,15 @@
 --   row-short, size-below    a bound of the degree, or of the row, bounds the length
 use mathlib.Core.Path.{_≡_, sym, ap, ap₂, _∙_}
 use mathlib.Core.Logic.{_⊎_, inl, inr}
+use mathlib.Core.Bool.{false}
 use mathlib.Core.List.{List}
 use Prim.Native.Nat.{ℕ, suc, _+_, _-_, _<_, _≤_}
 use native.Mathlib.Omega.{arith}
 use native.Mathlib.Decide.{decLt}
-use lib.ListN.{getD}
+use lib.ListN.{getD, replicate}
 use Rattle.ring.specs.Ring.{Ops, CRing}
+use Rattle.ring.proofs.Laws as laws
+use Rattle.fp.specs.Fp.{Prime}
 use Rattle.valued.specs.Val.{Valued}
 use Rattle.valued.specs.Degree.{Has, Lt}
 use Rattle.valued.proofs.Degree.{lt-eq, lt-up}
@@ -15,9 +18,12 @@ use Rattle.reading.specs.Reading.{Reading}
 use Rattle.reading.specs.Made.{reading}
 use Rattle.reading.specs.Row.{Row, Size, row}
 use Rattle.reading.proofs.Rows.{size-le, size-lt, size-has}
-use Rattle.reading.proofs.Floors.{sized}
+use Rattle.reading.proofs.Floors.{sized, zero-row}
 use Rattle.reading.proofs.Turn.{lt-scale}
-use Rattle.poly.specs.Leaf.{Scaled, MulIn, Product, Summed}
+use Rattle.poly.specs.Leaf.{Scaled, MulIn}
+use Rattle.poly.specs.Terms.{Ready}
+use Rattle.poly.proofs.Leaf.{zeros-row, zeros-size}
+use Rattle.sized.specs.Sized.{MixIn, Mixed}
 use Rattle.record.specs.Record.{part}
 use Rattle.reduce.specs.Frame.{Short}
 use Rattle.basis.specs.Store.{StoreIn, Stored}
@@ -65,9 +71,19 @@ module _ {p i s : ℕ} {b c x x1 y1 u : List ℕ} (g : PlaceIn p i s b c x x1 y1
     room = λ n m sn sm. let l : n ≤ g .lc = size-below c-short sn in let k : m ≤ g .l2 = size-below (g .h2) sm in let d : g .lc + g .l2 ≤ 33 = g .room-c in omega arith;
   }
 
-  module _ {v z e : List ℕ} (pb : Product p mb x1 v) (pc : Product p mc y1 z) (pe : Summed p v z e) where
+  pub place-first : {mul lim n m : ℕ} → Ready p mul lim → Size mb n → Size x1 m → MixIn p mul lim mb n x1 m (replicate 32 0)
+  place-first w sn sm = record { modulus = g .modulus; ready = w; hx = sb .is-row; hy = g .h1 .is-row; sx = sn; sy = sm; fits = place-b .room _ _ sn sm; hr = zeros-row p (g .modulus .big) }
+
+  pub place-second : {mul lim n m : ℕ} {o : List ℕ} → Ready p mul lim → Size mc n → Size y1 m → Row p o → MixIn p mul lim mc n y1 m o
+  place-second w sn sm h = record { modulus = g .modulus; ready = w; hx = sc .is-row; hy = g .h2 .is-row; sx = sn; sy = sm; fits = place-c .room _ _ sn sm; hr = h }
+
+  module _ {o e : List ℕ} {n m k l : ℕ} (eb : Mixed p false mb n x1 m (replicate 32 0) o) (ec : Mixed p false mc k y1 l o e) where
+    e-is : (pr : Prime p) → let ρ = reading p pr in let c = ρ .𝓥 .L .ops in row ρ e ≡ c .add (c .mul (row ρ mb) (row ρ x1)) (c .mul (row ρ mc) (row ρ y1))
+    e-is pr = let R = reading p pr .𝓥 .L in
+        ec .law pr ∙ ap (λ a. R .ops .add a (R .ops .mul (row (reading p pr) mc) (row (reading p pr) y1))) (eb .law pr ∙ ap (λ a. R .ops .add a (R .ops .mul (row (reading p pr) mb) (row (reading p pr) x1))) (zero-row (reading p pr) (replicate 32 0) zeros-size) ∙ laws.zero-add′ R _)
+
     pub place-level : LevelIn p t e u
-    place-level = record { modulus = g .modulus; odd = g .odd; ht = st .is-row; he = pe .is-row; hu = g .hu .is-row; monic = g .monic }
+    place-level = record { modulus = g .modulus; odd = g .odd; ht = st .is-row; he = ec .is-row; hu = g .hu .is-row; monic = g .monic }
 
     module _ {a : List ℕ} (la : Leveled p t e u a) where
       a-short : Short p a 17
@@ -111,7 +127,7 @@ module _ {p i s : ℕ} {b c x x1 y1 u : List ℕ} (g : PlaceIn p i s b c x x1 y1
                 is-c = is-c ρ ∙ sc .law pr;
                 k = k;
                 k-poly = kp;
-                framed = ap₂ (o .add) (is-a ρ) (ap₂ (λ y z. o .add (o .mul y (row ρ x1)) (o .mul z (row ρ y1))) (is-b ρ) (is-c ρ) ∙ ap₂ (o .add) (sym (pb .law pr)) (sym (pc .law pr)) ∙ sym (pe .law pr)) ∙ e₁;
+                framed = ap₂ (o .add) (is-a ρ) (ap₂ (λ y z. o .add (o .mul y (row ρ x1)) (o .mul z (row ρ y1))) (is-b ρ) (is-c ρ) ∙ sym (e-is pr)) ∙ e₁;
                 low = λ n h. lt-eq (ρ .𝓥) (la .low pr n h) (ap₂ (λ y z. o .add (o .mul (o .add (o .𝟏) (o .𝟏)) y) (o .neg z)) (sym (is-a ρ)) (st .law pr));
               };
         }

@@ -1,8 +1,6 @@
 // The basis record: seven rows of 17 coefficients, M0, M1, M2, N0, N1, N2, U. It starts as zeros and is filled row by row.
-use poly::add;
 use poly::cross;
-use poly::divide;
-use poly::mul;
+use poly::rapid_of;
 use poly::scale;
 use poly::size;
 use poly::sub;
@@ -11,6 +9,8 @@ use reduce::Pair;
 use reduce::lead_of;
 use reduce::reduced;
 use residue::inverse;
+use sized::mix_in;
+use sized::quotient_in;
 ghost use mathlib.Core.Path.{_≡_};
 ghost use Prim.Native.Nat.{_+_, _*_, _-_, _%_, _<_, _≤_};
 ghost use Rattle.reduce.specs.Given.{given};
@@ -63,10 +63,14 @@ pub fn level(p: u64, t: &[u64; 32], e: &[u64; 32], u: &[u64; 32]) -> [u64; 32]
     requires { ⌜ LevelIn p (now t) (now e) (now u) ⌝ }
     ensures { λ a. ⌜ Leveled p (now (t .entry)) (now (e .entry)) (now (u .entry)) a ⌝ }
 {
-    let k = cross(p, 1, t, p - 2, 0, e);
-    let d = divide(p, &k, u, 1);
-    let r = d.r;
-    let h = sub(p, t, &r);
+    let q = rapid_of(p);
+    let mut k = cross(p, 1, t, p - 2, 0, e);
+    let n = size(&k);
+    let m = size(u);
+    let mut d: [u64; 32] = [0; 32];
+    let l = quotient_in(p, q, &k, n, u, m, 1, &mut d);
+    mix_in(p, q, true, &d, l, u, m, &mut k);
+    let h = sub(p, t, &k);
     scale(p, (p + 1) / 2, &h)
 }
 
@@ -108,12 +112,17 @@ fn placed(
     requires { ⌜ PlaceIn p i s (now b) (now c) (now x) (now x1) (now y1) (now u) ⌝ }
     ensures { λ o. ⌜ Placed p i s (now (b .entry)) (now (c .entry)) (now (x .entry)) (now (x1 .entry)) (now (y1 .entry)) (now (u .entry)) rows o ⌝ }
 {
+    let q = rapid_of(p);
     let mb = scale(p, s, b);
     let mc = scale(p, s, c);
     let t = scale(p, s, x);
-    let v = mul(p, &mb, x1);
-    let z = mul(p, &mc, y1);
-    let e = add(p, &v, &z);
+    let nb = size(&mb);
+    let nc = size(&mc);
+    let n1 = size(x1);
+    let n2 = size(y1);
+    let mut e: [u64; 32] = [0; 32];
+    mix_in(p, q, false, &mb, nb, x1, n1, &mut e);
+    mix_in(p, q, false, &mc, nc, y1, n2, &mut e);
     let a = level(p, &t, &e, u);
     let r0 = stored(rows, i, &a);
     let r1 = stored(r0, i + 1, &mb);
