@@ -46,7 +46,7 @@ fn put_lists(
 {
     let x0 = book_bytes::put_list(out, at, g);
     let x1 = book_bytes::put_list(out, x0, h);
-    let x2 = book_bytes::put_list(out, x1, h);
+    let x2 = book_bytes::put_list(out, x1, a);
     let x3 = book_bytes::put_list(out, x2, b);
     book_bytes::put_list(out, x3, c)
 }
