@@ -1,46 +1,148 @@
-// The C interface of the library, declared once, and a safe function for each entry point. A slice passes as pointer and length.
+// The C interface of the library, declared once, and a safe function for each entry point. A slice passes as pointer and length,
+// an array of fixed length as pointer alone.
 mod c {
+    #[rustfmt::skip]
     extern "C" {
         pub fn zaminuk_refusal(p: u64, g: *const u64, gn: usize, h: *const u64, hn: usize) -> u32;
-        pub fn zaminuk_order_refusal(p: u64, g: *const u64, gn: usize, h: *const u64, hn: usize, budget: u64) -> u32;
-        pub fn zaminuk_period(p: u64, g: *const u64, gn: usize, h: *const u64, hn: usize, budget: u64) -> u64;
-        pub fn zaminuk_regulator(p: u64, g: *const u64, gn: usize, h: *const u64, hn: usize, budget: u64) -> u64;
-        pub fn zaminuk_series(
-            p: u64,
-            g: *const u64,
-            gn: usize,
-            h: *const u64,
-            hn: usize,
-            r: *mut u16,
-            rn: usize,
-            w: *mut u16,
-            wn: usize,
-        ) -> u32;
+        pub fn zaminuk_series(p: u64, g: *const u64, gn: usize, h: *const u64, hn: usize, r: *mut u16, rn: usize, w: *mut u16, wn: usize) -> u32;
+        pub fn zaminuk_order(p: u64, g: *const u64, gn: usize, h: *const u64, hn: usize, rows: *mut u16) -> u32;
+        pub fn zaminuk_check(p: u64, g: *const u64, gn: usize, h: *const u64, hn: usize, rows: *const u16) -> u32;
+        pub fn zaminuk_step(p: u64, g: *const u64, gn: usize, h: *const u64, hn: usize, rows: *mut u16, degree: *mut u64) -> u32;
+        pub fn zaminuk_walk(p: u64, g: *const u64, gn: usize, h: *const u64, hn: usize, budget: u64, rows: *mut u16, steps: *mut u64, sum: *mut u64) -> u32;
+        pub fn zaminuk_from_order(p: u64, g: *const u64, gn: usize, h: *const u64, hn: usize, budget: u64, period: *mut u64, regulator: *mut u64) -> u32;
+        pub fn zaminuk_unit(p: u64, g: *const u64, gn: usize, h: *const u64, hn: usize, budget: u64, rows: *mut u16, rn: usize, scratch: *mut u16, sn: usize, period: *mut u64, regulator: *mut u64) -> u32;
+        pub fn zaminuk_book_check(book: *const u8, n: usize, said: *mut u64);
+        pub fn zaminuk_book_bodies(book: *const u8, n: usize) -> usize;
+        pub fn zaminuk_book_ask(book: *const u8, n: usize, i: usize, start: *mut usize, size: *mut usize, said: *mut u64);
+        pub fn zaminuk_book_attest(book: *const u8, n: usize, i: usize, said: *mut u64);
+        pub fn zaminuk_book_write(p: u64, g: *const u64, gn: usize, h: *const u64, hn: usize, period: u64, a: *const u64, an: usize, b: *const u64, bn: usize, c: *const u64, cn: usize, out: *mut u8, n: usize, said: *mut u64);
+        pub fn zaminuk_book_add(out: *mut u8, n: usize, length: usize, body: *const u8, bn: usize, said: *mut u64);
+        pub fn zaminuk_body_prime(body: *const u8, n: usize) -> u64;
+        pub fn zaminuk_body_period(body: *const u8, n: usize) -> u64;
+        pub fn zaminuk_body_list(body: *const u8, n: usize, k: usize, out: *mut u64, on: usize, said: *mut u64);
     }
 }
 
-/// The number of the first refusal of p, G, H; 0 if the field is accepted.
-pub fn refusal(p: u64, g: &[u64], h: &[u64]) -> u32 {
-    unsafe { c::zaminuk_refusal(p, g.as_ptr(), g.len(), h.as_ptr(), h.len()) }
+/// A basis: M0, M1, M2, N0, N1, N2, U, 17 coefficients each.
+pub type Record = [u16; 119];
+
+/// A field as it comes in: p, G, H.
+pub struct Field {
+    pub p: u64,
+    pub g: Vec<u64>,
+    pub h: Vec<u64>,
 }
 
-/// The first coefficients of r and w into two slices; 0 or the refusal.
-pub fn series(p: u64, g: &[u64], h: &[u64], r: &mut [u16], w: &mut [u16]) -> u32 {
-    unsafe {
-        c::zaminuk_series(
-            p, g.as_ptr(), g.len(), h.as_ptr(), h.len(), r.as_mut_ptr(), r.len(), w.as_mut_ptr(), w.len(),
-        )
+/// What a call about a book says: refusal, inner reason, its entry, its other number, result.
+#[derive(PartialEq, Debug, Clone, Copy)]
+pub struct Said {
+    pub number: u64,
+    pub reason: u64,
+    pub entry: u64,
+    pub other: u64,
+    pub result: u64,
+}
+
+/// Calls with a place for the five numbers.
+fn said(call: impl FnOnce(*mut u64)) -> Said {
+    let mut o = [u64::MAX; 5];
+    call(o.as_mut_ptr());
+    Said { number: o[0], reason: o[1], entry: o[2], other: o[3], result: o[4] }
+}
+
+impl Field {
+    /// The number of the first refusal; 0 if the field is accepted.
+    pub fn refusal(&self) -> u32 {
+        unsafe { c::zaminuk_refusal(self.p, self.g.as_ptr(), self.g.len(), self.h.as_ptr(), self.h.len()) }
+    }
+
+    /// The first coefficients of r and w into two slices; 0 or the refusal.
+    #[rustfmt::skip]
+    pub fn series(&self, r: &mut [u16], w: &mut [u16]) -> u32 {
+        unsafe { c::zaminuk_series(self.p, self.g.as_ptr(), self.g.len(), self.h.as_ptr(), self.h.len(), r.as_mut_ptr(), r.len(), w.as_mut_ptr(), w.len()) }
+    }
+
+    /// The basis of the order; 0 or the refusal.
+    pub fn order(&self, rows: &mut Record) -> u32 {
+        unsafe { c::zaminuk_order(self.p, self.g.as_ptr(), self.g.len(), self.h.as_ptr(), self.h.len(), rows.as_mut_ptr()) }
+    }
+
+    /// Whether the rows are a basis: 0 or the refusal.
+    pub fn check(&self, rows: &Record) -> u32 {
+        unsafe { c::zaminuk_check(self.p, self.g.as_ptr(), self.g.len(), self.h.as_ptr(), self.h.len(), rows.as_ptr()) }
+    }
+
+    /// One step in place: refusal, degree of the m divided by.
+    pub fn step(&self, rows: &mut Record) -> (u32, u64) {
+        let mut d = u64::MAX;
+        let n = unsafe { c::zaminuk_step(self.p, self.g.as_ptr(), self.g.len(), self.h.as_ptr(), self.h.len(), rows.as_mut_ptr(), &mut d) };
+        (n, d)
+    }
+
+    /// A walk in place: refusal, steps, degree sum.
+    #[rustfmt::skip]
+    pub fn walk(&self, budget: u64, rows: &mut Record) -> (u32, u64, u64) {
+        let (mut s, mut d) = (u64::MAX, u64::MAX);
+        let n = unsafe { c::zaminuk_walk(self.p, self.g.as_ptr(), self.g.len(), self.h.as_ptr(), self.h.len(), budget, rows.as_mut_ptr(), &mut s, &mut d) };
+        (n, s, d)
+    }
+
+    /// The walk from the order: refusal, period, regulator.
+    #[rustfmt::skip]
+    pub fn from_order(&self, budget: u64) -> (u32, u64, u64) {
+        let (mut l, mut r) = (u64::MAX, u64::MAX);
+        let n = unsafe { c::zaminuk_from_order(self.p, self.g.as_ptr(), self.g.len(), self.h.as_ptr(), self.h.len(), budget, &mut l, &mut r) };
+        (n, l, r)
+    }
+
+    /// The unit and its inverse: refusal, period, regulator.
+    #[rustfmt::skip]
+    pub fn unit(&self, budget: u64, rows: &mut [u16], scratch: &mut [u16]) -> (u32, u64, u64) {
+        let (mut l, mut r) = (u64::MAX, u64::MAX);
+        let n = unsafe { c::zaminuk_unit(self.p, self.g.as_ptr(), self.g.len(), self.h.as_ptr(), self.h.len(), budget, rows.as_mut_ptr(), rows.len(), scratch.as_mut_ptr(), scratch.len(), &mut l, &mut r) };
+        (n, l, r)
+    }
+
+    /// Writes a body of this field.
+    #[rustfmt::skip]
+    pub fn write(&self, period: u64, e: &[Vec<u64>], out: &mut [u8]) -> Said {
+        said(|o| unsafe { c::zaminuk_book_write(self.p, self.g.as_ptr(), self.g.len(), self.h.as_ptr(), self.h.len(), period, e[0].as_ptr(), e[0].len(), e[1].as_ptr(), e[1].len(), e[2].as_ptr(), e[2].len(), out.as_mut_ptr(), out.len(), o) })
     }
 }
 
-/// The walk of at most `budget` steps from the order: refusal, period, regulator.
-pub fn from_order(p: u64, g: &[u64], h: &[u64], budget: u64) -> (u32, u64, u64) {
-    let (gp, gn, hp, hn) = (g.as_ptr(), g.len(), h.as_ptr(), h.len());
-    unsafe {
-        (
-            c::zaminuk_order_refusal(p, gp, gn, hp, hn, budget),
-            c::zaminuk_period(p, gp, gn, hp, hn, budget),
-            c::zaminuk_regulator(p, gp, gn, hp, hn, budget),
-        )
-    }
+/// Checks a book.
+pub fn book_check(book: &[u8]) -> Said {
+    said(|o| unsafe { c::zaminuk_book_check(book.as_ptr(), book.len(), o) })
+}
+
+/// The number of bodies that the contents say.
+pub fn book_bodies(book: &[u8]) -> usize {
+    unsafe { c::zaminuk_book_bodies(book.as_ptr(), book.len()) }
+}
+
+/// Asks for an entry: what is said, and start and length of its part.
+pub fn book_ask(book: &[u8], i: usize) -> (Said, usize, usize) {
+    let (mut a, mut l) = (usize::MAX, usize::MAX);
+    let s = said(|o| unsafe { c::zaminuk_book_ask(book.as_ptr(), book.len(), i, &mut a, &mut l, o) });
+    (s, a, l)
+}
+
+/// Attests an entry: the result is 1 for yes.
+pub fn book_attest(book: &[u8], i: usize) -> Said {
+    said(|o| unsafe { c::zaminuk_book_attest(book.as_ptr(), book.len(), i, o) })
+}
+
+/// Adds a body to the book of the given length at the front of a slice; the result is the new length.
+pub fn book_add(out: &mut [u8], length: usize, body: &[u8]) -> Said {
+    said(|o| unsafe { c::zaminuk_book_add(out.as_mut_ptr(), out.len(), length, body.as_ptr(), body.len(), o) })
+}
+
+/// Prime and period of a body.
+pub fn body_numbers(body: &[u8]) -> (u64, u64) {
+    unsafe { (c::zaminuk_body_prime(body.as_ptr(), body.len()), c::zaminuk_body_period(body.as_ptr(), body.len())) }
+}
+
+/// List k of a body, 0 to 4, at the front of a slice; the result is its length.
+pub fn body_list(body: &[u8], k: usize, out: &mut [u64]) -> Said {
+    said(|o| unsafe { c::zaminuk_body_list(body.as_ptr(), body.len(), k, out.as_mut_ptr(), out.len(), o) })
 }

@@ -1,23 +1,24 @@
-// Runs vector files against the proved library through its C interface, and compares cheap things with an independent
-// implementation. Usage: harness DIR (a folder of vector files), or harness --random SEED COUNT.
+// Runs vector files against the proved library through its C interface and against the lister, and compares cheap things with an
+// independent implementation. Usage: harness DIR (a folder of vector files; random inputs and the examples are run too), or
+// harness --bench WALKERS.
 mod api;
+mod bench;
+mod books;
+mod lister;
 mod plain;
 mod vectors;
 
 fn main() {
     let args: Vec<String> = std::env::args().collect();
-    let (passed, failed) = match args.get(1).map(|s| s.as_str()) {
-        Some("--random") => {
-            let seed = args.get(2).and_then(|s| s.parse().ok()).unwrap_or(1);
-            let count = args.get(3).and_then(|s| s.parse().ok()).unwrap_or(2000);
-            plain::random(seed, count)
-        }
-        Some(dir) => vectors::folder(dir),
+    let parts = match args.get(1).map(|s| s.as_str()) {
+        Some("--bench") => return bench::all(&args[2..]),
+        Some(dir) => [plain::random(1, 20000), vectors::folder(dir), lister::examples("examples")],
         None => {
-            eprintln!("usage: harness DIR | harness --random SEED COUNT");
+            eprintln!("usage: harness DIR | harness --bench WALKERS");
             std::process::exit(2);
         }
     };
+    let (passed, failed) = parts.iter().fold((0, 0), |(a, b), (c, d)| (a + c, b + d));
     println!("{} passed, {} failed", passed, failed);
     if failed > 0 {
         std::process::exit(1);

@@ -152,7 +152,7 @@ pub fn random(seed: u64, count: usize) -> (usize, usize) {
                 h = product(p.max(2), &h, &d);
             }
         }
-        let (a, b) = (api::refusal(p, &g, &h), refusal(p, &g, &h));
+        let (a, b) = (api::Field { p, g: g.clone(), h: h.clone() }.refusal(), refusal(p, &g, &h));
         if b < 9 {
             seen[b as usize] += 1;
         }

@@ -1,9 +1,19 @@
-// Vector files by name: series, and others as the layers come. A file whose kind is not known is reported and skipped.
-use crate::api;
+// Vector files by name. A file whose kind is not known is reported and skipped.
+use crate::api::{Field, Record};
+use crate::{books, lister};
 use std::fs;
 
 /// What a case says went wrong, or nothing.
-type Verdict = Result<(), String>;
+pub type Verdict = Result<(), String>;
+
+/// Fails with a text unless a condition holds.
+pub fn ensure(ok: bool, why: impl FnOnce() -> String) -> Verdict {
+    if ok {
+        Ok(())
+    } else {
+        Err(why())
+    }
+}
 
 pub fn list(s: &str) -> Vec<u64> {
     if s == "-" {
@@ -16,101 +26,227 @@ fn narrow(l: &[u64]) -> Vec<u16> {
     l.iter().map(|&x| x as u16).collect()
 }
 
+pub fn field(f: &[&str]) -> Field {
+    Field { p: f[0].parse().expect("p"), g: list(f[1]), h: list(f[2]) }
+}
+
+fn number(s: &str) -> u64 {
+    s.parse().expect("a number")
+}
+
 /// A pattern that no answer has by chance, to see what a call leaves untouched.
 pub fn pattern(n: usize) -> Vec<u16> {
     (0..n).map(|i| (i as u16).wrapping_mul(40503) ^ 0xA5A5).collect()
 }
 
-fn series_case(line: &str) -> Verdict {
-    let f: Vec<&str> = line.split(';').collect();
-    let (p, g, h) = (f[0].parse().unwrap(), list(f[1]), list(f[2]));
-    let k: usize = f[3].parse().unwrap();
-    let mut r = pattern(k);
-    let mut w = pattern(k);
-    let no = api::series(p, &g, &h, &mut r, &mut w);
-    if no != 0 {
-        return Err(format!("refused {}", no));
-    }
-    if r != narrow(&list(f[4])) || w != narrow(&list(f[5])) {
-        return Err("other coefficients".into());
-    }
-    // A refusal leaves both slices as they were.
-    let mut r = pattern(k + 1);
-    let mut w = pattern(k);
-    let no = api::series(p, &g, &h, &mut r, &mut w);
-    if no != 14 || r != pattern(k + 1) || w != pattern(k) {
-        return Err("unequal lengths are not refused 14 with nothing written".into());
-    }
-    let no = api::series(p + 1, &g, &h, &mut r[..k], &mut w);
-    if no == 0 || no > 2 || r != pattern(k + 1) || w != pattern(k) {
-        return Err("p + 1 is not refused with nothing written".into());
-    }
-    Ok(())
+fn patterned() -> Record {
+    pattern(119).try_into().expect("119 numbers")
 }
 
-/// A walk from the order; of the record that the line gives too, this interface says nothing yet.
+/// Seven rows as a record.
+fn record(rows: &[&str]) -> Record {
+    let mut r = [0; 119];
+    for (i, row) in rows.iter().enumerate() {
+        for (j, x) in list(row).iter().enumerate() {
+            r[17 * i + j] = *x as u16;
+        }
+    }
+    r
+}
+
+/// p;G;H;k;r;w
+fn series_case(line: &str) -> Verdict {
+    let f: Vec<&str> = line.split(';').collect();
+    let mut x = field(&f);
+    let k = number(f[3]) as usize;
+    let (mut r, mut w) = (pattern(k), pattern(k));
+    let no = x.series(&mut r, &mut w);
+    ensure(no == 0, || format!("refused {}", no))?;
+    ensure(r == narrow(&list(f[4])) && w == narrow(&list(f[5])), || "other coefficients".into())?;
+    // A refusal leaves both slices as they were.
+    let (mut r, mut w) = (pattern(k + 1), pattern(k));
+    let no = x.series(&mut r, &mut w);
+    ensure(no == 14 && r == pattern(k + 1) && w == pattern(k), || "unequal lengths are not refused 14 with nothing written".into())?;
+    x.p += 1;
+    let no = x.series(&mut r[..k], &mut w);
+    ensure((no == 1 || no == 2) && r == pattern(k + 1) && w == pattern(k), || "p + 1 is not refused with nothing written".into())
+}
+
+/// p;G;H;0 or 9;119 numbers
+fn basis_case(line: &str) -> Verdict {
+    let f: Vec<&str> = line.split(';').collect();
+    let x = field(&f);
+    let rows: Vec<u64> = f[4].split(' ').map(number).collect();
+    let rows: Record = narrow(&rows).try_into().map_err(|_| "not 119 numbers")?;
+    let no = x.check(&rows);
+    ensure(u64::from(no) == number(f[3]), || format!("{} for {}", no, f[3]))?;
+    // The other functions that take a record refuse it alike, and write nothing.
+    let mut to = rows;
+    let (n, d) = x.step(&mut to);
+    ensure(n == no && (n == 0 || (to == rows && d == 0)), || "the step refuses otherwise or writes".into())?;
+    let mut to = rows;
+    let told = x.walk(0, &mut to);
+    ensure(told == (if no == 0 { 10 } else { no }, 0, 0) && to == rows, || format!("a walk with budget 0 tells {:?}", told))
+}
+
+/// A walk from a record, in one piece and in two, and step by step where it is short.
+fn walk_from(x: &Field, start: &Record, budget: u64, right: (u32, u64, u64), end: &Record) -> Verdict {
+    let mut rows = *start;
+    let told = x.walk(budget, &mut rows);
+    ensure(told == right, || format!("{:?} for {:?}", told, right))?;
+    ensure(rows == *end, || "another last basis".into())?;
+    if budget > 1 && right.1 > 1 {
+        let mut rows = *start;
+        let first = x.walk(right.1 / 2, &mut rows);
+        let second = x.walk(budget - first.1, &mut rows);
+        ensure(first.0 == 10 && (second.0, first.1 + second.1, first.2 + second.2) == right && rows == *end, || "taken up again it differs".into())?;
+    }
+    if right.1 <= 50 {
+        let (mut rows, mut sum) = (*start, 0);
+        for _ in 0..right.1 {
+            let (n, d) = x.step(&mut rows);
+            ensure(n == 0, || format!("a step is refused {}", n))?;
+            sum += d;
+        }
+        ensure(sum == right.2 && rows == *end, || "step by step it differs".into())?;
+    }
+    let mut rows = *start;
+    let told = x.walk(1000001, &mut rows);
+    ensure(told == (14, 0, 0) && rows == *start, || "a budget of 1,000,001 is not refused 14 with nothing written".into())
+}
+
+/// p;G;H;B;refusal;steps;sum;end rows, from the order
 fn walk_case(line: &str) -> Verdict {
     let f: Vec<&str> = line.split(';').collect();
-    let (p, g, h, budget) = (f[0].parse().unwrap(), list(f[1]), list(f[2]), f[3].parse().unwrap());
-    let (no, steps, sum): (u32, u64, u64) = (f[4].parse().unwrap(), f[5].parse().unwrap(), f[6].parse().unwrap());
-    let told = api::from_order(p, &g, &h, budget);
-    let right = if no == 0 { (0, steps, sum / 2) } else { (no, 0, 0) };
-    if told != right {
-        return Err(format!("{:?} for {:?}", told, right));
+    let x = field(&f);
+    let budget = number(f[3]);
+    let right = (number(f[4]) as u32, number(f[5]), number(f[6]));
+    let told = x.from_order(budget);
+    let known = if right.0 == 0 { (0, right.1, right.2 / 2) } else { (right.0, 0, 0) };
+    ensure(told == known, || format!("{:?} for {:?}", told, known))?;
+    let told = x.from_order(1000001);
+    let known = (if right.0 == 0 || right.0 == 10 { 14 } else { right.0 }, 0, 0);
+    ensure(told == known, || "a budget of 1,000,001 is not refused 14".into())?;
+    let mut start = patterned();
+    let no = x.order(&mut start);
+    if no != 0 {
+        return ensure(no == right.0 && start == patterned(), || "a refused order writes, or refuses otherwise".into());
     }
-    if api::from_order(p, &g, &h, 1000001) != (14, 0, 0) {
-        return Err("a budget of 1,000,001 is not refused 14".into());
+    walk_from(&x, &start, budget, right, &record(&f[7..14]))
+}
+
+/// p;G;H;start rows;B;refusal;steps;sum;end rows
+fn walk_from_case(line: &str) -> Verdict {
+    let f: Vec<&str> = line.split(';').collect();
+    let right = (number(f[11]) as u32, number(f[12]), number(f[13]));
+    walk_from(&field(&f), &record(&f[3..10]), number(f[10]), right, &record(&f[14..21]))
+}
+
+/// p;G;H;period;sum;E0;E1;E2;F0;F1;F2
+fn unit_case(line: &str) -> Verdict {
+    let f: Vec<&str> = line.split(';').collect();
+    let x = field(&f);
+    let (period, sum) = (number(f[3]), number(f[4]));
+    let untouched = |c: usize, budget: u64, right: u32| -> Verdict {
+        let (mut rows, mut scratch) = (pattern(6 * c), pattern(6 * c));
+        let told = x.unit(budget, &mut rows, &mut scratch);
+        let same = rows == pattern(6 * c) && scratch == pattern(6 * c);
+        ensure(told == (right, 0, 0) && same, || format!("{:?} for {} with c = {}, budget {}", told, right, c, budget))
+    };
+    let least = sum as usize + 1;
+    for c in [least, least + 3] {
+        let (mut rows, mut scratch) = (pattern(6 * c), pattern(6 * c));
+        let told = x.unit(period, &mut rows, &mut scratch);
+        ensure(told == (0, period, sum / 2), || format!("{:?}", told))?;
+        let mut right = vec![0; 6 * c];
+        for i in 0..6 {
+            for (j, v) in list(f[5 + i]).iter().enumerate() {
+                right[i * c + j] = *v as u16;
+            }
+        }
+        ensure(rows == right, || "other rows".into())?;
+        ensure(scratch.iter().all(|&v| v == 0), || "the scratch is not zero".into())?;
     }
-    Ok(())
+    untouched(least - 1, period, 11)?;
+    untouched(0, period, 11)?;
+    untouched(0, period - 1, 10)?;
+    untouched(least, period - 1, 10)?;
+    untouched(4097, period, 14)?;
+    untouched(least, 1000001, 14)?;
+    let (mut rows, mut scratch) = (pattern(6 * least), pattern(6 * least + 6));
+    let told = x.unit(period, &mut rows, &mut scratch);
+    ensure(told == (14, 0, 0) && rows == pattern(6 * least) && scratch == pattern(6 * least + 6), || "unequal lengths are not refused 14".into())
 }
 
 /// The example rows of the papers: p;G;H;period;regulator.
 fn period_case(line: &str) -> Verdict {
     let f: Vec<&str> = line.split(';').collect();
-    let (p, g, h) = (f[0].parse().unwrap(), list(f[1]), list(f[2]));
-    let right = (0, f[3].parse().unwrap(), f[4].parse().unwrap());
-    let told = api::from_order(p, &g, &h, 1000000);
-    if told != right {
-        return Err(format!("{:?} for {:?}", told, right));
+    let right = (0, number(f[3]), number(f[4]));
+    let told = field(&f).from_order(1000000);
+    ensure(told == right, || format!("{:?} for {:?}", told, right))
+}
+
+/// Counts cases, and prints the line of a file.
+pub struct Tally {
+    pub cases: usize,
+    pub bad: usize,
+    first: String,
+}
+
+impl Tally {
+    pub fn new() -> Self {
+        Tally { cases: 0, bad: 0, first: String::new() }
     }
-    Ok(())
+    pub fn count(&mut self, place: impl FnOnce() -> String, v: Verdict) {
+        self.cases += 1;
+        if let Err(why) = v {
+            self.bad += 1;
+            if self.first.is_empty() {
+                self.first = format!(", first at {}: {}", place(), why);
+            }
+        }
+    }
+    pub fn done(self, path: &str) -> (usize, usize) {
+        println!("{}: {} cases, {} failures{}", path, self.cases, self.bad, self.first);
+        (self.cases - self.bad, self.bad)
+    }
 }
 
 fn lines(path: &str, case: fn(&str) -> Verdict) -> (usize, usize) {
     let text = fs::read_to_string(path).expect("a readable file");
-    let (mut cases, mut bad) = (0, 0);
-    let mut first = String::new();
+    let mut t = Tally::new();
     for (i, line) in text.lines().enumerate() {
-        if line.starts_with('#') || line.is_empty() {
-            continue;
-        }
-        cases += 1;
-        if let Err(why) = case(line) {
-            bad += 1;
-            if first.is_empty() {
-                first = format!(", first at line {}: {}", i + 1, why);
-            }
+        if !line.starts_with('#') && !line.is_empty() {
+            t.count(|| format!("line {}", i + 1), case(line));
         }
     }
-    println!("{}: {} cases, {} failures{}", path, cases, bad, first);
-    (cases - bad, bad)
+    t.done(path)
 }
 
-/// Every file of a folder, in the order of their names.
-pub fn folder(dir: &str) -> (usize, usize) {
-    let mut names: Vec<String> = fs::read_dir(dir)
-        .expect("a folder")
-        .map(|e| e.unwrap().file_name().into_string().unwrap())
-        .collect();
+/// The files of a folder, in the order of their names.
+pub fn names(dir: &str) -> Vec<String> {
+    let entries = fs::read_dir(dir).expect("a folder");
+    let mut names: Vec<String> = entries.map(|e| e.unwrap().file_name().into_string().unwrap()).collect();
     names.sort();
+    names
+}
+
+/// Every file of a folder.
+pub fn folder(dir: &str) -> (usize, usize) {
     let (mut passed, mut failed) = (0, 0);
-    for name in names {
+    for name in names(dir) {
         let path = format!("{}/{}", dir, name);
-        let kind = name.trim_end_matches(".txt").splitn(2, '-').nth(1).unwrap_or("");
+        let kind = name.splitn(2, '-').nth(1).unwrap_or("");
         let (a, b) = match kind {
-            "series" => lines(&path, series_case),
-            "walks" => lines(&path, walk_case),
-            "periods" => lines(&path, period_case),
+            "series.txt" => lines(&path, series_case),
+            "bases.txt" => lines(&path, basis_case),
+            "walks.txt" => lines(&path, walk_case),
+            "walks-from.txt" => lines(&path, walk_from_case),
+            "units.txt" => lines(&path, unit_case),
+            "periods.txt" => lines(&path, period_case),
+            "books.txt" => books::file(&path),
+            k if k.starts_with("lister") && k.ends_with(".in") => lister::file(&path),
+            k if k.starts_with("lister") && k.ends_with(".out") => (0, 0),
             _ => {
                 println!("{}: not known, skipped", path);
                 (0, 0)

@@ -35,12 +35,12 @@ module _ (s : List ℕ) where
   ask-refused i r why e t = let u = refused-of r why e t in book (refused-no why u) u
 
   -- the entry is there exactly when the number is 0
-  told-there : {i : ℕ} {x : Said} → AskTells s i x → x .number ≡ 0 → Accepted s × (i < count s)
+  pub told-there : {i : ℕ} {x : Said} → AskTells s i x → x .number ≡ 0 → Accepted s × (i < count s)
   told-there (book f t) z = absurd (f (told-fine t z))
   told-there (no-entry a h e) z = let u = number-of e in absurd (omega arith)
   told-there (there a h e) z = (a, h)
 
-  told-none : {i : ℕ} {x : Said} → AskTells s i x → (x .number ≡ 0 → ⊥) → Accepted s → i < count s → ⊥
+  pub told-none : {i : ℕ} {x : Said} → AskTells s i x → (x .number ≡ 0 → ⊥) → Accepted s → i < count s → ⊥
   told-none (book f t) z a h = f a
   told-none (no-entry b k e) z a h = omega arith
   told-none (there b k e) z a h = z (number-of e)

@@ -2,7 +2,17 @@
 // The contracts are those of the functions behind them.
 ghost use Rattle.field.specs.Refusal.{Refusal};
 ghost use Rattle.series.specs.Answer.{Answer};
-ghost use Rattle.capi.specs.Order.{NumberOf, PeriodOf, RegulatorOf};
+ghost use Rattle.bases.specs.Answer.{Checks};
+ghost use mathlib.Core.Path.{_≡_};
+ghost use Rattle.book.specs.Answer.{reasonSays, answerSays, requestSays};
+ghost use Rattle.book.specs.Book.{count};
+ghost use Rattle.book_body.specs.Body.{bodyOf};
+ghost use Rattle.book_body.specs.Code.{gotSays};
+ghost use Rattle.book_write.specs.Write.{bodyFrom, wroteSays};
+ghost use Rattle.book_add.specs.Add.{addedSays};
+ghost use Rattle.book_attest.specs.Attest.{attestSays};
+ghost use Rattle.capi.specs.Told.{OrderTells, StepTells, WalkTells, FromOrderTells, UnitTells};
+ghost use Rattle.capi.specs.Books.{numbers, CheckSays, AskSays, ListSays, WriteSays, AddSays, AttestSays};
 
 // The number of the first refusal of p, G, H; 0 where the field is accepted.
 #[no_mangle]
@@ -20,31 +30,304 @@ pub extern "C" fn zaminuk_series(p: u64, g: &[u64], h: &[u64], r: &mut [u16], w:
     series::series(p, g, h, r, w)
 }
 
-// The walk of at most `budget` steps from the order: its refusal, 0 where it closes ..
+// The basis of the order, into a lent record.
 #[no_mangle]
-pub extern "C" fn zaminuk_order_refusal(p: u64, g: &[u64], h: &[u64], budget: u64) -> u32
-    ensures { λ n. ⌜ NumberOf p (now (g .entry)) (now (h .entry)) budget n ⌝ }
+pub extern "C" fn zaminuk_order(p: u64, g: &[u64], h: &[u64], rows: &mut [u16; 119]) -> u32
+    ensures { λ n. ⌜ OrderTells p (now (g .entry)) (now (h .entry)) (now (rows .entry)) n (now (rows .exit)) ⌝ }
 {
-    let o = walks::from_order(p, g, h, budget);
-    o.refusal
+    let o = bases::order(p, g, h);
+    let n = o.refusal;
+    if n == 0 {
+        let b = o.basis;
+        *rows = b;
+    }
+    n
 }
 
-// .. the period, 0 beside a refusal ..
+// Whether the rows are the scaled reduced basis of a reduced ideal: 0, or the refusal.
 #[no_mangle]
-pub extern "C" fn zaminuk_period(p: u64, g: &[u64], h: &[u64], budget: u64) -> u64
-    ensures { λ n. ⌜ PeriodOf p (now (g .entry)) (now (h .entry)) budget n ⌝ }
+pub extern "C" fn zaminuk_check(p: u64, g: &[u64], h: &[u64], rows: &[u16; 119]) -> u32
+    ensures { λ n. ⌜ Checks p (now (g .entry)) (now (h .entry)) (now (rows .entry)) n ⌝ }
+{
+    let b = *rows;
+    bases::check(p, g, h, b)
+}
+
+// One step, in place: the next record, and the degree of the m divided by, 0 beside a refusal.
+#[no_mangle]
+pub extern "C" fn zaminuk_step(
+    p: u64,
+    g: &[u64],
+    h: &[u64],
+    rows: &mut [u16; 119],
+    degree: &mut u64,
+) -> u32
+    ensures { λ n. ⌜ StepTells p (now (g .entry)) (now (h .entry)) (now (rows .entry)) n (now (degree .exit)) (now (rows .exit)) ⌝ }
+{
+    let from = *rows;
+    let s = stepped::step(p, g, h, from);
+    let n = s.refusal;
+    *degree = s.degree;
+    if n == 0 {
+        let b = s.basis;
+        *rows = b;
+    }
+    n
+}
+
+// A walk of at most `budget` steps, in place: the last record, also where the budget was spent (10); steps and degree sum, 0 beside the
+// other refusals.
+#[no_mangle]
+pub extern "C" fn zaminuk_walk(
+    p: u64,
+    g: &[u64],
+    h: &[u64],
+    budget: u64,
+    rows: &mut [u16; 119],
+    steps: &mut u64,
+    sum: &mut u64,
+) -> u32
+    ensures { λ n. ⌜ WalkTells p (now (g .entry)) (now (h .entry)) budget (now (rows .entry)) n (now (steps .exit)) (now (sum .exit)) (now (rows .exit)) ⌝ }
+{
+    let from = *rows;
+    let o = walks::walk(p, g, h, from, budget);
+    let n = o.refusal;
+    *steps = o.steps;
+    *sum = o.sum;
+    let b = o.basis;
+    if n == 0 {
+        *rows = b;
+        return n;
+    }
+    if n == 10 {
+        *rows = b;
+        return n;
+    }
+    n
+}
+
+// The walk of at most `budget` steps from the order: its refusal; period and regulator, 0 beside a refusal.
+#[no_mangle]
+pub extern "C" fn zaminuk_from_order(
+    p: u64,
+    g: &[u64],
+    h: &[u64],
+    budget: u64,
+    period: &mut u64,
+    regulator: &mut u64,
+) -> u32
+    ensures { λ n. ⌜ FromOrderTells p (now (g .entry)) (now (h .entry)) budget n (now (period .exit)) (now (regulator .exit)) ⌝ }
 {
     let o = walks::from_order(p, g, h, budget);
     let t = o.period;
+    let r = o.regulator;
+    *period = t.0;
+    *regulator = r.0;
+    o.refusal
+}
+
+// The unit and its inverse into the first of two lent slices of one length; period and regulator, 0 beside a refusal.
+#[no_mangle]
+pub extern "C" fn zaminuk_unit(
+    p: u64,
+    g: &[u64],
+    h: &[u64],
+    budget: u64,
+    rows: &mut [u16],
+    scratch: &mut [u16],
+    period: &mut u64,
+    regulator: &mut u64,
+) -> u32
+    ensures { λ n. ⌜ UnitTells p (now (g .entry)) (now (h .entry)) budget (now (rows .entry)) (now (scratch .entry)) n (now (period .exit)) (now (regulator .exit)) (now (rows .exit)) (now (scratch .exit)) ⌝ }
+{
+    let o = unit::unit(p, g, h, budget, rows, scratch);
+    let t = o.period;
+    let r = o.regulator;
+    *period = t.0;
+    *regulator = r.0;
+    o.refusal
+}
+
+// A reason in numbers.
+fn reason_row(why: book::Reason) -> [u64; 5]
+    ensures { λ o. ⌜ o ≡ numbers (reasonSays why) ⌝ }
+{
+    match why {
+        book::Reason::Mark => [13, 1, 0, 0, 0],
+        book::Reason::Contents => [13, 2, 0, 0, 0],
+        book::Reason::BodyRule(i) => [13, 3, i as u64, 0, 0],
+        book::Reason::Field(i, n) => [13, 4, i as u64, n as u64, 0],
+        book::Reason::Twice(i, j) => [13, 5, i as u64, j as u64, 0],
+    }
+}
+
+fn answer_row(a: book::Answer) -> [u64; 5]
+    ensures { λ o. ⌜ o ≡ numbers (answerSays a) ⌝ }
+{
+    match a {
+        book::Answer::Yes => [0, 0, 0, 0, 0],
+        book::Answer::Refused(why) => reason_row(why),
+    }
+}
+
+fn request_row(a: book::Request) -> [u64; 5]
+    ensures { λ o. ⌜ o ≡ numbers (requestSays a) ⌝ }
+{
+    match a {
+        book::Request::There => [0, 0, 0, 0, 0],
+        book::Request::Refused(why) => reason_row(why),
+        book::Request::NoEntry => [14, 0, 0, 0, 0],
+    }
+}
+
+fn got_row(a: book_body::Got) -> [u64; 5]
+    ensures { λ o. ⌜ o ≡ numbers (gotSays a) ⌝ }
+{
+    match a {
+        book_body::Got::Length(n) => [0, 0, 0, 0, n as u64],
+        book_body::Got::NoList => [14, 0, 0, 0, 0],
+        book_body::Got::Short => [11, 0, 0, 0, 0],
+    }
+}
+
+fn wrote_row(a: book_write::Wrote) -> [u64; 5]
+    ensures { λ o. ⌜ o ≡ numbers (wroteSays a) ⌝ }
+{
+    match a {
+        book_write::Wrote::Length(n) => [0, 0, 0, 0, n as u64],
+        book_write::Wrote::FieldRefused(k) => [k as u64, 0, 0, 0, 0],
+        book_write::Wrote::RuleBroken => [13, 3, 0, 0, 0],
+        book_write::Wrote::Short => [11, 0, 0, 0, 0],
+    }
+}
+
+fn added_row(a: book_add::Added) -> [u64; 5]
+    ensures { λ o. ⌜ o ≡ numbers (addedSays a) ⌝ }
+{
+    match a {
+        book_add::Added::Length(n) => [0, 0, 0, 0, n as u64],
+        book_add::Added::LengthOut => [14, 0, 0, 0, 0],
+        book_add::Added::Refused(why) => reason_row(why),
+        book_add::Added::Known => [15, 0, 0, 0, 0],
+        book_add::Added::Short => [11, 0, 0, 0, 0],
+    }
+}
+
+fn attest_row(a: book_attest::Attestation) -> [u64; 5]
+    ensures { λ o. ⌜ o ≡ numbers (attestSays a) ⌝ }
+{
+    match a {
+        book_attest::Attestation::Yes => [0, 0, 0, 0, 1],
+        book_attest::Attestation::No => [0, 0, 0, 0, 0],
+        book_attest::Attestation::Refused(why) => reason_row(why),
+        book_attest::Attestation::NoEntry => [14, 0, 0, 0, 0],
+    }
+}
+
+// Checks a book: five numbers, the refusal, the inner reason, its entry, its other number, the result.
+#[no_mangle]
+pub extern "C" fn zaminuk_book_check(book: &[u8], said: &mut [u64; 5])
+    ensures { λ _. ⌜ CheckSays (now (book .entry)) (now (said .exit)) ⌝ }
+{
+    let a = book::check(book);
+    let o = answer_row(a);
+    *said = o;
+}
+
+// The number of bodies that a book's contents say it has.
+#[no_mangle]
+pub extern "C" fn zaminuk_book_bodies(book: &[u8]) -> usize
+    ensures { λ n. ⌜ n ≡ count (now (book .entry)) ⌝ }
+{
+    book::bodies(book)
+}
+
+// Asks for entry i: where its part of the book starts, and how long it is.
+#[no_mangle]
+pub extern "C" fn zaminuk_book_ask(
+    book: &[u8],
+    i: usize,
+    start: &mut usize,
+    size: &mut usize,
+    said: &mut [u64; 5],
+)
+    ensures { λ _. ⌜ AskSays (now (book .entry)) i (now (start .exit)) (now (size .exit)) (now (said .exit)) ⌝ }
+{
+    let a = book::ask_answer(book, i);
+    let o = request_row(a);
+    if o[0] == 0 {
+        *start = book_bytes::four(book, 6 + 8 * i);
+        *size = book_bytes::four(book, 10 + 8 * i);
+    } else {
+        *start = 0;
+        *size = 0;
+    }
+    *said = o;
+}
+
+// Attests entry i: the result is 1 for yes.
+#[no_mangle]
+pub extern "C" fn zaminuk_book_attest(book: &[u8], i: usize, said: &mut [u64; 5])
+    ensures { λ _. ⌜ AttestSays (now (book .entry)) i (now (said .exit)) ⌝ }
+{
+    let a = book_attest::attest(book, i);
+    let o = attest_row(a);
+    *said = o;
+}
+
+// The prime of a body.
+#[no_mangle]
+pub extern "C" fn zaminuk_body_prime(body: &[u8]) -> u64
+    ensures { λ r. ⌜ r ≡ bodyOf (now (body .entry)) .p ⌝ }
+{
+    book_body::prime_of(body)
+}
+
+// The period of a body.
+#[no_mangle]
+pub extern "C" fn zaminuk_body_period(body: &[u8]) -> u64
+    ensures { λ r. ⌜ r ≡ bodyOf (now (body .entry)) .period ⌝ }
+{
+    let t = book_body::period_of(body);
     t.0
 }
 
-// .. and the regulator.
+// List k of a body, 0 to 4 for G, H, E0, E1, E2, into the front of a lent slice; the result is its length.
 #[no_mangle]
-pub extern "C" fn zaminuk_regulator(p: u64, g: &[u64], h: &[u64], budget: u64) -> u64
-    ensures { λ n. ⌜ RegulatorOf p (now (g .entry)) (now (h .entry)) budget n ⌝ }
+pub extern "C" fn zaminuk_body_list(body: &[u8], k: usize, out: &mut [u64], said: &mut [u64; 5])
+    ensures { λ _. ⌜ ListSays (now (body .entry)) k (now (out .entry)) (now (out .exit)) (now (said .exit)) ⌝ }
 {
-    let o = walks::from_order(p, g, h, budget);
-    let t = o.regulator;
-    t.0
+    let a = book_body::list_of(body, k, out);
+    let o = got_row(a);
+    *said = o;
+}
+
+// Writes a body into a lent slice; the result is its length.
+#[no_mangle]
+pub extern "C" fn zaminuk_book_write(
+    p: u64,
+    g: &[u64],
+    h: &[u64],
+    period: u64,
+    a: &[u64],
+    b: &[u64],
+    c: &[u64],
+    out: &mut [u8],
+    said: &mut [u64; 5],
+)
+    ensures { λ _. ⌜ WriteSays (bodyFrom p (now (g .entry)) (now (h .entry)) period (now (a .entry)) (now (b .entry)) (now (c .entry))) (now (out .entry)) (now (out .exit)) (now (said .exit)) ⌝ }
+{
+    let w = book_write::write_body(p, g, h, counts::Period(period), a, b, c, out);
+    let o = wrote_row(w);
+    *said = o;
+}
+
+// Adds a body to the book of length n at the front of a lent slice; the result is the new length.
+#[no_mangle]
+pub extern "C" fn zaminuk_book_add(out: &mut [u8], n: usize, body: &[u8], said: &mut [u64; 5])
+    ensures { λ _. ⌜ AddSays (now (out .entry)) n (now (body .entry)) (now (out .exit)) (now (said .exit)) ⌝ }
+{
+    let a = book_add::add(out, n, body);
+    let o = added_row(a);
+    *said = o;
 }

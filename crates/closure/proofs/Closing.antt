@@ -7,24 +7,21 @@ use mathlib.Core.Path.{_≡_, refl, sym, ap, _∙_, subst}
 use mathlib.Core.Logic.{_≢_}
 use mathlib.Core.Bool.{Bool, true, false}
 use mathlib.Core.List.{List}
-use Prim.Native.Nat.{ℕ, _+_, _*_, _-_, _%_, _<_, _≤_}
+use Prim.Native.Nat.{ℕ, _*_, _-_, _%_, _<_, _≤_}
 use native.Mathlib.Nat.{mul-comm}
 use native.Mathlib.Omega.{arith}
 use lib.ListN.{getD, replicate}
 use Rattle.ring.proofs.Laws as rg
-use Rattle.ring.specs.Ring.{Ops, CRing}
-use Rattle.valued.specs.Val.{Valued}
 use Rattle.valued.specs.Polynomial.{polys}
 use Rattle.valued.proofs.Degree.{lt-eq}
 use Rattle.valued.proofs.Polynomial.{P-path}
-use Rattle.residue.specs.Residue.{Modulus, Nonzero, Inverse}
+use Rattle.residue.specs.Residue.{Nonzero, Inverse}
 use Rattle.reading.specs.Made.{reading}
-use Rattle.reading.specs.Row.{Row, Size, row}
+use Rattle.reading.specs.Row.{Size}
 use Rattle.reading.proofs.Rows.{size-le}
 use Rattle.reading.proofs.Floors.{zero-row}
 use Rattle.poly.proofs.Leaf.{size-one, zeros-row, zeros-size}
 use Rattle.ideals.specs.Setting.{P}
-use Rattle.ideals.specs.Element.{O}
 use Rattle.ideals.specs.Ideal.{det}
 use Rattle.ideals.proofs.Check.{Coords}
 use Rattle.ideals.proofs.Sizes.{O-path}
@@ -32,11 +29,10 @@ use Rattle.ideals.proofs.Tests.{times-r, times-w}
 use Rattle.field.specs.Refusal.{Accepted}
 use Rattle.record.specs.Record.{setting, polyOf}
 use Rattle.reduce.specs.Frame.{Short}
-use Rattle.book_bytes.specs.Decides.{Decides}
 use Rattle.book_bytes.proofs.Tests.{answer-no, settled}
 use Rattle.generators.specs.Rows.{Seven, rowsOf, Holds}
 use Rattle.generators.specs.Quotients.{Inverts, DetIn, Det}
-use Rattle.closure.specs.Closed.{Room, Given, UnderIn, Under, KeepsIn, Keeps, Kept, Closed, element}
+use Rattle.closure.specs.Closed.{UnderIn, Under, KeepsIn, Keeps, Kept, Closed, element}
 use Rattle.closure.proofs.Members.{carried}
 use Rattle.closure.proofs.Products.{fits}
 

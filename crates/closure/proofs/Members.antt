@@ -3,33 +3,32 @@
 --   room-of                a rest by U times a row of 17 fits
 --   inside-yes, inside-no  U divides a − (b m + c n) exactly where the last rest is 0
 --   member-yes, member-no, member-first, member-second   and the three divisions
-use mathlib.Core.Path.{_≡_, refl, sym, ap, ap₂, _∙_, subst}
+use mathlib.Core.Path.{_≡_, sym, ap, ap₂, _∙_, subst}
 use mathlib.Core.Logic.{_≢_}
 use mathlib.Core.Bool.{Bool}
 use mathlib.Core.List.{List, [], _∷_}
-use Prim.Native.Nat.{ℕ, zero, suc, _+_, _-_, _*_, _%_, _<_, _≤_}
+use Prim.Native.Nat.{ℕ, zero, suc, _+_, _*_, _%_, _<_, _≤_}
 use native.Mathlib.Omega.{arith}
 use native.Mathlib.Nat.{mod-eq-of-lt}
 use lib.ListN.{getD}
-use Rattle.ring.specs.Ring.{Ops, CRing}
+use Rattle.ring.specs.Ring.{Ops}
 use Rattle.ring.proofs.Solve.{var, hyp, one, zer, minus, _:+_, _:*_, solve, solve-by}
 use Rattle.fp.specs.Fp.{Prime}
 use Rattle.valued.specs.Val.{Valued}
-use Rattle.valued.specs.Degree.{Has, Lt}
+use Rattle.valued.specs.Degree.{Has}
 use Rattle.valued.proofs.Degree as d
 use Rattle.reading.specs.Reading.{Reading}
 use Rattle.reading.specs.Made.{reading}
 use Rattle.reading.specs.Row.{Row, Size, row}
-use Rattle.reading.proofs.Rows.{row-poly, size-le, size-has, size-lt}
+use Rattle.reading.proofs.Rows.{row-poly, size-le, size-has}
 use Rattle.reading.proofs.Floors.{sized, zero-row}
 use Rattle.reading.proofs.Quotient.{division-unique}
 use Rattle.residue.specs.Residue.{Modulus}
 use Rattle.poly.specs.Leaf.{MulIn, Product, Summed, Difference}
 use Rattle.poly.specs.Division.{DivIn, Divided}
 use Rattle.book_bytes.specs.Decides.{Decides}
-use Rattle.book_bytes.proofs.Tests.{answer-yes, answer-no}
 use Rattle.generators.specs.Rows.{Seven}
-use Rattle.generators.specs.Quotients.{Inverts, Det, Quotients}
+use Rattle.generators.specs.Quotients.{Inverts, Det}
 use Rattle.reduce.specs.Frame.{Short}
 use Rattle.basis.proofs.Place.{size-below}
 use Rattle.closure.specs.Lattice.{InsideIn, InsideAt, MemberIn, MemberAt}

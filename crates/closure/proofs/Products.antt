@@ -2,38 +2,31 @@
 --   r-in w-in              what `member` asks of r v and w v: every product fits
 --   decides-r decides-w    what its answer says of the lattice
 --   keeps-no keeps-yes     the two answers together
-use mathlib.Core.Path.{_≡_, refl, sym, ap, ap₂, _∙_}
+use mathlib.Core.Path.{_≡_, refl, sym}
 use mathlib.Core.Bool.{Bool, true, false}
 use mathlib.Core.List.{List}
 use Prim.Native.Nat.{ℕ, suc, _+_, _≤_}
 use native.Mathlib.Omega.{arith}
-use Rattle.ring.specs.Ring.{Ops, CRing}
 use Rattle.fp.specs.Fp.{Prime}
-use Rattle.valued.specs.Val.{Valued}
-use Rattle.valued.specs.Degree.{Lt}
-use Rattle.valued.specs.Polynomial.{polys}
 use Rattle.valued.proofs.Degree as d
 use Rattle.valued.proofs.Compare.{lt-mul-sharp}
-use Rattle.valued.proofs.Polynomial.{P-path}
-use Rattle.reading.specs.Reading.{Reading}
 use Rattle.reading.specs.Made.{reading}
-use Rattle.reading.specs.Row.{Row, Size, row}
+use Rattle.reading.specs.Row.{Row, row}
 use Rattle.poly.specs.Leaf.{MulIn, Product}
 use Rattle.ideals.specs.Element.{O}
-use Rattle.ideals.specs.Ideal.{det}
 use Rattle.ideals.proofs.Check.{Coords}
 use Rattle.ideals.proofs.Tests.{times-r, times-w}
 use Rattle.field.specs.Refusal.{Accepted}
-use Rattle.record.specs.Record.{setting, polyOf}
+use Rattle.record.specs.Record.{setting}
 use Rattle.reduce.specs.Frame.{Short}
 use Rattle.basis.proofs.Place.{size-below, short-lt, row-short}
 use Rattle.book_bytes.specs.Decides.{Decides}
 use Rattle.book_bytes.proofs.Tests.{answer-no}
 use Rattle.generators.specs.Rows.{Seven, AreRows, rowsOf, Holds}
-use Rattle.generators.specs.Quotients.{Fits, Det, Quotients}
+use Rattle.generators.specs.Quotients.{Fits, Det}
 use Rattle.generators.proofs.Products.{quot-of, coords-from, times-g-is, times-h-is, times-gh-is}
-use Rattle.closure.specs.Lattice.{MemberIn, MemberAt, Member}
-use Rattle.closure.specs.Closed.{Room, Given, KeepsIn, Kept, Keeps, element}
+use Rattle.closure.specs.Lattice.{MemberIn, Member}
+use Rattle.closure.specs.Closed.{Room, KeepsIn, Keeps, element}
 use Rattle.closure.proofs.Members.{carried}
 
 -- ---- lengths

@@ -5,17 +5,13 @@
 --   Keeps, Under       an answer that decides the one, the other, at each field that the rows g, h, gh hold
 --   Room p b           how long the rows of b are; with it all products on the way fit into 32 coefficients
 -- Rows of a basis of a reduced ideal are no longer: crate accepts tests that first. Two answers of one question are equal: `under-one`.
-use mathlib.Core.Path.{_≡_}
 use mathlib.Core.Logic.{_≢_}
 use mathlib.Core.Bool.{Bool}
 use mathlib.Core.List.{List}
 use Prim.Native.Nat.{ℕ}
-use Rattle.ring.specs.Ring.{Ops, CRing}
 use Rattle.fp.specs.Fp.{Prime}
-use Rattle.valued.specs.Val.{Valued}
 use Rattle.valued.specs.Polynomial.{polys}
 use Rattle.residue.specs.Residue.{Modulus}
-use Rattle.reading.specs.Row.{Row}
 use Rattle.ideals.specs.Element.{O}
 use Rattle.ideals.specs.Ideal.{det}
 use Rattle.ideals.proofs.Check.{Coords}

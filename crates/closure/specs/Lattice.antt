@@ -5,11 +5,8 @@ use mathlib.Core.Path.{_≡_}
 use mathlib.Core.Bool.{Bool}
 use mathlib.Core.List.{List}
 use Prim.Native.Nat.{ℕ}
-use Rattle.ring.specs.Ring.{Ops, CRing}
 use Rattle.fp.specs.Fp.{Prime}
-use Rattle.valued.specs.Val.{Valued}
 use Rattle.residue.specs.Residue.{Modulus}
-use Rattle.reading.specs.Reading.{Reading}
 use Rattle.reading.specs.Made.{reading}
 use Rattle.reading.specs.Row.{Row, row}
 use Rattle.book_bytes.specs.Decides.{Decides}

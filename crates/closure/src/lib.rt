@@ -13,7 +13,7 @@ ghost use Rattle.closure.specs.Lattice.{InsideIn, Inside, MemberIn, Memb
 ghost use Rattle.closure.specs.Closed.{KeepsIn, Keeps, UnderIn, Under};
 
 // Whether u divides a - (b m + c n). b and c count modulo u.
-pub fn inside(
+fn inside(
     p: u64,
     a: &[u64; 32],
     b: &[u64; 32],
@@ -40,7 +40,7 @@ pub fn inside(
 }
 
 // Whether va + vb r + vc w lies in the lattice: three exact divisions, two by e = M1 N2 - M2 N1 and one by U.
-pub fn member(
+fn member(
     p: u64,
     va: &[u64; 32],
     vb: &[u64; 32],

@@ -7,7 +7,7 @@ use native.Mathlib.Decide.{ℕ-discrete}
 use Rattle.field.proofs.Stages.{refusal-one}
 use Rattle.field.proofs.Opening.{opens-one}
 use Rattle.series.proofs.Answer.{answer-one}
-use Rattle.bases.proofs.Answer.{orders-one}
+use Rattle.bases.proofs.Answer.{orders-one, checks-one}
 use Rattle.stepped.proofs.Answers.{answers-one}
 use Rattle.walk.proofs.Walk.{walks-one}
 use Rattle.walks.proofs.Order.{from-order-one}
@@ -79,6 +79,7 @@ demand-1 = record {
   open-fixed = opens-one;
   series-fixed = λ h k. answer-one _ _ _ _ h k;
   order-fixed = orders-one;
+  check-fixed = λ p G H B n n′ h k. checks-one n n′ h k;
   step-fixed = answers-one;
   walk-fixed = λ v w h k. walks-one _ _ _ _ _ v w h k;
   from-order-fixed = λ v w h k. from-order-one _ _ _ _ v w h k;

@@ -14,7 +14,7 @@ use Rattle.field.specs.Opening.{Opens}
 use Rattle.field.specs.declared.Opened.{Opened}
 use Rattle.series.specs.Answer as series
 use Rattle.bases.specs.declared.Ordered.{Ordered}
-use Rattle.bases.specs.Answer.{Orders}
+use Rattle.bases.specs.Answer.{Orders, Checks}
 use Rattle.stepped.specs.declared.Stepped.{Stepped}
 use Rattle.stepped.specs.Answer.{Answers}
 use Rattle.walk.specs.declared.Walked.{Walked}
@@ -45,6 +45,7 @@ pub record Demand1 : Type 0 where
   pub open-fixed : {p : ℕ} {G H : List ℕ} (o o′ : Opened) → Opens p G H o → Opens p G H o′ → o ≡ o′
   pub series-fixed : {p n n′ : ℕ} {G H r w r₁ w₁ r₂ w₂ : List ℕ} → series.Answer p G H r w r₁ w₁ n → series.Answer p G H r w r₂ w₂ n′ → (n ≡ n′) × (r₁ ≡ r₂) × (w₁ ≡ w₂)
   pub order-fixed : {p : ℕ} {G H : List ℕ} (o o′ : Ordered) → Orders p G H o → Orders p G H o′ → o ≡ o′
+  pub check-fixed : (p : ℕ) (G H B : List ℕ) (n n′ : ℕ) → Checks p G H B n → Checks p G H B n′ → n ≡ n′
   pub step-fixed : {p : ℕ} {G H B : List ℕ} (s s′ : Stepped) → Answers p G H B s → Answers p G H B s′ → s ≡ s′
   pub walk-fixed : {p n : ℕ} {G H B : List ℕ} (v w : Walked) → Walks p G H n B v → Walks p G H n B w → v ≡ w
   pub from-order-fixed : {p n : ℕ} {G H : List ℕ} (v w : Told) → FromOrder p G H n v → FromOrder p G H n w → v ≡ w

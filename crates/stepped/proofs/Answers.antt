@@ -2,7 +2,7 @@
 --   answers-one                                      two answers that meet it are equal
 --   known-of                                         a field that opens is known
 --   answers-refused answers-no-record answers-next   the three ends of `step`
-use mathlib.Core.Path.{_≡_, refl, sym, ap, ap₂, _∙_, subst}
+use mathlib.Core.Path.{_≡_, refl, sym, ap, _∙_, subst}
 use mathlib.Core.Logic.{_≢_}
 use mathlib.Core.Bool.{Bool, true, false}
 use mathlib.Core.List.{List}
@@ -12,13 +12,11 @@ use Rattle.field.specs.Refusal.{Refusal, Accepted}
 use Rattle.field.proofs.Stages.{refusal-one}
 use Rattle.field.proofs.Accept.{accepted}
 use Rattle.record.specs.Record.{IsRecord}
-use Rattle.series.specs.Answer.{Prefix, Expands}
-use Rattle.series.specs.declared.Cubic.{Cubic}
+use Rattle.series.specs.Answer.{Expands}
 use Rattle.series.specs.declared.Expanded.{Expanded}
 use Rattle.opened.specs.Known.{Known}
 use Rattle.book_bytes.specs.Decides.{Decides}
 use Rattle.accepts.specs.Answer.{Accepts}
-use Rattle.step.specs.Steps.{Steps}
 use Rattle.step.specs.declared.Advance.{Advance}
 use Rattle.step.proofs.Once.{steps-one}
 use Rattle.stepped.specs.Answer.{NextIn, NextOut, refused, Goes, no-record, taken, Answers}

@@ -2,10 +2,10 @@
 --   open-then closing-then      of any chain
 --   closed-later spent-later    of records
 --   taken-up                    of the whole answers: a walk refused with 10, and the walk from where it stopped, are the long walk
-use mathlib.Core.Path.{_≡_, refl, sym, ap, _∙_, subst}
+use mathlib.Core.Path.{_≡_, refl, sym, ap, _∙_}
 use mathlib.Core.Logic.{_≢_, _⊎_, inl, inr}
 use mathlib.Core.List.{List}
-use Prim.Native.Nat.{ℕ, zero, suc, _+_, _-_, _≤_, _<_}
+use Prim.Native.Nat.{ℕ, _+_, _-_, _≤_, _<_}
 use native.Mathlib.Omega.{arith}
 use native.Mathlib.Decide.{decLe, ℕ-discrete}
 use Rattle.valued.specs.Polynomial.{polys}
@@ -14,11 +14,11 @@ use Rattle.ideals.specs.Ideal.{Basis}
 use Rattle.ideals.specs.Basis.{Good}
 use Rattle.chain.specs.Chain.{Chain, Closing, Open}
 use Rattle.chain.proofs.Walk.{same-chain, chain-then, prefix}
-use Rattle.field.specs.Refusal.{Accepted, Refusal}
+use Rattle.field.specs.Refusal.{Refusal}
 use Rattle.field.proofs.Stages.{refusal-one}
 use Rattle.record.specs.Record.{setting, basisOf, IsRecord}
 use Rattle.walk.specs.declared.Walked.{Walked}
-use Rattle.walk.specs.Walk.{most, Reaches, Closes, StaysOpen, refused, Closed, Spent, Goes, budget, no-record, closed, spent, Walks}
+use Rattle.walk.specs.Walk.{most, refused, Closed, Spent, Goes, budget, no-record, closed, spent, Walks}
 
 -- ---- of any chain
 module _ (S : Setting) (B₀ B₁ : Basis S) (good : Good S B₀) {n d : ℕ} (c : Chain S B₀ n d B₁) (open-to : Open S B₀ n) where

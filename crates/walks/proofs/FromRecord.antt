@@ -6,10 +6,9 @@ use mathlib.Core.Logic.{_≢_, _⊎_, inl, inr}
 use mathlib.Core.Bool.{Bool, true, false}
 use mathlib.Core.List.{List}
 use Prim.Native.Nat.{ℕ, _≤_, _<_}
-use Rattle.field.specs.Refusal.{Refusal, Accepted}
+use Rattle.field.specs.Refusal.{Refusal}
 use Rattle.record.specs.Record.{IsRecord}
-use Rattle.series.specs.Answer.{Prefix, Expands}
-use Rattle.series.specs.declared.Cubic.{Cubic}
+use Rattle.series.specs.Answer.{Expands}
 use Rattle.series.specs.declared.Expanded.{Expanded}
 use Rattle.book_bytes.specs.Decides.{Decides}
 use Rattle.accepts.specs.Answer.{Accepts}

@@ -1,0 +1,66 @@
+-- What the functions of the C interface tell: the one answer that the contract of the function behind each allows, in numbers and lent arrays.
+--   Left n a b x         what is lent: without a refusal it holds x afterwards, with one it is as it was
+--   OrderTells           the record of the order, into a lent array
+--   StepTells            the next record in place of the old one, and the degree of the m divided by
+--   Ends n a b x         of a walk, what is lent: it holds x afterwards where the walk closed or its budget was spent, else it is as it was
+--   WalkTells            the last record in place of the first one, steps and degree sum
+--   FromOrderTells       period and regulator of the walk from the order
+--   UnitTells            the unit and its inverse in the lent slices, period and regulator
+-- In proofs/Once.antt: two outcomes that meet one of them are equal.
+use mathlib.Core.Path.{_≡_}
+use mathlib.Core.Logic.{_≢_, _⊎_}
+use mathlib.Core.List.{List}
+use Prim.Native.Nat.{ℕ}
+use Rattle.bases.specs.declared.Ordered.{Ordered}
+use Rattle.bases.specs.Answer.{Orders}
+use Rattle.stepped.specs.declared.Stepped.{Stepped}
+use Rattle.stepped.specs.Answer.{Answers}
+use Rattle.walk.specs.declared.Walked.{Walked}
+use Rattle.walk.specs.Walk.{Walks}
+use Rattle.walks.specs.declared.Told.{Told}
+use Rattle.walks.specs.Order.{FromOrder}
+use Rattle.unit.specs.declared.Made.{Made}
+use Rattle.unit.specs.Unit.{Makes}
+
+pub record Left (n : ℕ) (before after x : List ℕ) : Type 0 where
+  pub stored : n ≡ 0 → after ≡ x
+  pub kept : n ≢ 0 → after ≡ before
+
+pub record OrderTells (p : ℕ) (G H before : List ℕ) (n : ℕ) (after : List ℕ) : Type 0 where
+  pub o : Ordered
+  pub orders : Orders p G H o
+  pub number : n ≡ o .refusal
+  pub rows : Left n before after (o .basis)
+
+pub record StepTells (p : ℕ) (G H before : List ℕ) (n degree : ℕ) (after : List ℕ) : Type 0 where
+  pub s : Stepped
+  pub answers : Answers p G H before s
+  pub number : n ≡ s .refusal
+  pub degree-is : degree ≡ s .degree
+  pub rows : Left n before after (s .basis)
+
+pub record Ends (n : ℕ) (before after x : List ℕ) : Type 0 where
+  pub stored : (n ≡ 0) ⊎ (n ≡ 10) → after ≡ x
+  pub kept : n ≢ 0 → n ≢ 10 → after ≡ before
+
+pub record WalkTells (p : ℕ) (G H : List ℕ) (budget : ℕ) (before : List ℕ) (n steps sum : ℕ) (after : List ℕ) : Type 0 where
+  pub o : Walked
+  pub walks : Walks p G H budget before o
+  pub number : n ≡ o .refusal
+  pub steps-is : steps ≡ o .steps
+  pub sum-is : sum ≡ o .sum
+  pub rows : Ends n before after (o .basis)
+
+pub record FromOrderTells (p : ℕ) (G H : List ℕ) (budget n period regulator : ℕ) : Type 0 where
+  pub o : Told
+  pub from : FromOrder p G H budget o
+  pub number : n ≡ o .refusal
+  pub period-is : period ≡ o .period .0
+  pub regulator-is : regulator ≡ o .regulator .0
+
+pub record UnitTells (p : ℕ) (G H : List ℕ) (budget : ℕ) (rows scratch : List ℕ) (n period regulator : ℕ) (rows′ scratch′ : List ℕ) : Type 0 where
+  pub m : Made
+  pub makes : Makes p G H budget rows scratch m rows′ scratch′
+  pub number : n ≡ m .refusal
+  pub period-is : period ≡ m .period .0
+  pub regulator-is : regulator ≡ m .regulator .0

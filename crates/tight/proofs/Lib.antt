@@ -1,0 +1,10 @@
+pub mod Rows
+pub mod Poly
+pub mod Pairs
+pub mod Reduction
+pub mod Generators
+pub mod Bases
+pub mod Tests
+pub mod Steps
+pub mod Long
+pub mod Bytes

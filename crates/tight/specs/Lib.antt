@@ -1,0 +1,35 @@
+-- Tightness: for each public function, by the crate that has it, the theorem that two outcomes which meet its contract at one input are
+-- equal: result, and contents of each lent slice after the call. Functions that are not named have a contract that is an equation.
+--   residue       inverse, cube_root: inverse-one, cube-root-one (residue/proofs/Unique)
+--   prime         is_prime: is-prime-one (Poly)
+--   poly          size_from, size: size-one; lead: lead-one; from_list: from-list-one; squarefree, coprime: squarefree-one, coprime-one;
+--                 for a prime p: add, sub, minus, scale, cross, mul, derivative, quotient, divide: add-one, sub-one, minus-one, scale-one,
+--                 cross-one, mul-one, derivative-one, quotient-one, divide-one; exact, where b divides a: exact-one;
+--                 gcd, up to a constant: gcd-one (Poly)
+--   field         list_length: list-one (field/proofs/Parts); refusal: refusal-one; open: opens-one (field/proofs)
+--   series        series, open_with_series: answer-one, expands-one (series/proofs/Answer)
+--   reduce        part: part-one; lead_of, where the size has a degree: lead-of-one; reduced, up to constants: reduced-one (Reduction)
+--   generators    det, coords: det-one, coords-one; divided, up to a constant: divided-one (Generators)
+--   basis         stored, load, level, reduced_basis, order: stored-one, load-one, level-one, reduced-basis-one, order-one (Bases)
+--   closure       inside, member, under: inside-one, member-one, under-one (Tests)
+--   accepts       below, narrow, ordered, units, shape: decides-one; shaped, alone, passes, accepts: shaped-one, alone-one, passes-one,
+--                 accepts-one (Tests)
+--   bases         first: first-one (Steps); order, check: orders-one, checks-one (bases/proofs/Answer)
+--   step, stepped     advanced: advanced-one; next: next-one (Steps); step: answers-one (stepped/proofs/Answers)
+--   walk, walks   go: go-one; walked: walked-one (Steps); from_order, walk: from-order-one, walks-one (walks/proofs, walk/proofs)
+--   long          size: size-one (Poly); mix: mix-one; scale: scale-one; quotient, where there is one that fits: quotient-one (Long)
+--   six           monic, invert: monic-one, invert-one; turn, where `Turnable`: turn-one (Long)
+--   unit          unit: makes-one (unit/proofs/Once)
+--   slice_poly    mul, sum, for a prime p: mul-one, sum-one (Long); size: size-one (Poly)
+--   book_bytes    same_list: decides-one (Tests); read_list, put_two, put_four, put_list, copy_in, lift: put-one (Bytes)
+--   book_body     body_rule, one_field, unit_list: decides-one (Tests); field_refusal, period_of: field-refusal-one, period-of-one (Bytes);
+--                 list_of: got-one (book_body/proofs/One)
+--   book          check, ask_answer: check-one, ask-answer-one (Bytes); ask, earlier, judge: part-one, earliest-one, judge-one (book/proofs/One)
+--   book_add      may_add, add: verdict-one, added-one (book_add/proofs/One)
+--   book_attest   attest: attestation-one (book_attest/proofs/One)
+--   book_write    write_body: wrote-one (book_write/proofs/One)
+--   text          put_byte, put_bytes, put_number, put_list, put_refused: placed-unique (text/proofs/Puts); cut: cut-unique (text/proofs/Steps);
+--                 number, list_size, parse: number-unique, size-unique, parse-unique (text/proofs/Answers)
+--   lister        answer, pass, finish: answer-one, passes-one (lister/proofs/Once), placed-unique
+pub mod Turnable
+pub mod UpTo
