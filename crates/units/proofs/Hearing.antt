@@ -1,7 +1,7 @@
 -- The passes through a piece, one after the other.
 --   Heard k n s g k'     the lines met so far in the piece s, up to the place g .at
 --   heard-none, heard-more, heard-done
---   session-output       the output to the whole input
+--   course-output       the output to the whole input
 --   put-prefix           what is put ends within the slice
 use mathlib.Core.Path.{_≡_, refl, sym, ap, _∙_, subst}
 use mathlib.Core.List.{List, [], _++_, append-assoc, append-nil}
@@ -17,7 +17,7 @@ use Rattle.text.proofs.Serves.{same-lines}
 use Rattle.lister.specs.declared.Going.{Going}
 use Rattle.lister.specs.Listing.{Lists, Passes}
 use Rattle.lister.proofs.Paces.{Pace, passes-pace}
-use Rattle.units.specs.Serve.{Passed, Session, begin, piece}
+use Rattle.units.specs.Serve.{Passed, Course, begin, piece}
 
 pub record Heard (k : List ℕ) (n : ℕ) (s : List ℕ) (at n' : ℕ) (k' : List ℕ) : Type 0 where
   pub lines : List Line
@@ -55,7 +55,7 @@ record Going-on (input t k : List ℕ) (n : ℕ) : Type 0 where
   pub size : length k ≡ 255
   pub fed : (next : List ℕ) → Fed input next 0 lines k n
 
-going-on : {input t k : List ℕ} {n : ℕ} → Session input t k n → Going-on input t k n
+going-on : {input t k : List ℕ} {n : ℕ} → Course input t k n → Going-on input t k n
 going-on (begin k e) = record { lines = []; answered = no-line; size = e; fed = λ next. start next }
 going-on (piece s k' n' a x) =
     let b = going-on a in
@@ -66,7 +66,7 @@ going-on (piece s k' n' a x) =
       fed = λ next. x .fed next (b .fed s);
     }
 
-pub session-output : {input t k : List ℕ} {n : ℕ} → Session input t k n → Output Lists input (t ++ end-text n)
-session-output {input} {t} {k} {n} a =
+pub course-output : {input t k : List ℕ} {n : ℕ} → Course input t k n → Output Lists input (t ++ end-text n)
+course-output {input} {t} {k} {n} a =
     let b = going-on a in
     subst (λ z. Output Lists z (t ++ end-text n)) (append-nil input) (fed-output (b .fed []) (b .size) (b .answered))
