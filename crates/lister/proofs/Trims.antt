@@ -1,13 +1,18 @@
 -- A row without the zeros at its end.
 --   trim-size     it is the front of the row, as long as the row's size
+--   trim-row      it stands for the same polynomial
+--   trim-last     its last number is not 0
 use mathlib.Core.Path.{_≡_, refl, sym, ap, ap₂, _∙_}
 use mathlib.Core.Logic.{_≢_}
 use mathlib.Core.List.{List, [], _∷_}
 use Prim.Native.Nat.{ℕ, zero, suc, _-_, _≤_, _<_}
 use native.Mathlib.Omega.{arith}
 use lib.ListN.{length, getD, take}
-use lib.Seq.{take-nil}
-use Rattle.reading.specs.Row.{Size}
+use lib.Seq.{take-nil, getD-take, length-take-le}
+use Rattle.reading.specs.Reading.{Reading}
+use Rattle.reading.specs.Row.{Size, row}
+use Rattle.reading.proofs.Floors.{sized}
+use Rattle.six.proofs.Parts.{row-mid}
 use Rattle.lister.specs.Text.{ahead, trim}
 
 ahead-top : (x : ℕ) (l : List ℕ) → x ≢ 0 → ahead x l ≡ x ∷ l
@@ -44,3 +49,17 @@ unfolding trim ahead
 trim-size [] n s = sym (take-nil n)
 trim-size (x ∷ l) zero s = ap₂ ahead (s .above 0 (omega arith)) (trim-size l zero (size-none s))
 trim-size (x ∷ l) (suc m) s = ap (ahead x) (trim-size l m (size-tail m s)) ∙ size-step x l m s
+
+-- ---- what trimming keeps
+pub trim-row : {p : ℕ} (ρ : Reading p) (l : List ℕ) → row ρ (trim l) ≡ row ρ l
+trim-row ρ l =
+    let (n, s) = sized l in
+    ap (row ρ) (trim-size l n s ∙ ap (λ k. take k l) (let o : n ≡ n - 0 = omega arith in o)) ∙ row-mid ρ l n s
+
+pub trim-last : (l : List ℕ) → 0 < length (trim l) → getD (trim l) (length (trim l) - 1) 0 ≢ 0
+trim-last l h e =
+    let (n, s) = sized l in
+    let q : trim l ≡ take n l = trim-size l n s in
+    let f : n ≤ length l = s .fits in
+    let w : length (trim l) ≡ n = ap length q ∙ length-take-le n l f in
+    s .top (omega arith) (sym (getD-take n l (n - 1) 0 (omega arith)) ∙ ap (λ z. getD z (n - 1) 0) (sym q) ∙ ap (λ k. getD (trim l) (k - 1) 0) (sym w) ∙ e)

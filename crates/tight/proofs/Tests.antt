@@ -9,7 +9,6 @@ use Rattle.book_bytes.proofs.Tests.{settled}
 use Rattle.field.specs.Refusal.{Accepted}
 use Rattle.reduce.specs.Frame.{Frame, Meaning}
 use Rattle.generators.specs.Rows.{Seven, Holds}
-use Rattle.closure.specs.Lattice.{InsideIn, Inside, MemberIn, Member}
 use Rattle.closure.specs.Closed.{Under}
 use Rattle.closure.proofs.Closing as closing
 use Rattle.series.specs.declared.Cubic.{Cubic}
@@ -23,12 +22,6 @@ pub decides-one : {A : Type 0} (r s : Bool) → Decides r A → Decides s A → 
 decides-one {A} r s h k = settled r s A h k
 
 -- ---- closure
-pub inside-one : {p : ℕ} {a b c m n u : List ℕ} (r s : Bool) → InsideIn p a b c m n u → Inside p a b c m n u r → Inside p a b c m n u s → r ≡ s
-inside-one r s g h k = decides-one r s (h (g .prime)) (k (g .prime))
-
-pub member-one : {p : ℕ} {va vb vc : List ℕ} {b : Seven} {e : List ℕ} {ie : ℕ} (r s : Bool) → MemberIn p va vb vc b e ie → Member p va vb vc b e r → Member p va vb vc b e s → r ≡ s
-member-one r s g h k = decides-one r s (h (g .prime)) (k (g .prime))
-
 pub under-one : {p : ℕ} {g h gh G H : List ℕ} {b : Seven} (σ : Accepted p G H) → Holds σ g h gh → (r s : Bool) → Under p g h gh b r → Under p g h gh b s → r ≡ s
 under-one σ h r s = closing.under-one σ h r s
 

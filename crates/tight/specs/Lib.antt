@@ -11,7 +11,7 @@
 --   reduce        part: part-one; lead_of, where the size has a degree: lead-of-one; reduced, up to constants: reduced-one (Reduction)
 --   generators    det, coords: det-one, coords-one; divided, up to a constant: divided-one (Generators)
 --   basis         stored, load, level, reduced_basis, order: stored-one, load-one, level-one, reduced-basis-one, order-one (Bases)
---   closure       inside, member, under: inside-one, member-one, under-one (Tests)
+--   closure       under: under-one (Tests)
 --   accepts       below, narrow, ordered, units, shape: decides-one; shaped, alone, passes, accepts: shaped-one, alone-one, passes-one,
 --                 accepts-one (Tests)
 --   bases         first: first-one (Steps); order, check: orders-one, checks-one (bases/proofs/Answer)
@@ -31,5 +31,9 @@
 --   text          put_byte, put_bytes, put_number, put_list, put_refused: placed-unique (text/proofs/Puts); cut: cut-unique (text/proofs/Steps);
 --                 number, list_size, parse: number-unique, size-unique, parse-unique (text/proofs/Answers)
 --   lister        answer, pass, finish: answer-one, passes-one (lister/proofs/Once), placed-unique
+--   capi          zaminuk_refusal, zaminuk_series, zaminuk_check: refusal-one, answer-one, checks-one as above; zaminuk_order, zaminuk_step,
+--                 zaminuk_walk, zaminuk_from_order, zaminuk_unit: order-tells-one, step-tells-one, walk-tells-one, from-order-tells-one,
+--                 unit-tells-one; zaminuk_book_check, _ask, _attest, _write, _add, zaminuk_body_list: check-says-one, ask-says-one,
+--                 attest-says-one, write-says-one, add-says-one, list-says-one (capi/proofs/Once)
 pub mod Turnable
 pub mod UpTo

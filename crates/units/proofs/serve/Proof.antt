@@ -54,7 +54,7 @@ same-length-4 : tie.Need-same-length-4 Inv-loop μ-loop
 same-length-4 c = (c .before .before .loop .inv .1)
 
 returns-2 : tie.Need-returns-2 Inv-loop μ-loop
-returns-2 c = λ e. heard-done (c .if1 .left) (c .before .before .loop .inv .2)
+returns-2 c = λ e. heard-done (c .before .before .loop .inv .0) (c .if1 .left) (c .before .before .loop .inv .2)
 
 pub serve-spec : {M : Type 1} → statement M
 serve-spec =
