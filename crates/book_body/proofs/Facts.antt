@@ -3,14 +3,14 @@ use mathlib.Core.Path.{_≡_, sym, ap, _∙_, subst}
 use mathlib.Core.Logic.{_≢_}
 use mathlib.Core.Bool.{Bool}
 use mathlib.Core.List.{List, _++_}
-use Prim.Native.Nat.{ℕ, _+_, _-_, _*_, _%_, _<_, _≤_}
+use Prim.Native.Nat.{ℕ, _+_, _-_, _*_, _<_, _≤_}
 use native.Mathlib.Omega.{arith}
 use lib.ListN.{length, getD, take, drop}
 use lib.Seq.{sets-eq, take-at}
 use Rattle.book_bytes.specs.Bytes.{u2, u4, Put}
 use Rattle.book_bytes.specs.Decides.{Decides}
-use Rattle.book_bytes.proofs.Lists.{length-list, list-last}
-use Rattle.book_body.specs.Body.{UnitList, FirstList, OneField, listStart, listAt, bodyOf, Formed}
+use Rattle.book_bytes.proofs.Lists.{length-list}
+use Rattle.book_body.specs.Body.{UnitList, First, FirstList, OneField, listStart, listAt, bodyOf, Formed}
 use Rattle.book_body.specs.Said.{passed}
 use Rattle.book_body.specs.Code.{ListTells, read}
 
@@ -19,27 +19,13 @@ pub row-short : (s : List ℕ) (k n p : ℕ) → n ≡ u2 s (2 + 2 * k) → 4096
 row-short s k n p m e r = let a : length (listAt s k) ≤ 4096 = r .short in let b : length (listAt s k) ≡ u2 s (2 + 2 * k) = length-list 16 2 s k in omega arith
 
 -- ---- the rule of E0
-module _ (s : List ℕ) where
-  pub first-three : (n : ℕ) → n ≡ u2 s 6 → n < 3 → FirstList (listAt s 2) → ⊥
-  first-three n e z b =
-      let l : length (listAt s 2) ≡ u2 s 6 = length-list 16 2 s 2 in
-      let h : 3 ≤ length (listAt s 2) = b .three in
-      omega arith
+pub first-some : (s : List ℕ) (p : ℕ) → UnitList p (listAt s 2) → 0 < u2 s 6
+first-some s p r = let a : 0 < length (listAt s 2) = r .some in let b : length (listAt s 2) ≡ u2 s 6 = length-list 16 2 s 2 in omega arith
 
-  pub first-odd : (n : ℕ) → n ≡ u2 s 6 → n % 2 ≢ 1 → FirstList (listAt s 2) → ⊥
-  first-odd n e z b = z (ap (λ (x : ℕ). x % 2) (e ∙ sym (length-list 16 2 s 2)) ∙ b .odd)
-
-  pub first-monic : (n at top : ℕ) → n ≡ u2 s 6 → 3 ≤ n → at ≡ listStart s 2 → top ≡ u2 s (at + 2 * (n - 1)) → top ≢ 1 → FirstList (listAt s 2) → ⊥
-  first-monic n at top e h f g z b = z (list-last 16 2 s 2 n at top e (omega arith) f g ∙ b .monic)
-
-  pub first-yes : (n at top : ℕ) → n ≡ u2 s 6 → 3 ≤ n → n % 2 ≡ 1 → at ≡ listStart s 2 → top ≡ u2 s (at + 2 * (n - 1)) → top ≡ 1 → FirstList (listAt s 2)
-  first-yes n at top f g h i j k =
-      let l : length (listAt s 2) ≡ u2 s 6 = length-list 16 2 s 2 in
-      record {
-        monic = sym (list-last 16 2 s 2 n at top f (omega arith) i j) ∙ k;
-        odd = ap (λ (x : ℕ). x % 2) (l ∙ sym f) ∙ h;
-        three = omega arith;
-      }
+pub first-decided : (s : List ℕ) (n top : ℕ) (b : Bool) → n ≡ u2 s 6 → top ≡ getD (listAt s 2) (n - 1) 0 → Decides b (First n top) → Decides b (FirstList (listAt s 2))
+first-decided s n top b e f w =
+    let l : n ≡ length (listAt s 2) = e ∙ sym (length-list 16 2 s 2) in
+    subst (λ (k : ℕ). Decides b (First k (getD (listAt s 2) (k - 1) 0))) l (subst (λ (x : ℕ). Decides b (First n x)) f w)
 
 -- ---- the body rule
 module _ (s : List ℕ) where

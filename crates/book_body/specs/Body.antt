@@ -1,7 +1,8 @@
 -- A body of the book.
 --   Body            a body as a value: p, G, H, the period, E0, E1, E2
 --   UnitList p l    the rule of an E list: not empty, at most 4,096 long, coefficients below p, the last not 0
---   FirstList l     the rule of E0 besides: monic, with an odd length of 3 or more
+--   FirstList l     the rule of E0 besides: monic, with an odd length of 3 or more; First n top says it of the length and the last
+--                   coefficient
 --   Rule b          the body rule
 --   FieldSays b n   n is the number of the field's refusal, 1 to 8, or 0: p, G, H are accepted
 --   OneField a b    two bodies are of one field
@@ -35,10 +36,13 @@ pub record UnitList (p : ℕ) (l : List ℕ) : Type 0 where
   pub each : (i : ℕ) → i < length l → getD l i 0 < p
   pub last : getD l (length l - 1) 0 ≢ 0
 
-pub record FirstList (l : List ℕ) : Type 0 where
-  pub monic : getD l (length l - 1) 0 ≡ 1
-  pub odd : length l % 2 ≡ 1
-  pub three : 3 ≤ length l
+pub record First (n top : ℕ) : Type 0 where
+  pub monic : top ≡ 1
+  pub odd : n % 2 ≡ 1
+  pub three : 3 ≤ n
+
+abbrev pub FirstList : List ℕ → Type 0
+FirstList l = First (length l) (getD l (length l - 1) 0)
 
 pub record Rule (b : Body) : Type 0 where
   pub from : 1 ≤ b .period

@@ -5,7 +5,7 @@ ghost use lib.ListN.{getD};
 ghost use Rattle.reading.specs.Row.{tab};
 ghost use Rattle.book_bytes.specs.Bytes.{u2};
 ghost use Rattle.book_bytes.specs.Decides.{Decides};
-ghost use Rattle.book_body.specs.Body.{UnitList, FirstList, FieldSays, OneField, listAt, bodyOf, Formed};
+ghost use Rattle.book_body.specs.Body.{UnitList, First, FirstList, FieldSays, OneField, listAt, bodyOf, Formed};
 ghost use Rattle.book_body.specs.Code.{Clipped, gotSays, ListTells};
 
 // The bytes before the lists, and where among them the lists' lengths stand.
@@ -61,23 +61,30 @@ fn unit_at(s: &[u8], k: usize) -> bool
     unit_list(p as u64, &l[..m])
 }
 
-// Of E0 alone: an odd length of 3 or more, and monic.
-fn first_list(s: &[u8]) -> bool
-    ensures { λ r. ⌜ Decides r (FirstList (listAt (now (s .entry)) 2)) ⌝ }
+// Of E0 alone, by its length and its last coefficient: an odd length of 3 or more, and monic.
+pub fn first_list(n: usize, top: u64) -> bool
+    ensures { λ r. ⌜ Decides r (First n top) ⌝ }
 {
-    let n = book_bytes::two(s, 6);
     if n < 3 {
         return false;
     }
     if n % 2 != 1 {
         return false;
     }
-    let at = book_bytes::start(s, HEAD, LENGTHS, 2);
-    let top = book_bytes::two(s, at + 2 * (n - 1));
     if top != 1 {
         return false;
     }
     true
+}
+
+// The same of list 2 of a body.
+fn first_at(s: &[u8]) -> bool
+    requires { ⌜ 0 < u2 (now s) 6 ⌝ }
+    ensures { λ r. ⌜ Decides r (FirstList (listAt (now (s .entry)) 2)) ⌝ }
+{
+    let n = book_bytes::two(s, 6);
+    let top = book_bytes::item(s, HEAD, LENGTHS, 2, n - 1);
+    first_list(n, top)
 }
 
 // The body rule.
@@ -107,7 +114,7 @@ pub fn body_rule(s: &[u8]) -> bool
     if !r2 {
         return false;
     }
-    let first = first_list(s);
+    let first = first_at(s);
     if !first {
         return false;
     }

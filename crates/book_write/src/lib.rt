@@ -3,7 +3,7 @@ ghost use mathlib.Core.List.{[]};
 ghost use Prim.Native.Nat.{_+_, _*_, _<_};
 ghost use Rattle.book_bytes.specs.Bytes.{Put};
 ghost use Rattle.book_bytes.specs.Decides.{Decides};
-ghost use Rattle.book_body.specs.Body.{FirstList, Rule};
+ghost use Rattle.book_body.specs.Body.{Rule};
 ghost use Rattle.book_write.specs.Code.{Head, headBytes, Lists, listBytes, listLong};
 ghost use Rattle.book_write.specs.Write.{bodyFrom, wroteSays, WriteTells, Numbered};
 
@@ -51,24 +51,6 @@ fn put_lists(
     book_bytes::put_list(out, x3, c)
 }
 
-// Of E0 alone: an odd length of 3 or more, and monic.
-fn first_list(l: &[u64]) -> bool
-    ensures { λ r. ⌜ Decides r (FirstList (now (l .entry))) ⌝ }
-{
-    let n = l.len();
-    if n < 3 {
-        return false;
-    }
-    if n % 2 != 1 {
-        return false;
-    }
-    let top = l[n - 1];
-    if top != 1 {
-        return false;
-    }
-    true
-}
-
 // The body rule of values that the caller hands over. It does not look at G and H.
 fn rule_of(p: u64, t: u64, a: &[u64], b: &[u64], c: &[u64]) -> bool
     ensures { λ r. ⌜ Decides r (Rule (bodyFrom p [] [] t (now (a .entry)) (now (b .entry)) (now (c .entry)))) ⌝ }
@@ -91,7 +73,9 @@ fn rule_of(p: u64, t: u64, a: &[u64], b: &[u64], c: &[u64]) -> bool
     if !r2 {
         return false;
     }
-    let first = first_list(a);
+    let n = a.len();
+    let top = a[n - 1];
+    let first = book_body::first_list(n, top);
     if !first {
         return false;
     }

@@ -1,7 +1,7 @@
 -- `book_body::body_rule` meets its contract.
 use borrow.Author.Tests.{not-true, not-false}
 use Rattle.book_bytes.proofs.Tests.{answer-yes, answer-no}
-use Rattle.book_body.proofs.Facts.{body-from, body-to, body-row0, body-row1, body-row2, body-first, body-yes}
+use Rattle.book_body.proofs.Facts.{body-from, body-to, body-row0, body-row1, body-row2, body-first, body-yes, first-some}
 use mathlib.Core.Path.{_∙_, sym}
 use native.Mathlib.Omega.{arith}
 use borrow.Author.Needs.{needs}
@@ -41,14 +41,14 @@ unit-at-requires-3 c κs = search needs
 returns-6 : tie.Need-returns-6
 returns-6 c = answer-no (body-row2 (c .before .before .before .before .before .before .before .before .before .before .before .before .args .s .now) (c .before .unit-at3 .ensures .no! (not-true _ (c .if6 .taken))))
 
-first-list-requires : tie.Need-first-list-requires
-first-list-requires c κs = search needs
+first-at-requires : tie.Need-first-at-requires
+first-at-requires c κs = first-some (c .before .before .before .before .before .before .before .before .before .before .before .before .args .s .now) _ (c .before .before .before .before .before .unit-at .ensures .yes! (not-false _ (c .before .before .before .before .if4 .left)))
 
 returns-7 : tie.Need-returns-7
-returns-7 c = answer-no (body-first (c .before .before .before .before .before .before .before .before .before .before .before .before .before .before .args .s .now) (c .before .first-list .ensures .no! (not-true _ (c .if7 .taken))))
+returns-7 c = answer-no (body-first (c .before .before .before .before .before .before .before .before .before .before .before .before .before .before .args .s .now) (c .before .first-at .ensures .no! (not-true _ (c .if7 .taken))))
 
 returns-8 : tie.Need-returns-8
-returns-8 c = answer-yes (body-yes (c .before .before .before .before .before .before .before .before .before .before .before .before .before .before .args .s .now) _ _ (c .before .before .before .before .before .before .before .before .before .before .before .before .start .ensures .0) (omega arith) (c .before .before .before .before .before .before .before .before .before .before .four .ensures .0) (omega arith) (omega arith) (c .before .before .before .before .before .before .before .unit-at .ensures .yes! (not-false _ (c .before .before .before .before .before .before .if4 .left))) (c .before .before .before .before .before .unit-at2 .ensures .yes! (not-false _ (c .before .before .before .before .if5 .left))) (c .before .before .before .unit-at3 .ensures .yes! (not-false _ (c .before .before .if6 .left))) (c .before .first-list .ensures .yes! (not-false _ (c .if7 .left))))
+returns-8 c = answer-yes (body-yes (c .before .before .before .before .before .before .before .before .before .before .before .before .before .before .args .s .now) _ _ (c .before .before .before .before .before .before .before .before .before .before .before .before .start .ensures .0) (omega arith) (c .before .before .before .before .before .before .before .before .before .before .four .ensures .0) (omega arith) (omega arith) (c .before .before .before .before .before .before .before .unit-at .ensures .yes! (not-false _ (c .before .before .before .before .before .before .if4 .left))) (c .before .before .before .before .before .unit-at2 .ensures .yes! (not-false _ (c .before .before .before .before .if5 .left))) (c .before .before .before .unit-at3 .ensures .yes! (not-false _ (c .before .before .if6 .left))) (c .before .first-at .ensures .yes! (not-false _ (c .if7 .left))))
 
 pub body-rule-spec : {M : Type 1} → statement M
 body-rule-spec =
@@ -65,6 +65,6 @@ body-rule-spec =
     returns-5
     unit-at-requires-3
     returns-6
-    first-list-requires
+    first-at-requires
     returns-7
     returns-8)
