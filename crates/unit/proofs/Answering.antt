@@ -2,21 +2,19 @@
 --   lent-of          lengths and budget within their rule, and out of it
 --   task-at          what is known where the walk closes and there is room
 --   makes-refused, makes-bad, makes-spent, makes-narrow, makes-made   the answers, in the order of the code
-use mathlib.Core.Path.{_≡_, refl, sym, ap, _∙_, subst}
+use mathlib.Core.Path.{_≡_, refl, ap, subst}
 use mathlib.Core.Logic.{_≢_, _⊎_, inl, inr}
-use mathlib.Core.Bool.{Bool, true, false}
+use mathlib.Core.Bool.{true, false}
 use mathlib.Core.List.{List}
-use Prim.Native.Nat.{ℕ, zero, suc, _+_, _*_, _/_, _%_, _≤_, _<_}
+use Prim.Native.Nat.{ℕ, _*_, _/_, _≤_, _<_}
 use native.Mathlib.Omega.{arith}
-use lib.ListN.{length, replicate}
+use lib.ListN.{length}
 use Rattle.field.specs.Refusal.{Refusal, Accepted}
 use Rattle.field.proofs.Accept.{accepted}
-use Rattle.ideals.specs.Ideal.{Basis}
-use Rattle.ideals.specs.Next.{Start}
 use Rattle.chain.specs.Chain.{Closing, Open}
 use Rattle.chain.proofs.Closing.{start-unique}
 use Rattle.record.specs.Record.{setting, basisOf}
-use Rattle.series.specs.Answer.{Prefix, Expands}
+use Rattle.series.specs.Answer.{Expands}
 use Rattle.series.specs.declared.Expanded.{Expanded}
 use Rattle.opened.specs.Known.{Known}
 use Rattle.bases.specs.Answer.{IsFirst, First}
@@ -25,8 +23,8 @@ use Rattle.walk.specs.Walk.{most, Closes, StaysOpen, Closed, Spent}
 use Rattle.walks.specs.Order.{WalkedIn, WalkedOut}
 use Rattle.walks.proofs.Order.{sum-even}
 use Rattle.unit.specs.declared.Made.{Made}
-use Rattle.unit.specs.Unit.{longest, refusal, Lent, Finds, Misses, Holds, Refused, Success, Goes, bad, spent, narrow, made, Makes}
-use Rattle.unit.specs.Making.{Task, MakeIn, Making, Rule, Unfit}
+use Rattle.unit.specs.Unit.{longest, refusal, Lent, Finds, Misses, Refused, Goes, bad, spent, narrow, made, Makes}
+use Rattle.unit.specs.Making.{MakeIn, Making, Rule, Unfit}
 
 refused-is : (n : ℕ) (rows scratch : List ℕ) (m : Made) → m ≡ refusal n → Refused n rows scratch m rows scratch
 refused-is n rows scratch m e = record { number = ap (λ z. z .refusal) e; period = ap (λ z. z .period .0) e; regulator = ap (λ z. z .regulator .0) e; rows-same = refl; scratch-same = refl }

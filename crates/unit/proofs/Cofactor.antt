@@ -2,29 +2,23 @@
 --   with-prime       an accepted field, with another proof that p is prime
 --   invert-in        what `invert` asks
 --   inverses         what it hands out
-use mathlib.Core.Path.{_≡_, refl, sym, ap, ap₂, _∙_, subst}
+use mathlib.Core.Path.{_≡_, sym, ap, ap₂, _∙_, subst}
 use mathlib.Core.Logic.{_≢_}
-use mathlib.Core.List.{List, [], _∷_}
-use Prim.Native.Nat.{ℕ, zero, suc, _+_, _*_, _-_, _<_, _≤_}
+use mathlib.Core.List.{List}
+use Prim.Native.Nat.{ℕ, _+_, _*_, _-_, _<_, _≤_}
 use native.Mathlib.Omega.{arith}
-use lib.ListN.{length, getD, replicate}
-use Rattle.ring.specs.Ring.{Ops}
+use lib.ListN.{length, getD}
 use Rattle.fp.specs.Fp.{Prime}
-use Rattle.cubic.specs.Tri.{Tri, normT, cofT}
-use Rattle.valued.specs.Val.{Valued}
+use Rattle.cubic.specs.Tri.{normT, cofT}
 use Rattle.valued.specs.Degree.{Lt}
-use Rattle.valued.specs.Polynomial.{polys, IsUnit}
-use Rattle.valued.proofs.Polynomial.{P-path, unit-const, const-path}
+use Rattle.valued.proofs.Polynomial.{unit-const, const-path}
 use Rattle.reading.specs.Reading.{Reading}
 use Rattle.reading.specs.Made.{reading}
 use Rattle.reading.specs.Row.{Row, row}
 use Rattle.field.specs.Refusal.{Accepted}
-use Rattle.ideals.specs.Setting.{Setting, P}
 use Rattle.ideals.specs.Element.{O, sc, norm, cof}
-use Rattle.ideals.proofs.Sizes.{O-path, sc-a, sc-b, sc-c}
+use Rattle.ideals.proofs.Sizes.{sc-a, sc-b, sc-c}
 use Rattle.record.specs.Record.{setting}
-use Rattle.residue.specs.Residue.{Modulus}
-use Rattle.series.specs.Answer.{Prefix}
 use Rattle.series.specs.declared.Cubic.{Cubic}
 use Rattle.opened.specs.Known.{Known}
 use Rattle.stepped.proofs.Kept.{keeps-of}
@@ -34,7 +28,7 @@ use Rattle.six.specs.Six.{cut}
 use Rattle.six.specs.Inverse.{element, InvertIn, Inverted}
 use Rattle.six.proofs.Multiply.{cut-same}
 use Rattle.unit.specs.Unit.{six}
-use Rattle.unit.specs.Making.{Space, InverseIn, Inverses}
+use Rattle.unit.specs.Making.{InverseIn, Inverses}
 use Rattle.unit.proofs.Turning.{p-is, kept, storable, storable-at, row-stored, six-path}
 
 abbrev pub with-prime : {p : ℕ} {G H : List ℕ} → Accepted p G H → Prime p → Accepted p G H

@@ -4,22 +4,20 @@
 --   monic-in        what `monic` asks
 --   inverse-in      what `inverted` asks after it
 --   holds           the six rows hold the unit and its inverse
-use mathlib.Core.Path.{_≡_, refl, sym, ap, ap₂, _∙_, subst}
+use mathlib.Core.Path.{_≡_, refl, sym, ap, _∙_, subst}
 use mathlib.Core.Logic.{_≢_}
 use mathlib.Core.List.{List, [], _∷_}
-use Prim.Native.Nat.{ℕ, zero, suc, _+_, _*_, _-_, _/_, _%_, _<_, _≤_}
+use Prim.Native.Nat.{ℕ, zero, suc, _+_, _*_, _-_, _/_, _%_, _<_}
 use native.Mathlib.Omega.{arith}
-use native.Mathlib.Decide.{decLt}
-use lib.ListN.{length, getD, replicate}
+use lib.ListN.{length, getD}
 use lib.Seq.{ext-getD}
 use Rattle.ring.specs.Ring.{Ops}
 use Rattle.ring.proofs.Laws as rg
 use Rattle.ring.proofs.Solve.{var, hyp, one, minus, _:*_, solve-by}
-use Rattle.fp.specs.Fp.{Prime}
 use Rattle.valued.specs.Val.{Valued}
-use Rattle.valued.specs.Degree.{Has, Lt, Leads}
+use Rattle.valued.specs.Degree.{Has, Leads}
 use Rattle.valued.specs.Polynomial.{polys, IsUnit}
-use Rattle.valued.proofs.Degree.{has-eq, lt-eq, has-not-zero, same, lead-eq, k-domain}
+use Rattle.valued.proofs.Degree.{has-eq, lt-eq, has-not-zero, same, lead-eq}
 use Rattle.valued.proofs.Compare.{has-scale, lt-scale}
 use Rattle.valued.proofs.Polynomial.{unit-const, const-unit}
 use Rattle.reading.specs.Reading.{Reading}
@@ -35,22 +33,19 @@ use Rattle.ideals.specs.Ideal.{Basis}
 use Rattle.ideals.specs.Next.{Start}
 use Rattle.ideals.proofs.Sizes.{sc-a, sc-b, sc-c, ev-sc}
 use Rattle.ideals.proofs.Lattice.{sc-mul}
-use Rattle.chain.specs.Chain.{Chain, Closing, Product, tops, bottoms}
+use Rattle.chain.specs.Chain.{Closing, Product}
 use Rattle.chain.specs.Unit.{UnitOf}
 use Rattle.chain.proofs.Walk.{same-products}
-use Rattle.chain.proofs.Passed.{Passed, passed, product-unique}
+use Rattle.chain.proofs.Passed.{passed, product-unique}
 use Rattle.chain.proofs.Rows.{Fit, product-rows, unit-rows}
-use Rattle.chain.proofs.Closing.{start-unique}
 use Rattle.chain.proofs.Unit.{norm-unit, inverse-cof, half, closing-unit, closing-pos, unit-made}
 use Rattle.record.specs.Record.{setting, basisOf}
-use Rattle.long.specs.Long.{Storable}
 use Rattle.long.proofs.Low.{scale-law}
-use Rattle.six.specs.Six.{cut, MonicIn, MonicMade}
-use Rattle.six.proofs.Multiply.{cut-same}
-use Rattle.series.specs.declared.Cubic.{Cubic}
-use Rattle.unit.specs.Unit.{longest, six, Holds}
-use Rattle.unit.specs.Making.{Space, Task, Along, InverseIn, Inverses, FinishIn, Finishes}
-use Rattle.unit.proofs.Turning.{p-is, storable, storable-at, list-top, cut-each, six-path}
+use Rattle.six.specs.Six.{cut}
+use Rattle.unit.specs.Unit.{six}
+use Rattle.unit.specs.Making.{Along}
+use Rattle.unit.proofs.Turning.{list-top, six-path}
+use Rattle.unit.proofs.Once.{cut-below}
 
 -- ---- at a closing
 module _ (S : Setting) (B₀ : Basis S) (st : Start S B₀) {l n : ℕ} {B : Basis S} (k : Closing S B₀ l n B) (E₁ : O S .El) (h : Product S (k .chain) E₁) where
@@ -140,7 +135,7 @@ module _ {p : ℕ} {G H B : List ℕ} {c l d : ℕ} {b rows : List ℕ} (A : Acc
       ap (λ v. O S .ops .mul (sc S v) E₁) (sym j) ∙ along .product A .1 ∙ i
 
   first-each : (i : ℕ) → getD (cut 0 c rows) i 0 < p
-  first-each = cut-each 0 c rows (along .each)
+  first-each = cut-below 0 c rows (along .each)
 
   first-at : getD (cut 0 c rows) d 0 ≡ getD rows d 0
   first-at = at-tab c (λ i. getD rows (0 + i) 0) d room ∙ ap (λ j. getD rows j 0) (let o : 0 + d ≡ d = omega arith in o)

@@ -2,24 +2,21 @@
 --   monic-in      what `six::monic` asks of the rows that hold the product
 --   inverse-in    what `inverted` asks after it
 --   finishes      so the six rows hold the unit and its inverse
-use mathlib.Core.Path.{_≡_, refl, sym, ap, ap₂, _∙_, subst}
+use mathlib.Core.Path.{_≡_, sym, ap, _∙_, subst}
 use mathlib.Core.List.{List}
-use Prim.Native.Nat.{ℕ, zero, suc, _+_, _*_, _-_, _/_, _%_, _<_, _≤_}
+use Prim.Native.Nat.{ℕ, _+_, _*_, _-_, _/_, _%_, _<_}
 use native.Mathlib.Omega.{arith}
 use native.Mathlib.Decide.{decLt}
-use lib.ListN.{length, getD, replicate}
-use Rattle.fp.specs.Fp.{Prime}
+use lib.ListN.{length, getD}
 use Rattle.field.specs.Refusal.{Accepted}
-use Rattle.ideals.specs.Ideal.{Basis}
-use Rattle.ideals.specs.Next.{Start}
 use Rattle.chain.specs.Unit.{UnitOf}
 use Rattle.chain.proofs.Closing.{start-unique}
 use Rattle.record.specs.Record.{setting, basisOf}
 use Rattle.six.specs.Six.{MonicIn, MonicMade}
 use Rattle.series.specs.declared.Cubic.{Cubic}
-use Rattle.unit.specs.Unit.{longest, six, Holds}
-use Rattle.unit.specs.Making.{Space, Task, Along, InverseIn, Inverses, FinishIn, Finishes}
-use Rattle.unit.proofs.Turning.{p-is, storable, storable-at}
+use Rattle.unit.specs.Unit.{six, Holds}
+use Rattle.unit.specs.Making.{InverseIn, Inverses, FinishIn, Finishes}
+use Rattle.unit.proofs.Turning.{p-is, storable}
 use Rattle.unit.proofs.Ending.{top-some, fits-at, unit-at, unit-of}
 
 module _ (f : Cubic) (c d : ℕ) (rows s : List ℕ) (t : FinishIn f c d rows s) where

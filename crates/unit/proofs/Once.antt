@@ -44,7 +44,7 @@ refused-one e x y = record {
 }
 
 -- the numbers of a row
-cut-below : {p : ℕ} (at c : ℕ) (l : List ℕ) → ((i : ℕ) → getD l i 0 < p) → (i : ℕ) → getD (cut at c l) i 0 < p
+pub cut-below : {p : ℕ} (at c : ℕ) (l : List ℕ) → ((i : ℕ) → getD l i 0 < p) → (i : ℕ) → getD (cut at c l) i 0 < p
 cut-below {p} at c l h i = elim (decLt i c) [
   | yes u ↦ subst (λ v. v < p) (sym (at-tab c (λ i. getD l (at + i) 0) i u)) (h (at + i))
   | no u ↦ subst (λ v. v < p) (sym (past-tab c (λ i. getD l (at + i) 0) i (omega arith))) (omega (arith, h 0))

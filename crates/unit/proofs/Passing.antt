@@ -4,9 +4,9 @@
 --   stays-below   the degree sum on the way is below c
 --   along-more    one step more
 --   along-end     after all steps the record is the last one and the degree sum is the closing's
-use mathlib.Core.Path.{_≡_, refl, sym, ap, ap₂, _∙_, subst}
-use mathlib.Core.List.{List, [], _∷_}
-use Prim.Native.Nat.{ℕ, zero, suc, _+_, _*_, _-_, _<_, _≤_}
+use mathlib.Core.Path.{_≡_, refl, sym, ap, _∙_, subst}
+use mathlib.Core.List.{List}
+use Prim.Native.Nat.{ℕ, suc, _+_, _*_, _-_, _<_, _≤_}
 use native.Mathlib.Omega.{arith}
 use native.Mathlib.Decide.{decLt}
 use lib.ListN.{length, getD, replicate, set, length-set, length-replicate}
@@ -14,7 +14,7 @@ use lib.Seq.{getD-set-same, getD-set-other}
 use Rattle.ring.specs.Ring.{Ops}
 use Rattle.reading.specs.Reading.{Reading}
 use Rattle.reading.specs.Made.{reading}
-use Rattle.reading.specs.Row.{Size, row, tab}
+use Rattle.reading.specs.Row.{row}
 use Rattle.reading.proofs.Tab.{length-tab, at-tab, past-tab, zeros-at}
 use Rattle.reading.proofs.Floors.{zero-row}
 use Rattle.field.specs.Refusal.{Accepted}
@@ -27,7 +27,7 @@ use Rattle.chain.specs.Chain.{Degree, Chain, here, then, tops, bottoms, Product
 use Rattle.chain.proofs.Walk.{same-chain, prefix}
 use Rattle.chain.proofs.Passed.{Passed, passed, over-step, next-product, product-unique}
 use Rattle.chain.proofs.Rows.{Fit, product-rows}
-use Rattle.record.specs.Record.{setting, basisOf, IsRecord}
+use Rattle.record.specs.Record.{setting, basisOf}
 use Rattle.record.proofs.Unique.{basis-unique}
 use Rattle.bases.specs.Answer.{IsFirst}
 use Rattle.walk.specs.Walk.{Closes}

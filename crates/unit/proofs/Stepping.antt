@@ -4,16 +4,14 @@
 --   stepping-start, stepping-further, stepping-below, stepping-more, stepping-end   its turns
 use mathlib.Core.Path.{_≡_, refl, sym, ap, _∙_, subst}
 use mathlib.Core.List.{List}
-use Prim.Native.Nat.{ℕ, zero, suc, _+_, _*_, _-_, _<_, _≤_}
+use Prim.Native.Nat.{ℕ, suc, _+_, _-_, _<_, _≤_}
 use native.Mathlib.Omega.{arith}
 use lib.ListN.{length, getD, replicate, length-replicate}
-use Rattle.field.specs.Refusal.{Accepted}
 use Rattle.series.specs.declared.Cubic.{Cubic}
-use Rattle.opened.specs.Known.{Known}
 use Rattle.step.specs.Steps.{Steps}
 use Rattle.step.specs.declared.Advance.{Advance}
 use Rattle.stepped.specs.Answer.{NextIn, NextOut}
-use Rattle.unit.specs.Making.{Blank, Space, Task, Along, MultiplyIn, Multiplies, FurtherIn, Further, ProductIn, ProductOf}
+use Rattle.unit.specs.Making.{Blank, Along, MultiplyIn, Multiplies, FurtherIn, Further, ProductIn, ProductOf}
 use Rattle.unit.proofs.Turning.{p-is}
 use Rattle.unit.proofs.Passing.{stays-below, step-below, along-more, along-end}
 

@@ -4,32 +4,27 @@
 --   monic-part       the row U of a record ends in 1
 --   turn-in          what `turn` asks
 --   multiplies       what it hands out
-use mathlib.Core.Path.{_≡_, refl, sym, ap, ap₂, _∙_, subst}
+use mathlib.Core.Path.{_≡_, sym, ap, ap₂, _∙_, subst}
 use mathlib.Core.Logic.{_≢_}
-use mathlib.Core.List.{List, [], _∷_}
+use mathlib.Core.List.{List}
 use Prim.Native.Nat.{ℕ, zero, suc, _+_, _*_, _-_, _<_, _≤_}
 use native.Mathlib.Omega.{arith}
-use native.Mathlib.Decide.{decLt}
-use lib.ListN.{length, getD, replicate, length-replicate}
-use Rattle.ring.specs.Ring.{Ops}
-use Rattle.valued.specs.Val.{Valued}
+use lib.ListN.{length, getD}
 use Rattle.valued.specs.Degree.{Leads}
 use Rattle.valued.proofs.Degree.{has-not-zero, has-eq}
 use Rattle.valued.proofs.Compare.{leads-unique}
 use Rattle.reading.specs.Reading.{Reading}
 use Rattle.reading.specs.Made.{reading}
-use Rattle.reading.specs.Row.{Row, Size, row, tab}
-use Rattle.reading.proofs.Tab.{at-tab, past-tab, zeros-at}
+use Rattle.reading.specs.Row.{Row, Size, row}
+use Rattle.reading.proofs.Tab.{zeros-at}
 use Rattle.reading.proofs.Rows.{size-lead}
 use Rattle.reading.proofs.Floors.{zero-row}
 use Rattle.reading.proofs.Unique.{cast-inj}
 use Rattle.field.specs.Refusal.{Accepted}
 use Rattle.field.specs.Opening as F
-use Rattle.ideals.specs.Setting.{Setting, P}
-use Rattle.ideals.specs.Element.{O, sc}
+use Rattle.ideals.specs.Element.{O}
 use Rattle.ideals.proofs.Sizes.{O-path, sc-a, sc-b, sc-c}
 use Rattle.valued.proofs.Polynomial.{P-path}
-use Rattle.chain.proofs.Rows.{Fit}
 use Rattle.record.specs.Record.{setting, basisOf, IsRecord}
 use Rattle.series.specs.Answer.{Prefix}
 use Rattle.series.specs.declared.Cubic.{Cubic}
@@ -39,7 +34,8 @@ use Rattle.stepped.proofs.Kept.{keeps-of}
 use Rattle.long.specs.Long.{Storable, Stored}
 use Rattle.six.specs.Six.{cut, Monic, TurnIn, Turn}
 use Rattle.unit.specs.Unit.{six}
-use Rattle.unit.specs.Making.{Blank, Space, MultiplyIn, Multiplies}
+use Rattle.unit.specs.Making.{Blank, MultiplyIn, Multiplies}
+use Rattle.unit.proofs.Once.{cut-below}
 
 pub p-is : {p : ℕ} {G H : List ℕ} (f : Cubic) → Prefix p G H f → Accepted p G H → f .field .p ≡ p
 p-is f h A = h .field (A .degG) (A .degH) (A .listG) (A .listH) .prime
@@ -80,15 +76,8 @@ module _ {p : ℕ} (ρ : Reading p) (l : List ℕ) (each : (i : ℕ) → getD l 
     ap (λ k. getD l k 0) (let o : suc m - 1 ≡ m = omega arith in o) ∙ cast-inj ρ (getD l m 0) 1 (each m) big (leads-unique 𝓥 (m, 0, list-top m s, size-lead ρ s) h ∙ sym (ρ .cast-one)),
   )
 
--- the numbers of a part of a list
-pub cut-each : {p : ℕ} (at n : ℕ) (l : List ℕ) → ((i : ℕ) → getD l i 0 < p) → (i : ℕ) → getD (cut at n l) i 0 < p
-cut-each {p} at n l h i = elim (decLt i n) [
-  | yes u ↦ subst (λ v. v < p) (sym (at-tab n (λ i. getD l (at + i) 0) i u)) (h (at + i))
-  | no u ↦ subst (λ v. v < p) (sym (past-tab n (λ i. getD l (at + i) 0) i (omega arith))) (let z : getD l 0 0 < p = h 0 in omega arith)
-]
-
 pub monic-part : {p : ℕ} {G H : List ℕ} (A : Accepted p G H) (b : List ℕ) → IsRecord p G H b → Monic (cut 102 17 b)
-monic-part {p} A b h = list-monic (reading p (A .prime)) (cut 102 17 b) (cut-each 102 17 b (h .each)) (let l : 5 ≤ p = A .low in omega arith) (h .good A .scaled .monic)
+monic-part {p} A b h = list-monic (reading p (A .prime)) (cut 102 17 b) (cut-below 102 17 b (h .each)) (let l : 5 ≤ p = A .low in omega arith) (h .good A .scaled .monic)
 
 pub blank-at : (s : List ℕ) → Blank s → (i : ℕ) → getD s i 0 ≡ 0
 blank-at s e i = ap (λ l. getD l i 0) e ∙ zeros-at (length s) i

@@ -1,13 +1,13 @@
 -- `make`, from its three parts.
 --   make-start, make-product, make-finish   what the parts ask
 --   making                                  what they hand out together
-use mathlib.Core.Path.{_≡_, refl, sym, ap, _∙_, subst}
+use mathlib.Core.Path.{_≡_, sym, ap, _∙_}
 use mathlib.Core.List.{List}
-use Prim.Native.Nat.{ℕ, zero, suc, _+_, _*_, _-_, _<_, _≤_}
+use Prim.Native.Nat.{ℕ, _*_, _-_, _<_, _≤_}
 use native.Mathlib.Omega.{arith}
 use lib.ListN.{length, replicate, length-set, length-replicate}
 use Rattle.series.specs.declared.Cubic.{Cubic}
-use Rattle.unit.specs.Making.{Blank, Task, Along, StartIn, Starts, ProductIn, ProductOf, FinishIn, Finishes, MakeIn, Making}
+use Rattle.unit.specs.Making.{Along, StartIn, Starts, ProductIn, ProductOf, FinishIn, Finishes, MakeIn, Making}
 use Rattle.unit.proofs.Passing.{begun, along-start}
 use Rattle.unit.proofs.Stepping.{blank-as}
 

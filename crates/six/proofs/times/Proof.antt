@@ -127,7 +127,7 @@ coordinate-requires-3 c κs = let s = c .before .before .before .before .before 
     let l₀ : length (mid 0 17 (s .args .b .now)) ≡ 17 = piece-length (s .args .p) (s .args .c) (s .args .n) (s .args .g .now) (s .args .h .now) (s .args .gh .now) (s .args .b .now) (s .args .e .now) (s .args .s .now) (s .pre) 0 17 (omega arith) (omega arith) in
     let l₁ : length (mid 17 34 (s .args .b .now)) ≡ 17 = piece-length (s .args .p) (s .args .c) (s .args .n) (s .args .g .now) (s .args .h .now) (s .args .gh .now) (s .args .b .now) (s .args .e .now) (s .args .s .now) (s .pre) 17 34 (omega arith) (omega arith) in
     let l₂ : length (mid 34 51 (s .args .b .now)) ≡ 17 = piece-length (s .args .p) (s .args .c) (s .args .n) (s .args .g .now) (s .args .h .now) (s .args .gh .now) (s .args .b .now) (s .args .e .now) (s .args .s .now) (s .pre) 34 51 (omega arith) (omega arith) in
-    times-asks (s .args .p) (s .args .c) (s .args .n) (s .args .g .now) (s .args .h .now) (s .args .gh .now) (s .args .b .now) (s .args .e .now) (s .args .s .now) (s .pre) _ _ _ (s .args .c + s .args .c) _ (omega arith) (omega (arith, c .before .before .before .before .before .before .before .before .before .before .before .before .before .by4 .ensures .size)) (omega arith)
+    times-asks (s .args .p) (s .args .c) (s .args .n) (s .args .g .now) (s .args .h .now) (s .args .gh .now) (s .args .b .now) (s .args .e .now) (s .args .s .now) (s .pre) _ _ _ (s .args .c + s .args .c) _ (omega arith) (omega (arith, c .before .before .before .before .before .before .before .before .before .before .before .before .before .by4 .ensures .size)) (omega (arith, c .before .before .before .before .before .before .before .before .before .before .before .before .before .before .by3 .ensures .size))
     (let r : s .args .c + s .args .c + s .args .c ≤ length (s .args .s .now) = s .pre .s-room in let v : s .args .n ≤ s .args .c = s .pre .upto in omega (arith, c .before .before .before .before .before .before .before .before .before .coordinate .ensures .size, c .before .before .before .before .coordinate2 .ensures .size))
 
 same-length : tie.Need-same-length

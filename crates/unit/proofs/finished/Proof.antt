@@ -1,10 +1,8 @@
 -- `finished` meets its contract: proofs/Finishing.antt.
-use Prim.Native.Nat.{ℕ, zero, suc, _≤_, _<_, _-_, _*_, _+_, _%_}
-use mathlib.Core.Path.{_≡_, _∙_, sym, ap, refl, subst}
+use Prim.Native.Nat.{_≤_, _<_, _-_}
+use mathlib.Core.Path.{_∙_, ap, refl}
 use native.Mathlib.Omega.{arith}
-use native.Mathlib.Numerals.{add-one}
-use lib.ListN.{length, getD, replicate, length-replicate}
-use borrow.Author.Needs.{needs}
+use lib.ListN.{length, length-replicate}
 use Rattle.unit.proofs.Finishing.{monic-in, inverse-in, finishes}
 use Rattle.unit.proofs.finished.Statement.{statement}
 use Rattle.unit.proofs.finished.Tie as tie

@@ -1,10 +1,8 @@
 -- `further` meets its contract: proofs/Stepping.antt.
-use Prim.Native.Nat.{ℕ, zero, suc, _≤_, _<_, _-_, _*_, _+_, _%_}
-use mathlib.Core.Path.{_≡_, _∙_, sym, ap, refl, subst}
+use Prim.Native.Nat.{_≤_, _-_}
+use mathlib.Core.Path.{_∙_, ap}
 use native.Mathlib.Omega.{arith}
-use native.Mathlib.Numerals.{add-one}
-use lib.ListN.{length, getD, replicate, length-replicate}
-use borrow.Author.Needs.{needs}
+use lib.ListN.{length, length-replicate}
 use Rattle.unit.proofs.Stepping.{further-next, further-below, further-multiply, further-made}
 use Rattle.unit.proofs.further.Statement.{statement}
 use Rattle.unit.proofs.further.Tie as tie

@@ -1,10 +1,7 @@
 -- `make` meets its contract: proofs/Whole.antt.
-use Prim.Native.Nat.{ℕ, zero, suc, _≤_, _<_, _-_, _*_, _+_, _%_}
-use mathlib.Core.Path.{_≡_, _∙_, sym, ap, refl, subst}
-use native.Mathlib.Omega.{arith}
-use native.Mathlib.Numerals.{add-one}
-use lib.ListN.{length, getD, replicate, length-replicate}
-use borrow.Author.Needs.{needs}
+use Prim.Native.Nat.{_-_}
+use mathlib.Core.Path.{_∙_, ap}
+use lib.ListN.{length, length-replicate}
 use Rattle.unit.proofs.Whole.{make-start, make-product, make-finish, making}
 use Rattle.unit.proofs.make.Statement.{statement}
 use Rattle.unit.proofs.make.Tie as tie

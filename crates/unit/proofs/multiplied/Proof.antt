@@ -1,9 +1,7 @@
 -- `multiplied` meets its contract: proofs/Turning.antt.
-use Prim.Native.Nat.{ℕ, zero, suc, _≤_, _<_, _-_, _*_, _+_, _%_}
-use mathlib.Core.Path.{_≡_, _∙_, sym, ap, refl, subst}
-use native.Mathlib.Omega.{arith}
-use native.Mathlib.Numerals.{add-one}
-use lib.ListN.{length, getD, replicate, length-replicate}
+use Prim.Native.Nat.{_-_}
+use mathlib.Core.Path.{_∙_, ap}
+use lib.ListN.{length, length-replicate}
 use borrow.Author.Needs.{needs}
 use Rattle.unit.proofs.Turning.{stored-g, stored-h, stored-gh, turn-in, multiplies}
 use Rattle.unit.proofs.multiplied.Statement.{statement}

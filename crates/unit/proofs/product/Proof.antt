@@ -1,9 +1,9 @@
 -- `product` meets its contract. The loop's invariant is `Stepping`; the steps that are left fall.
-use Prim.Native.Nat.{ℕ, zero, suc, _≤_, _<_, _-_, _*_, _+_, _%_}
-use mathlib.Core.Path.{_≡_, _∙_, sym, ap, refl, subst}
+use Prim.Native.Nat.{_-_}
+use mathlib.Core.Path.{_∙_, ap}
 use native.Mathlib.Omega.{arith}
 use native.Mathlib.Numerals.{add-one}
-use lib.ListN.{length, getD, replicate, length-replicate}
+use lib.ListN.{length, length-replicate}
 use borrow.Author.Needs.{needs}
 use Rattle.unit.proofs.Stepping.{Stepping, stepping-start, stepping-further, stepping-below, stepping-more, stepping-end}
 use Rattle.unit.proofs.product.Statement.{statement}

@@ -1,9 +1,7 @@
 -- `started` meets its contract.
-use Prim.Native.Nat.{ℕ, zero, suc, _≤_, _<_, _-_, _*_, _+_, _%_}
-use mathlib.Core.Path.{_≡_, _∙_, sym, ap, refl, subst}
-use native.Mathlib.Omega.{arith}
-use native.Mathlib.Numerals.{add-one}
-use lib.ListN.{length, getD, replicate, length-replicate}
+use Prim.Native.Nat.{_-_}
+use mathlib.Core.Path.{_∙_, ap}
+use lib.ListN.{length, length-replicate}
 use borrow.Author.Needs.{needs}
 use lib.ListN.{set}
 use Rattle.unit.proofs.started.Statement.{statement}

@@ -1,10 +1,6 @@
 -- `unfit` meets its contract.
-use Prim.Native.Nat.{ℕ, zero, suc, _≤_, _<_, _-_, _*_, _+_, _%_}
-use mathlib.Core.Path.{_≡_, _∙_, sym, ap, refl, subst}
+use Prim.Native.Nat.{_-_}
 use native.Mathlib.Omega.{arith}
-use native.Mathlib.Numerals.{add-one}
-use lib.ListN.{length, getD, replicate, length-replicate}
-use borrow.Author.Needs.{needs}
 use Rattle.unit.proofs.unfit.Statement.{statement}
 use Rattle.unit.proofs.unfit.Tie as tie
 

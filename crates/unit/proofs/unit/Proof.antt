@@ -1,9 +1,8 @@
 -- `unit` meets its contract, case by case: proofs/Answering.antt.
-use Prim.Native.Nat.{ℕ, zero, suc, _≤_, _<_, _-_, _*_, _+_, _%_}
-use mathlib.Core.Path.{_≡_, _∙_, sym, ap, refl, subst}
+use Prim.Native.Nat.{_-_}
+use mathlib.Core.Path.{_∙_, ap, subst}
 use native.Mathlib.Omega.{arith}
-use native.Mathlib.Numerals.{add-one}
-use lib.ListN.{length, getD, replicate, length-replicate}
+use lib.ListN.{length, length-replicate}
 use borrow.Author.Needs.{needs}
 use mathlib.Core.Bool.{Bool}
 use Rattle.unit.specs.Making.{Unfit}
