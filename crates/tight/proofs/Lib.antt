@@ -1,5 +1,6 @@
 pub mod Rows
 pub mod Poly
+pub mod Sized
 pub mod Pairs
 pub mod Reduction
 pub mod Generators

@@ -5,7 +5,8 @@
 --   poly          size_from, size: size-one; lead: lead-one; from_list: from-list-one; squarefree, coprime: squarefree-one, coprime-one;
 --                 for a prime p: add, sub, minus, scale, cross, mul, derivative, quotient, divide: add-one, sub-one, minus-one, scale-one,
 --                 cross-one, mul-one, derivative-one, quotient-one, divide-one; exact, where b divides a: exact-one;
---                 gcd, up to a constant: gcd-one (Poly)
+--                 gcd, up to a constant: gcd-one (Poly); rapid_of settles nothing: its numbers only serve a remainder, which is settled
+--   sized         for a prime p: mix_in, times_in, det_in, quotient_in: mix-in-one, times-in-one, det-in-one, quotient-in-one (Sized)
 --   field         list_length: list-one (field/proofs/Parts); refusal: refusal-one; open: opens-one (field/proofs)
 --   series        series, open_with_series: answer-one, expands-one (series/proofs/Answer)
 --   reduce        part: part-one; lead_of, where the size has a degree: lead-of-one; reduced, up to constants: reduced-one (Reduction)
@@ -22,7 +23,7 @@
 --   unit          unit: makes-one (unit/proofs/Once)
 --   slice_poly    mul, sum, for a prime p: mul-one, sum-one (Long); size: size-one (Poly)
 --   book_bytes    same_list: decides-one (Tests); read_list, put_two, put_four, put_list, copy_in, lift: put-one (Bytes)
---   book_body     body_rule, one_field, unit_list: decides-one (Tests); field_refusal, period_of: field-refusal-one, period-of-one (Bytes);
+--   book_body     body_rule, one_field, unit_list, first_list: decides-one (Tests); field_refusal, period_of: field-refusal-one, period-of-one (Bytes);
 --                 list_of: got-one (book_body/proofs/One)
 --   book          check, ask_answer: check-one, ask-answer-one (Bytes); ask, earlier, judge: part-one, earliest-one, judge-one (book/proofs/One)
 --   book_add      may_add, add: verdict-one, added-one (book_add/proofs/One)
