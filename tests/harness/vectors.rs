@@ -178,11 +178,28 @@ fn unit_case(line: &str) -> Verdict {
     ensure(told == (14, 0, 0) && rows == pattern(6 * least) && scratch == pattern(6 * least + 6), || "unequal lengths are not refused 14".into())
 }
 
+/// A walk from the order with no limit: taken up again wherever its budget is spent.
+fn whole_walk(x: &Field) -> (u32, u64, u64) {
+    let (mut rows, mut steps, mut sum) = ([0; 119], 0, 0);
+    let mut no = x.order(&mut rows);
+    while no == 0 || no == 10 {
+        let (n, s, d) = x.walk(1000000, &mut rows);
+        steps += s;
+        sum += d;
+        if n == 0 {
+            return (0, steps, sum / 2);
+        }
+        no = n;
+    }
+    (no, 0, 0)
+}
+
 /// The example rows of the papers: p;G;H;period;regulator.
 fn period_case(line: &str) -> Verdict {
     let f: Vec<&str> = line.split(';').collect();
     let right = (0, number(f[3]), number(f[4]));
-    let told = field(&f).from_order(1000000);
+    let x = field(&f);
+    let told = if right.1 > 1000000 { whole_walk(&x) } else { x.from_order(1000000) };
     ensure(told == right, || format!("{:?} for {:?}", told, right))
 }
 
