@@ -4,22 +4,21 @@
 --   reduced-end     both loops
 use mathlib.Core.Path.{_≡_, refl, sym, subst}
 use mathlib.Core.Logic.{_⊎_, inl, inr}
-use mathlib.Core.Bool.{Bool, false}
+use mathlib.Core.Bool.{false}
 use mathlib.Core.List.{List}
 use Prim.Native.Nat.{ℕ, suc, _+_, _-_, _<_, _≤_}
 use native.Mathlib.Omega.{arith}
 use lib.ListN.{getD}
 use Rattle.valued.specs.Val.{Valued}
-use Rattle.valued.specs.Degree.{Has}
-use Rattle.valued.proofs.Degree.{lt-eq, has-eq, lt-up, has-up, above, same, look}
+use Rattle.valued.proofs.Degree.{has-eq, lt-up, has-up, above, same, look}
 use Rattle.reading.specs.Reading.{Reading}
-use Rattle.reading.specs.Row.{Row, Size}
+use Rattle.reading.specs.Row.{Size}
 use Rattle.reading.proofs.Turn.{comb-keep, lead-shift}
 use Rattle.reading.proofs.Floors.{sized, floor-lt, floor-le}
 use Rattle.turn.specs.Points.{Pt, Turned, Moved}
 use Rattle.turn.proofs.Turn.{turned-Y, moved-start, moved-swap, moved-turn, moved-then, moved-has, full}
 use Rattle.poly.specs.Terms.{Ready}
-use Rattle.reduce.specs.Frame.{Frame, Fine, Meaning, Point, point, Short, Held, rd, pt, X, Y, Ltμ, Hasμ, shift}
+use Rattle.reduce.specs.Frame.{Frame, Fine, Meaning, Short, Held, rd, pt, X, Y, Ltμ, Hasμ, shift}
 use Rattle.reduce.specs.Leaves.{Parted, TopIn, Topped}
 use Rattle.reduce.specs.Clear.{Rows, Room, CancelIn, CancelOut, Clearing, Cleared, ShearIn, Shearing, Sheared, Reduced, Movedμ, ends}
 use Rattle.reduce.specs.declared.Pair.{Pair}

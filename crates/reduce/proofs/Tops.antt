@@ -15,13 +15,13 @@ use lib.ListN.{getD}
 use Rattle.ring.specs.Ring.{Ops, CRing}
 use Rattle.ring.proofs.Solve.{var, zer, minus, _:+_, _:*_, solve}
 use Rattle.valued.specs.Val.{Valued}
-use Rattle.valued.specs.Degree.{Has, Lt}
+use Rattle.valued.specs.Degree.{Lt}
 use Rattle.valued.proofs.Degree.{lead-eq, lt-eq, lt-up, lt-add, lt-neg, above, same}
 use Rattle.reading.specs.Reading.{Reading}
 use Rattle.reading.specs.Row.{Size, tpow, psum}
 use Rattle.reading.proofs.Rows.{const-zero, psum-cut, psum-lt, psum-lead}
 use Rattle.reading.proofs.Floors.{floor-lt, floor-top}
-use Rattle.reduce.specs.Frame.{Frame, Meaning, rd, Ser, pt, side, Ltμ, Hasμ}
+use Rattle.reduce.specs.Frame.{Frame, Meaning, rd, pt, side, Ltμ, Hasμ}
 use Rattle.reduce.specs.Leaves.{PartIn, PartAt, partAt, Parted, TopIn, Topped, Led}
 use Rattle.reduce.specs.declared.Top.{Top}
 use Rattle.reduce.proofs.Leaves.{part-floor, part-high}

@@ -1,6 +1,6 @@
 -- `reduce::clear_y` meets its contract: each turn is `clear-turn` (of the swapped state where n is turned); the lengths of both Y fall.
 use mathlib.Core.Path.{_≡_}
-use Prim.Native.Nat.{ℕ, suc, _+_, _<_}
+use Prim.Native.Nat.{suc, _+_, _<_}
 use native.Mathlib.Omega.{arith}
 use Rattle.reduce.specs.Given.{given}
 use Rattle.reduce.specs.Clear.{Clearing, pair}

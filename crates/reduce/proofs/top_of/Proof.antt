@@ -1,6 +1,6 @@
 -- `reduce::top_of` meets its contract: the lemmas `seek` of Tops.
 use mathlib.Core.Path.{refl}
-use Prim.Native.Nat.{ℕ, _*_, _≤_, _<_}
+use Prim.Native.Nat.{_*_, _≤_, _<_}
 use native.Mathlib.Omega.{arith}
 use Rattle.reduce.specs.Given.{given}
 use Rattle.reduce.proofs.Leaves.{square-small}
