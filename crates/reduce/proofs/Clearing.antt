@@ -16,8 +16,7 @@ use Rattle.turn.proofs.Turn.{turned-X, moved-start, moved-swap, moved-turn, mov
 use Rattle.poly.specs.Leaf.{Cut}
 use Rattle.reduce.specs.Frame.{Frame, Fine, Meaning, Point, point, Short, Held, rd, pt, X, Y, Ltμ, shift}
 use Rattle.reduce.specs.Leaves.{PartIn, Parted, TopIn, Topped}
-use Rattle.reduce.specs.Clear.{Rows, Room, CancelIn, CancelOut, ClearIn, ClearBy, Clearing, Cleared, pair, swapIf}
-use Rattle.reduce.specs.declared.Pair.{Pair}
+use Rattle.reduce.specs.Clear.{Pair, Rows, Room, CancelIn, CancelOut, ClearIn, ClearBy, Clearing, Cleared, pair, swapIf}
 use Rattle.reduce.specs.declared.Top.{Top}
 use Rattle.reduce.proofs.Laid.{zeros-row, zeros-at}
 use Rattle.reduce.proofs.Tops.{part-lt, topped-up, topped-not, topped-most}

@@ -20,9 +20,7 @@ use Rattle.turn.proofs.Turn.{turned-Y, moved-start, moved-swap, moved-turn, mov
 use Rattle.poly.specs.Terms.{Ready}
 use Rattle.reduce.specs.Frame.{Frame, Fine, Meaning, Short, Held, rd, pt, X, Y, Ltμ, Hasμ, shift}
 use Rattle.reduce.specs.Leaves.{Parted, TopIn, Topped}
-use Rattle.reduce.specs.Clear.{Rows, Room, CancelIn, CancelOut, Clearing, Cleared, ShearIn, Shearing, Sheared, Reduced, Movedμ, ends}
-use Rattle.reduce.specs.declared.Pair.{Pair}
-use Rattle.reduce.specs.declared.Ends.{Ends}
+use Rattle.reduce.specs.Clear.{Pair, Rows, Room, CancelIn, CancelOut, Clearing, Cleared, ShearIn, Shearing, Sheared, Reduced, Movedμ, Ends, ends}
 use Rattle.reduce.specs.declared.Top.{Top}
 use Rattle.reduce.proofs.Tops.{part-lt, part-top, topped-up, topped-not, topped-has}
 use Rattle.reduce.proofs.Clearing.{part-in, part-held}

@@ -1,4 +1,5 @@
 -- The reduction: contracts of a turn, of the two loops, and of the whole.
+--   Pair, Ends             two elements, and the same with the polynomial parts of X and the length of m's
 --   CancelIn, CancelOut    s a − c t^k b cancels the leading term of a size of a, where the sizes before and after lie below top
 --   ClearIn F q top lu     two elements whose sizes X, Y lie below top = S′ + 1, X(m) + Y(n) and X(n) + Y(m) at most S′ + u′ and the
 --                          determinant of degree S′ + u′; lu = u′ + 1. All numbers are lengths: degrees + 1, and 0 below degree 0
@@ -19,8 +20,38 @@ use Rattle.poly.specs.Terms.{Ready}
 use Rattle.reduce.specs.Frame.{Frame, Fine, Meaning, point, Short, Held, rd, pt, X, Y, D, Ltμ, Hasμ, shift}
 use Rattle.reduce.specs.Leaves.{Topped}
 use Rattle.reduce.specs.declared.Top.{Top}
-use Rattle.reduce.specs.declared.Pair.{Pair}
-use Rattle.reduce.specs.declared.Ends.{Ends}
+
+-- two elements, by their rows
+pub record Pair : Type 0 where
+  pub mb : List ℕ
+  pub mc : List ℕ
+  pub nb : List ℕ
+  pub nc : List ℕ
+
+abbrev pub pair : List ℕ → List ℕ → List ℕ → List ℕ → Pair
+pair mb mc nb nc = record { mb = mb; mc = mc; nb = nb; nc = nc }
+
+-- two elements with the polynomial parts of X, and the length of m's
+pub record Ends : Type 0 where
+  pub mb : List ℕ
+  pub mc : List ℕ
+  pub mx : List ℕ
+  pub nb : List ℕ
+  pub nc : List ℕ
+  pub nx : List ℕ
+  pub lx : ℕ
+
+abbrev pub ends : List ℕ → List ℕ → List ℕ → List ℕ → List ℕ → List ℕ → ℕ → Ends
+ends mb mc mx nb nc nx lx = record { mb = mb; mc = mc; mx = mx; nb = nb; nc = nc; nx = nx; lx = lx }
+
+-- m and n change places where the answer is yes
+abbrev pub swapIf : Bool → Pair → Pair
+swapIf true q = pair (q .nb) (q .nc) (q .mb) (q .mc)
+swapIf false q = q
+
+abbrev pub endsIf : Bool → Ends → Ends
+endsIf true o = ends (o .nb) (o .nc) (o .nx) (o .mb) (o .mc) (o .mx) (o .lx)
+endsIf false o = o
 
 -- the rows of an element below top
 pub record Rows (F : Frame) (top : ℕ) (b c : List ℕ) : Type 0 where
@@ -98,14 +129,6 @@ pub record ClearBy (F : Frame) (mul lim : ℕ) (q : Pair) (top lu : ℕ) : Type 
   pub inp : ClearIn F q top lu
   pub ready : Ready (F .p) mul lim
 
-abbrev pub pair : List ℕ → List ℕ → List ℕ → List ℕ → Pair
-pair mb mc nb nc = record { mb = mb; mc = mc; nb = nb; nc = nc }
-
--- m and n change places where the answer is yes
-abbrev pub swapIf : Bool → Pair → Pair
-swapIf true q = pair (q .nb) (q .nc) (q .mb) (q .mc)
-swapIf false q = q
-
 -- y1 and y2 are the tops of Y(m), Y(n) past u′; x1 and x2 bound the lengths of X
 pub record Clearing (F : Frame) (q : Pair) (top lu : ℕ) (o : Pair) (y1 y2 : Top) : Type 0 where
   pub room : Room F top
@@ -161,9 +184,6 @@ pub record ShearBy (F : Frame) (mul lim : ℕ) (q : Pair) (top : ℕ) (mx nx : L
   pub hmx : Short (F .p) mx top
   pub hnx : Short (F .p) nx top
 
-abbrev pub ends : List ℕ → List ℕ → List ℕ → List ℕ → List ℕ → List ℕ → ℕ → Ends
-ends mb mc mx nb nc nx lx = record { mb = mb; mc = mc; mx = mx; nb = nb; nc = nc; nx = nx; lx = lx }
-
 -- x1 is the top of X(m), and x2 that of X(n) from there on
 pub record Shearing (F : Frame) (q : Pair) (top : ℕ) (nb nc : List ℕ) (x1 x2 : Top) : Type 0 where
   pub room : Room F top
@@ -194,6 +214,11 @@ pub record Sheared (F : Frame) (q : Pair) (top : ℕ) (o : Ends) : Type 0 where
   pub moved : (μ : Meaning F) → Movedμ μ q (o .mb) (o .mc) (o .nb) (o .nc)
 
 -- ---- both
+pub record ReduceIn (F : Frame) (mul lim : ℕ) (q : Pair) (top lu : ℕ) (mx nx : List ℕ) : Type 0 where
+  pub inp : ClearBy F mul lim q top lu
+  pub hmx : Short (F .p) mx top
+  pub hnx : Short (F .p) nx top
+
 pub record Reduced (F : Frame) (q : Pair) (top lu : ℕ) (o : Ends) : Type 0 where
   pub hm : Held F false top (point (o .mb) (o .mc) (o .mx))
   pub hn : Held F false top (point (o .nb) (o .nc) (o .nx))

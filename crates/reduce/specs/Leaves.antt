@@ -139,6 +139,10 @@ pub record Topped (F : Frame) (e : Bool) (b c : List ℕ) (low l : ℕ) (t : Top
   pub some : low < t .n → 0 < t .c
   pub lead : low < t .n → (μ : Meaning F) → rd μ .𝓥 .Lead (side μ e (pt μ b c)) (t .n - 1) 0 (rd μ .cast (t .c))
 
+pub record LeadIn (F : Frame) (m lim : ℕ) (b c : List ℕ) (top : ℕ) : Type 0 where
+  pub inp : PartIn F b c top
+  pub ready : Ready (F .p) m lim
+
 -- r is the leading coefficient of the size, where the size has a degree that is not below 0
 pub record Led (F : Frame) (e : Bool) (b c : List ℕ) (r : ℕ) : Type 0 where
   pub law : (μ : Meaning F) (d : ℕ) → Has (rd μ .𝓥) (side μ e (pt μ b c)) d → (0 < r) × (r < F .p) × rd μ .𝓥 .Lead (side μ e (pt μ b c)) d 0 (rd μ .cast r)

@@ -10,8 +10,8 @@ ghost use mathlib.Core.Path.{_≡_};
 ghost use Prim.Native.Nat.{_+_, _*_, _-_, _%_, _<_, _≤_};
 ghost use Rattle.reading.specs.Row.{shiftAt};
 ghost use Rattle.reduce.specs.Given.{given};
-ghost use Rattle.reduce.specs.Clear.{CancelBy, CancelOut, ClearIn, ClearBy, Cleared, ShearBy, Sheared, Reduced, pair, ends, swapIf};
-ghost use Rattle.reduce.specs.Leaves.{CrossBy, Crossed, SumIn, Summed, TermsIn, Terms, PlainIn, PartIn, PartBy, PartAtIn, PartAtBy, QuickAtIn, PartAt, Parted, TopIn, Topped, Led};
+ghost use Rattle.reduce.specs.Clear.{CancelBy, CancelOut, ClearBy, Cleared, ShearBy, Sheared, ReduceIn, Reduced, pair, ends, swapIf, endsIf};
+ghost use Rattle.reduce.specs.Leaves.{CrossBy, Crossed, SumIn, Summed, TermsIn, Terms, PlainIn, PartIn, PartBy, PartAtIn, PartAtBy, QuickAtIn, PartAt, Parted, TopIn, Topped, LeadIn, Led};
 
 // A modulus, the degrees of two series, and the bound of sizes: one more than the largest degree that may occur
 pub struct Bounds {
@@ -226,16 +226,16 @@ fn top_of(
 // The leading coefficient of b r + c w, or of b r - c w, where its degree is not below 0
 pub fn lead_of(
     f: Bounds,
+    fast: Rapid,
     minus: bool,
     b: &[u64; 32],
     c: &[u64; 32],
     r: &[u64; 32],
     w: &[u64; 32],
 ) -> u64
-    requires { ⌜ PartIn (given f (now r) (now w)) (now b) (now c) (f .top) ⌝ }
+    requires { ⌜ LeadIn (given f (now r) (now w)) (fast .m) (fast .lim) (now b) (now c) (f .top) ⌝ }
     ensures { λ v. ⌜ Led (given f (now (r .entry)) (now (w .entry))) minus (now (b .entry)) (now (c .entry)) v ⌝ }
 {
-    let fast = rapid_of(f.p);
     let t = top_of(f, fast, minus, b, c, r, w, f.top, 0);
     t.c
 }
@@ -261,25 +261,6 @@ fn cross(p: u64, fast: Rapid, s: u64, x: &mut [u64; 32], c: u64, k: usize, y: &[
         x[i] = a;
         i += 1;
     }
-}
-
-// Two elements b r + c w
-pub struct Pair {
-    pub mb: [u64; 32],
-    pub mc: [u64; 32],
-    pub nb: [u64; 32],
-    pub nc: [u64; 32],
-}
-
-// Two elements with the polynomial parts of X, and the length of m's
-pub struct Ends {
-    pub mb: [u64; 32],
-    pub mc: [u64; 32],
-    pub mx: [u64; 32],
-    pub nb: [u64; 32],
-    pub nc: [u64; 32],
-    pub nx: [u64; 32],
-    pub lx: usize,
 }
 
 // The element a with its leading term canceled by b, which is no longer: s a - c t^k b in place of a, and the top of its size
@@ -377,40 +358,36 @@ fn clear_x(
     l
 }
 
-// A pair with the span of q, deg X(n) < deg X(m) and deg Y(m) < lu - 1 <= deg Y(n)
-pub fn reduced(f: Bounds, r: &[u64; 32], w: &[u64; 32], q: Pair, lu: usize) -> Ends
-    requires { ⌜ ClearIn (given f (now r) (now w)) q (f .top) lu ⌝ }
-    ensures { λ o. ⌜ Reduced (given f (now (r .entry)) (now (w .entry))) q (f .top) lu o ⌝ }
+// Whether m and n have changed places, and the length of X(m)
+pub struct Ended {
+    pub swap: bool,
+    pub l: usize,
+}
+
+// A pair with the same span in place of m and n, deg X(n) < deg X(m) and deg Y(m) < lu - 1 <= deg Y(n).
+// Where the answer says so, m stands in the rows of n and n in those of m.
+pub fn reduced(
+    f: Bounds,
+    fast: Rapid,
+    r: &[u64; 32],
+    w: &[u64; 32],
+    mb: &mut [u64; 32],
+    mc: &mut [u64; 32],
+    mx: &mut [u64; 32],
+    nb: &mut [u64; 32],
+    nc: &mut [u64; 32],
+    nx: &mut [u64; 32],
+    lu: usize,
+) -> Ended
+    requires { ⌜ ReduceIn (given f (now r) (now w)) (fast .m) (fast .lim) (pair (now mb) (now mc) (now nb) (now nc)) (f .top) lu (now mx) (now nx) ⌝ }
+    ensures { λ o. ⌜ Reduced (given f (now (r .entry)) (now (w .entry))) (pair (now (mb .entry)) (now (mc .entry)) (now (nb .entry)) (now (nc .entry))) (f .top) lu (endsIf (o .swap) (ends (now (mb .exit)) (now (mc .exit)) (now (mx .exit)) (now (nb .exit)) (now (nc .exit)) (now (nx .exit)) (o .l))) ⌝ }
 {
-    let fast = rapid_of(f.p);
-    let mut mb = q.mb;
-    let mut mc = q.mc;
-    let mut nb = q.nb;
-    let mut nc = q.nc;
-    let mut mx: [u64; 32] = [0; 32];
-    let mut nx: [u64; 32] = [0; 32];
-    let swap = clear_y(f, fast, r, w, &mut mb, &mut mc, &mut nb, &mut nc, lu);
+    let swap = clear_y(f, fast, r, w, mb, mc, nb, nc, lu);
     if swap {
-        let l = clear_x(f, fast, r, w, &nb, &nc, &mut nx, &mut mb, &mut mc, &mut mx);
-        Ends {
-            mb: nb,
-            mc: nc,
-            mx: nx,
-            nb: mb,
-            nc: mc,
-            nx: mx,
-            lx: l,
-        }
+        let l = clear_x(f, fast, r, w, nb, nc, nx, mb, mc, mx);
+        Ended { swap: true, l }
     } else {
-        let l = clear_x(f, fast, r, w, &mb, &mc, &mut mx, &mut nb, &mut nc, &mut nx);
-        Ends {
-            mb,
-            mc,
-            mx,
-            nb,
-            nc,
-            nx,
-            lx: l,
-        }
+        let l = clear_x(f, fast, r, w, mb, mc, mx, nb, nc, nx);
+        Ended { swap: false, l }
     }
 }
