@@ -177,7 +177,7 @@ pub fn cross(p: u64, s: u64, x: &[u64; 32], c: u64, k: usize, y: &[u64; 32]) -> 
 }
 
 // s + x y up to a multiple of p, kept below 2^63.
-fn more(p: u64, s: u64, x: u64, y: u64) -> u64
+pub fn more(p: u64, s: u64, x: u64, y: u64) -> u64
     requires { ⌜ MoreIn p s x y ⌝ }
     ensures { λ r. ⌜ More p s x y r ⌝ }
 {
