@@ -6,8 +6,8 @@ ghost use mathlib.Core.Path.{_≡_};
 ghost use Prim.Native.Nat.{_+_, _*_, _-_, _%_, _<_, _≤_};
 ghost use lib.ListN.{length, getD};
 ghost use Rattle.reading.specs.Row.{Row, Size};
-ghost use Rattle.poly.specs.Leaf.{Cut, Leading, Once, Given, Both, Summed, Difference, Opposite, ScaleIn, Scaled};
-ghost use Rattle.poly.specs.Leaf.{CrossIn, Crossed, CrossAt, MulIn, Product, Listed};
+ghost use Rattle.poly.specs.Leaf.{Cut, Leading, Once, Given, Both, Summed, Difference, Opposite, ScaleIn, Scaled, ScaleBy, ScaleOut};
+ghost use Rattle.poly.specs.Leaf.{CrossIn, Crossed, CrossAt, CrossBy, CrossOut, MulIn, Product, Listed};
 ghost use Rattle.poly.specs.Terms.{Ready, RestIn, MoreIn, More, PartIn, PlainIn, Part, PlaceIn};
 ghost use Rattle.residue.specs.Residue.{Modulus};
 ghost use Rattle.poly.specs.Division.{DivIn, Quotient, Exact, Divided, DigitIn, Digit};
@@ -125,19 +125,27 @@ pub fn minus(p: u64, x: &[u64; 32]) -> [u64; 32]
     sub(p, &z, x)
 }
 
+// c x in place of x, which ends before n.
+pub fn scale_in(p: u64, q: Rapid, c: u64, x: &mut [u64; 32], n: usize)
+    requires { ⌜ ScaleBy p (q .m) (q .lim) c (now x) n ⌝ }
+    ensures { λ _. ⌜ ScaleOut p c (now (x .entry)) n (now (x .exit)) ⌝ }
+{
+    let mut i: usize = 0;
+    while i < n {
+        let v = rest(p, q, c * x[i]);
+        x[i] = v;
+        i += 1;
+    }
+}
+
 pub fn scale(p: u64, c: u64, x: &[u64; 32]) -> [u64; 32]
     requires { ⌜ ScaleIn p c (now x) ⌝ }
     ensures { λ r. ⌜ Scaled p c (now (x .entry)) r ⌝ }
 {
     let q = rapid_of(p);
     let n = size(x);
-    let mut r: [u64; 32] = [0; 32];
-    let mut i: usize = 0;
-    while i < n {
-        let v = rest(p, q, c * x[i]);
-        r[i] = v;
-        i += 1;
-    }
+    let mut r = *x;
+    scale_in(p, q, c, &mut r, n);
     r
 }
 
@@ -157,7 +165,31 @@ fn mixed(p: u64, q: Rapid, s: u64, x: u64, d: u64, y: u64) -> u64
     rest(p, q, s * x + d * y)
 }
 
-// s x - c t^k y, where t^k y fits.
+// s x - c t^k y, of n terms, in place of x.
+pub fn cross_in(
+    p: u64,
+    q: Rapid,
+    s: u64,
+    x: &mut [u64; 32],
+    c: u64,
+    k: usize,
+    y: &[u64; 32],
+    n: usize,
+)
+    requires { ⌜ CrossBy p (q .m) (q .lim) s (now x) c k (now y) n ⌝ }
+    ensures { λ _. ⌜ CrossOut p s (now (x .entry)) c k (now (y .entry)) n (now (x .exit)) ⌝ }
+{
+    let d = p - c;
+    let mut i: usize = 0;
+    while i < n {
+        let z = shifted(y, k, i);
+        let v = mixed(p, q, s, x[i], d, z);
+        x[i] = v;
+        i += 1;
+    }
+}
+
+// The same as a row of its own, where t^k y fits.
 pub fn cross(p: u64, s: u64, x: &[u64; 32], c: u64, k: usize, y: &[u64; 32]) -> [u64; 32]
     requires { ⌜ CrossIn p s (now x) c k (now y) ⌝ }
     ensures { λ r. ⌜ Crossed p s (now (x .entry)) c k (now (y .entry)) r ⌝ }
@@ -166,13 +198,8 @@ pub fn cross(p: u64, s: u64, x: &[u64; 32], c: u64, k: usize, y: &[u64; 32]) -> 
     let n = size(x);
     let m = size(y) + k;
     let top = if n < m { m } else { n };
-    let mut r: [u64; 32] = [0; 32];
-    let mut i: usize = 0;
-    while i < top {
-        let z = shifted(y, k, i);
-        r[i] = mixed(p, q, s, x[i], p - c, z);
-        i += 1;
-    }
+    let mut r = *x;
+    cross_in(p, q, s, &mut r, c, k, y, top);
     r
 }
 
@@ -352,6 +379,7 @@ pub fn gcd(p: u64, a: &[u64; 32], b: &[u64; 32]) -> [u64; 32]
     requires { ⌜ OverBoth p (now a) (now b) ⌝ }
     ensures { λ r. ⌜ Common p (now (a .entry)) (now (b .entry)) r ⌝ }
 {
+    let q = rapid_of(p);
     let mut x = *a;
     let mut y = *b;
     let mut n = size(a);
@@ -367,9 +395,8 @@ pub fn gcd(p: u64, a: &[u64; 32], b: &[u64; 32]) -> [u64; 32]
         } else {
             let s = y[m - 1];
             let c = x[n - 1];
-            let t = cross(p, s, &x, c, n - m, &y);
-            n = size(&t);
-            x = t;
+            cross_in(p, q, s, &mut x, c, n - m, &y, n);
+            n = size_from(&x, n - 1);
         }
     }
     x
