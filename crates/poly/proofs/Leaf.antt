@@ -10,7 +10,7 @@ use lib.Seq.{getD-set-other}
 use Rattle.ring.proofs.Laws as laws
 use Rattle.reading.specs.Made.{reading}
 use Rattle.reading.specs.Row.{tab, Row, Size, row, coefs, shiftAt}
-use Rattle.reading.proofs.Tab.{zeros-at, tab-row, crossAt, cross-row, Filled, filled-start, filled-more, Begun, begun-end, shift-high}
+use Rattle.reading.proofs.Tab.{zeros-at, tab-row, crossAt, cross-row, Filled, filled-start, filled-more, Begun, begun-end, shift-high, shift-small}
 use Rattle.reading.proofs.Rows.{add-law, sub-law, scale-law, cross-law, row-32, row-upto, psum-ext}
 use Rattle.reading.proofs.Floors.{zero-row, sized}
 use Rattle.poly.specs.Leaf.{Both, Summed, Difference, Opposite, Short, ScaleIn, ScaleBy, ScaleOut, CrossIn, CrossBy, CrossOut, Listed}
@@ -72,6 +72,16 @@ scaled {p} {mul} {lim} {c} {x} {n} {i} {r} h l s =
       short = record { is-row = w; above = λ k u. b .rest k (omega arith) };
       scaled = record { is-row = w; law = λ pr. ap (row (reading p pr)) e ∙ scale-law (reading p pr) c x (h .hx .is-row .size) };
     }
+
+-- what cross_in takes the remainder of, where a and z are the coefficients of x and of t^k y at i
+pub cross-low : {p mul lim s : ℕ} {x : List ℕ} {c k : ℕ} {y : List ℕ} {n : ℕ} → CrossBy p mul lim s x c k y n → (i a z : ℕ) → a ≡ getD x i 0 → z ≡ shiftAt y k i → s * a + (p - c) * z ≤ 9223372036854775808
+cross-low {p} {s = s} {x = x} {c = c} {k = k} {y = y} h i a z e f =
+    let b : 1 < p = h .modulus .big in
+    let m : p < 2147483648 = h .modulus .small in
+    let u : s < p = h .hs in
+    let v : getD x i 0 < p = h .hx .is-row .each i in
+    let w : shiftAt y k i < p = shift-small p y k i (omega arith) (h .hy) in
+    omega (arith, small-mul s a (omega arith) (omega arith), small-mul (p - c) z (omega arith) (omega arith))
 
 -- y ends so that t^k y fits
 shift-room : {y : List ℕ} {m : ℕ} (n k : ℕ) → Size y m → n ≤ 32 → k ≤ 32 → ((i : ℕ) → n ≤ i → shiftAt y k i ≡ 0) → m + k ≤ 32

@@ -80,14 +80,6 @@ pub record ScaleOut (p c : ℕ) (x : List ℕ) (n : ℕ) (r : List ℕ) : Type 0
   pub scaled : Scaled p c x r
 
 -- ---- s x − c t^k y
-pub record CrossAt (p mul lim s x d y : ℕ) : Type 0 where
-  pub modulus : Modulus p
-  pub ready : Ready p mul lim
-  pub hs : s < p
-  pub hx : x < p
-  pub hd : d ≤ p
-  pub hy : y < p
-
 pub record CrossIn (p s : ℕ) (x : List ℕ) (c k : ℕ) (y : List ℕ) : Type 0 where
   pub modulus : Modulus p
   pub hs : s < p

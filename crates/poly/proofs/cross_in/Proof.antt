@@ -1,10 +1,9 @@
 -- `poly::cross_in` meets its contract: a row turned in place up to n, then `crossed`.
-use mathlib.Core.Path.{_≡_, ap, ap₂, _∙_, subst, sym}
-use Prim.Native.Nat.{_≤_, _<_, _-_, _*_, _+_, _%_}
+use mathlib.Core.Path.{ap₂, _∙_}
+use Prim.Native.Nat.{_≤_, _-_, _*_, _+_, _%_}
 use native.Mathlib.Omega.{arith}
-use lib.ListN.{getD}
-use Rattle.reading.proofs.Tab.{crossAt, shift-small}
-use Rattle.poly.proofs.Leaf.{Swept, swept-start, swept-more, crossed}
+use Rattle.reading.proofs.Tab.{crossAt}
+use Rattle.poly.proofs.Leaf.{Swept, swept-start, swept-more, cross-low, crossed}
 use borrow.Author.Needs.{needs}
 use Rattle.poly.proofs.cross_in.Statement.{statement}
 use Rattle.poly.proofs.cross_in.Tie as tie
@@ -24,24 +23,23 @@ loop-holds c = (omega arith, swept-start 32 _ _ (c .pre .hx .is-row .size))
 shifted-requires : tie.Need-shifted-requires Inv-loop μ-loop
 shifted-requires c κs = search needs
 
-mul-mixed : tie.Need-mul-mixed Inv-loop μ-loop
-mul-mixed c = search needs
+mul-rest : tie.Need-mul-rest Inv-loop μ-loop
+mul-rest c = search needs
 
-element-copy-out-mixed : tie.Need-element-copy-out-mixed Inv-loop μ-loop
-element-copy-out-mixed c = search needs
+element-copy-out-rest : tie.Need-element-copy-out-rest Inv-loop μ-loop
+element-copy-out-rest c = search needs
 
-mixed-requires : tie.Need-mixed-requires Inv-loop μ-loop
-mixed-requires c κs =
-    let s = c .before .before .before .before in
-    let l = c .before .before .before .loop in
-    record {
-      modulus = s .pre .modulus;
-      ready = s .pre .ready;
-      hs = s .pre .hs;
-      hx = subst (λ a. a < s .args .p) (sym (l .inv .1 .rest (l .i) (omega arith))) (s .pre .hx .is-row .each (l .i));
-      hd = omega arith;
-      hy = omega (arith, c .before .shifted .ensures, shift-small (s .args .p) (s .args .y .now) (s .args .k) (l .i) (omega arith) (s .pre .hy));
-    }
+mul-rest-2 : tie.Need-mul-rest-2 Inv-loop μ-loop
+mul-rest-2 c = omega (arith, cross-low (c .before .before .before .before .pre) (c .before .before .before .loop .i) _ _ (c .before .before .before .loop .inv .1 .rest _ (omega arith)) (c .before .shifted .ensures))
+
+mul-rest-3 : tie.Need-mul-rest-3 Inv-loop μ-loop
+mul-rest-3 c = omega (arith, cross-low (c .before .before .before .before .pre) (c .before .before .before .loop .i) _ _ (c .before .before .before .loop .inv .1 .rest _ (omega arith)) (c .before .shifted .ensures))
+
+add-rest : tie.Need-add-rest Inv-loop μ-loop
+add-rest c = omega (arith, cross-low (c .before .before .before .before .pre) (c .before .before .before .loop .i) _ _ (c .before .before .before .loop .inv .1 .rest _ (omega arith)) (c .before .shifted .ensures))
+
+rest-requires : tie.Need-rest-requires Inv-loop μ-loop
+rest-requires c κs = search needs
 
 mul-x : tie.Need-mul-x Inv-loop μ-loop
 mul-x c = search needs
@@ -60,7 +58,7 @@ loop-again c =
     let s = c .before .before .before .before .before in
     let l = c .before .before .before .before .loop in
     let n : s .args .n ≤ 32 = s .pre .fits in
-    (omega arith, swept-more 32 _ _ _ (l .i) _ (l .inv .1) (omega arith) (c .mixed .ensures ∙ ap₂ (λ a z. (s .args .s * a + (s .args .p - s .args .c) * z) % s .args .p) (l .inv .1 .rest (l .i) (omega arith)) (c .before .before .shifted .ensures)))
+    (omega arith, swept-more 32 _ _ _ (l .i) _ (l .inv .1) (omega arith) (c .rest .ensures ∙ ap₂ (λ a z. (s .args .s * a + (s .args .p - s .args .c) * z) % s .args .p) (l .inv .1 .rest (l .i) (omega arith)) (c .before .before .shifted .ensures)))
 
 returns : tie.Need-returns Inv-loop μ-loop
 returns c = crossed (c .before .before .pre) (omega arith) (c .before .loop .inv .1)
@@ -74,9 +72,12 @@ cross-in-spec =
     sub-d
     loop-holds
     shifted-requires
-    mul-mixed
-    element-copy-out-mixed
-    mixed-requires
+    mul-rest
+    element-copy-out-rest
+    mul-rest-2
+    mul-rest-3
+    add-rest
+    rest-requires
     mul-x
     element-write-x
     add-i
