@@ -6,7 +6,8 @@
 --                 for a prime p: add, sub, minus, scale, cross, mul, derivative, quotient, divide: add-one, sub-one, minus-one, scale-one,
 --                 cross-one, mul-one, derivative-one, quotient-one, divide-one; exact, where b divides a: exact-one;
 --                 gcd, up to a constant: gcd-one (Poly); rapid_of settles nothing: its numbers only serve a remainder, which is settled
---   sized         for a prime p: mix_in, times_in, det_in, quotient_in: mix-in-one, times-in-one, det-in-one, quotient-in-one (Sized)
+--   sized         for a prime p: mix_in, both_in, times_in, det_in, quotient_in: mix-in-one, both-in-one, times-in-one, det-in-one,
+--                 quotient-in-one (Sized)
 --   field         list_length: list-one (field/proofs/Parts); refusal: refusal-one; open: opens-one (field/proofs)
 --   series        series, open_with_series: answer-one, expands-one (series/proofs/Answer)
 --   reduce        part: part-one; lead_of, where the size has a degree: lead-of-one; reduced, up to constants: reduced-one (Reduction)
