@@ -21,9 +21,10 @@ use Rattle.reading.proofs.Turn.{comb, comb-drop}
 use Rattle.reading.proofs.Floors.{sized}
 use Rattle.turn.specs.Points.{Pt, Turned}
 use Rattle.turn.proofs.Turn.{turned-side, b-lt, c-lt}
+use Rattle.poly.specs.Leaf.{CrossBy, CrossOut}
 use Rattle.poly.specs.Terms.{Ready}
 use Rattle.reduce.specs.Frame.{Frame, Fine, Meaning, Short, rd, Ser, pt, X, Y, side, Ltμ, shift, rowμ}
-use Rattle.reduce.specs.Leaves.{CrossIn, Crossed, PartIn, TopIn, Topped}
+use Rattle.reduce.specs.Leaves.{PartIn, TopIn, Topped}
 use Rattle.reduce.specs.Clear.{Rows, Room, RoomAt, CancelIn, CancelOut}
 use Rattle.reduce.specs.declared.Top.{Top}
 
@@ -61,13 +62,14 @@ module _ {F : Frame} {e : Bool} {ab ac bb bc : List ℕ} {a b : Top} {top low : 
       let u : a .n ≤ top = i .ta .upto in
       omega arith
 
-  pub cancel-b : CrossIn (F .p) (b .c) ab (a .c) k bb (top - F .dr)
+  pub cancel-b : {m lim : ℕ} → Ready (F .p) m lim → CrossBy (F .p) m lim (b .c) ab (a .c) k bb (top - F .dr)
   unfolding moved-up
-  cancel-b =
+  cancel-b r =
       let σ = i .some in
       let f : top ≤ 32 = i .room .fits in
       let lc : a .c < F .p = i .ta .below in record {
         modulus = i .room .fine .modulus;
+        ready = r;
         hs = i .tb .below;
         hc = omega arith;
         hx = i .ha .hb;
@@ -77,13 +79,14 @@ module _ {F : Frame} {e : Bool} {ab ac bb bc : List ℕ} {a b : Top} {top low : 
         above = shift-above (rd σ) bb k (top - F .dr) (i .hb .hb .is-row) (b-lt (rd σ) (σ .r) (σ .w) {a = moved-up} (F .dr) (top - F .dr) (σ .two) (σ .r-deg) up-x up-y (omega arith));
       }
 
-  pub cancel-c : CrossIn (F .p) (b .c) ac (a .c) k bc (top - F .dw)
+  pub cancel-c : {m lim : ℕ} → Ready (F .p) m lim → CrossBy (F .p) m lim (b .c) ac (a .c) k bc (top - F .dw)
   unfolding moved-up
-  cancel-c =
+  cancel-c r =
       let σ = i .some in
       let f : top ≤ 32 = i .room .fits in
       let lc : a .c < F .p = i .ta .below in record {
         modulus = i .room .fine .modulus;
+        ready = r;
         hs = i .tb .below;
         hc = omega arith;
         hx = i .ha .hc;
@@ -99,9 +102,9 @@ module _ {F : Frame} {e : Bool} {ab ac bb bc : List ℕ} {a b : Top} {top low : 
       let v : b .n ≤ a .n = i .over in
       comb-drop (rd μ) k (i .ta .lead (omega arith) μ) (i .tb .lead u μ) (omega arith)
 
-  module _ {nb nc : List ℕ} (xb : Crossed (F .p) (b .c) ab (a .c) k bb (top - F .dr) nb) (xc : Crossed (F .p) (b .c) ac (a .c) k bc (top - F .dw) nc) where
+  module _ {nb nc : List ℕ} (xb : CrossOut (F .p) (b .c) ab (a .c) k bb (top - F .dr) nb) (xc : CrossOut (F .p) (b .c) ac (a .c) k bc (top - F .dw) nc) where
     turned-at : (μ : Meaning F) → Turned (rd μ) (rd μ .cast (b .c)) (rd μ .cast (a .c)) k (pt μ ab ac) (pt μ bb bc) (pt μ nb nc)
-    turned-at μ = record { at-b = xb .law (μ .prime); at-c = xc .law (μ .prime) }
+    turned-at μ = record { at-b = xb .crossed .law (μ .prime); at-c = xc .crossed .law (μ .prime) }
 
     pub cancel-top : {m lim : ℕ} → Ready (F .p) m lim → TopIn F m lim e nb nc top (a .n - 1) low
     cancel-top r =

@@ -1,5 +1,4 @@
 -- The laws behind the leaves.
---   cross-class, cross-row    one coefficient of s x − c t^k y, and the whole row
 --   square-less, less-square  numbers below p p
 --   along-low, along-high     terms that vanish
 --   heap-start, heap-more, heap-end    the loop of `plain`
@@ -12,7 +11,7 @@ use Prim.Native.Nat as N
 use native.Mathlib.Nat.{mul-le-mul, mod-self, mod-lt}
 use native.Mathlib.Omega.{arith}
 use native.Mathlib.Decide.{decLt}
-use lib.ListN.{length, getD}
+use lib.ListN.{getD}
 use Rattle.ring.proofs.Laws as r
 use Rattle.ring.specs.Ring.{Ops, CRing}
 use Rattle.ring.proofs.Solve.{var, one, zer, minus, _:+_, _:*_, solve}
@@ -22,14 +21,13 @@ use Rattle.valued.specs.Degree.{Lt}
 use Rattle.valued.proofs.Degree.{lead-eq, lt-eq, lt-add, lt-neg}
 use Rattle.reading.specs.Reading.{Reading}
 use Rattle.reading.specs.Made.{reading}
-use Rattle.reading.specs.Row.{Row, shiftAt, fallAt, tpow, psum, coefs, row, Floor, Reads}
-use Rattle.reading.proofs.Rows.{const-zero, const-neg, cast-sub, psum-ext, psum-cross, psum-plus, row-32, row-upto, row-tab, shift-law}
-use Rattle.reading.proofs.Tab.{shift-high}
+use Rattle.reading.specs.Row.{Row, fallAt, tpow, psum, coefs, row, Reads}
+use Rattle.reading.proofs.Rows.{const-zero, const-neg, psum-ext, psum-plus, row-upto, row-tab}
 use Rattle.reading.proofs.Floors.{fall-in, fall-out}
-use Rattle.reading.proofs.Turn.{comb, lt-scale}
+use Rattle.reading.proofs.Turn.{lt-scale}
 use Rattle.residue.specs.Residue.{Modulus}
 use Rattle.reduce.specs.Frame.{Frame, Meaning, Short, rd, pt, side, Ltμ}
-use Rattle.reduce.specs.Leaves.{CrossIn, Crossed, SumIn, Summed, TermsIn, PlainIn, Terms, along, PartIn, PartAtIn, PartAt, partAt, signed, Parted}
+use Rattle.reduce.specs.Leaves.{SumIn, Summed, TermsIn, PlainIn, Terms, along, PartIn, PartAtIn, PartAt, partAt, signed, Parted}
 use Rattle.reduce.proofs.Laid.{Laid, laid-short, laid-row}
 
 -- ---- numbers
@@ -78,22 +76,6 @@ module _ {p : ℕ} (ρ : Reading p) where
   cast-from q y e l =
       let z : N._+_ y (N._-_ q y) ≡ q = omega arith in
       r.neg-unique K (cast y) (cast (N._-_ q y)) (sym (ρ .cast-add y (N._-_ q y)) ∙ ap cast z ∙ e)
-
-  -- ---- s x − c t^k y
-  pub cross-class : (s x c v : ℕ) → c ≤ p → cast (N._+_ (N._*_ s x) (N._*_ (N._-_ p c) v) % p) ≡ cast s *ᵏ cast x +ᵏ -ᵏ (cast c *ᵏ cast v)
-  cross-class s x c v l =
-      ρ .cast-mod (N._+_ (N._*_ s x) (N._*_ (N._-_ p c) v))
-      ∙ ρ .cast-add (N._*_ s x) (N._*_ (N._-_ p c) v)
-      ∙ ap₂ _+ᵏ_ (ρ .cast-mul s x) (ρ .cast-mul (N._-_ p c) v ∙ ap (λ a. a *ᵏ cast v) (cast-sub ρ c l))
-      ∙ solve K (var 0 :+ minus (var 1) :* var 2) (var 0 :+ minus (var 1 :* var 2)) tt (cast s *ᵏ cast x ∷ cast c ∷ cast v ∷ [])
-
-  pub cross-row : (s : ℕ) (x : List ℕ) (c k : ℕ) (y : List ℕ) → length x ≡ 32 → k ≤ 32 → ((i : ℕ) → 32 ≤ i → shiftAt y k i ≡ 0)
-      → psum ρ 32 (λ i. cast s *ᵏ coefs ρ x i +ᵏ -ᵏ (cast c *ᵏ cast (shiftAt y k i))) ≡ comb ρ (cast s) (cast c) k (row ρ x) (row ρ y)
-  cross-row s x c k y e l h =
-      psum-cross ρ 32 (cast s) (cast c) (coefs ρ x) (λ i. cast (shiftAt y k i)) ∙ ap₂ (λ u v. const (cast s) * u + - (const (cast c) * v)) (sym (row-32 ρ x e)) (shift-law ρ 32 k (N._-_ 32 k) y (λ i u. sym (at i) ∙ h (N._+_ i k) (omega arith)) (omega arith))
-    where
-      at : (i : ℕ) → shiftAt y k (N._+_ i k) ≡ getD y i 0
-      at i = shift-high y k (N._+_ i k) (omega arith) ∙ ap (λ n. getD y n 0) (let w : N._-_ (N._+_ i k) k ≡ i = omega arith in w)
 
   -- ---- sums of terms
   pub along-none : (b s : List ℕ) (d j : ℕ) → along ρ b s d j 0 ≡ 0ᵏ
@@ -149,19 +131,6 @@ module _ {p : ℕ} (ρ : Reading p) where
       ∙ ap (λ a. x + - y + - a) (sym (psum-plus ρ 32 (-ᵏ 1ᵏ) f g) ∙ psum-ext ρ 32 _ _ (λ j l. ap (λ a. f j +ᵏ a) (solve K (minus one :* var 0) (minus (var 0)) tt (g j ∷ [])))))
 
 -- ---- what the code of the leaves makes
-pub crossed : {p s : ℕ} {x : List ℕ} {c k : ℕ} {y : List ℕ} {n : ℕ} {z : List ℕ} {i : ℕ} → CrossIn p s x c k y n
-    → Laid p n (λ pr j. reading p pr .𝓥 .K .ops .add (reading p pr .𝓥 .K .ops .mul (reading p pr .cast s) (coefs (reading p pr) x j)) (reading p pr .𝓥 .K .ops .neg (reading p pr .𝓥 .K .ops .mul (reading p pr .cast c) (reading p pr .cast (shiftAt y k j))))) z i
-    → n ≤ i → Crossed p s x c k y n z
-crossed {p} {s} {x} {c} {k} {y} {n} g h l = record {
-  short = laid-short h l;
-  law = λ pr.
-      let ρ = reading p pr in
-      let f : n ≤ 32 = g .fits in
-      laid-row h l pr (λ j u. ap₂ (λ a b. ρ .𝓥 .K .ops .add (ρ .𝓥 .K .ops .mul (ρ .cast s) a) (ρ .𝓥 .K .ops .neg (ρ .𝓥 .K .ops .mul (ρ .cast c) b))) (ap (ρ .cast) (g .hx .above j u) ∙ ρ .cast-zero) (ap (ρ .cast) (g .above j u) ∙ ρ .cast-zero)
-      ∙ solve (ρ .𝓥 .K) (var 0 :* zer :+ minus (var 1 :* zer)) zer tt (ρ .cast s ∷ ρ .cast c ∷ []))
-      ∙ cross-row ρ s x c k y (g .hx .is-row .size) (g .low) (λ j u. g .above j (omega arith));
-}
-
 side-signed : {F : Frame} (μ : Meaning F) (e : Bool) (b c : List ℕ) → side μ e (pt μ b c) ≡ signed (rd μ .𝓥 .L .ops) e (rd μ .𝓥 .L .ops .mul (row (rd μ) b) (μ .r)) (rd μ .𝓥 .L .ops .mul (row (rd μ) c) (μ .w))
 side-signed μ true b c = refl
 side-signed μ false b c = refl

@@ -1,5 +1,4 @@
--- The contracts of the leaves: sums of products, s x − c t^k y, polynomial parts of b r ± c w.
---   Crossed p s x c k y n z  z is the row of s x − c t^k y, which ends before n
+-- The contracts of the leaves: sums of products, polynomial parts of b r ± c w and their leading terms.
 --   Terms .. r               r is the coefficient at t^j of b times the series that s holds, up to multiples of p
 --   PartAt .. v              v is the coefficient at t^j of b r ± c w, below p
 --   Parted F e b c top z     z is the polynomial part of b r + c w (e false) or b r − c w (e true)
@@ -16,32 +15,11 @@ use Rattle.valued.specs.Val.{Valued}
 use Rattle.valued.specs.Degree.{Has}
 use Rattle.reading.specs.Reading.{Reading}
 use Rattle.reading.specs.Made.{reading}
-use Rattle.reading.specs.Row.{Row, Size, row, shiftAt, fallAt, Floor}
-use Rattle.reading.proofs.Turn.{comb}
+use Rattle.reading.specs.Row.{Row, fallAt, Floor}
 use Rattle.residue.specs.Residue.{Modulus}
 use Rattle.poly.specs.Terms.{Ready}
 use Rattle.reduce.specs.Frame.{Frame, Fine, Meaning, Short, rd, pt, side, Ltμ}
 use Rattle.reduce.specs.declared.Top.{Top}
-
--- ---- s x − c t^k y
-pub record CrossIn (p s : ℕ) (x : List ℕ) (c k : ℕ) (y : List ℕ) (n : ℕ) : Type 0 where
-  pub modulus : Modulus p
-  pub hs : s < p
-  pub hc : c ≤ p
-  pub hx : Short p x n
-  pub hy : Row p y
-  pub fits : n ≤ 32
-  pub low : k ≤ 32
-  pub above : (i : ℕ) → n ≤ i → shiftAt y k i ≡ 0
-
--- the same with what a quick remainder needs
-pub record CrossBy (p m lim s : ℕ) (x : List ℕ) (c k : ℕ) (y : List ℕ) (n : ℕ) : Type 0 where
-  pub inp : CrossIn p s x c k y n
-  pub ready : Ready p m lim
-
-pub record Crossed (p s : ℕ) (x : List ℕ) (c k : ℕ) (y : List ℕ) (n : ℕ) (z : List ℕ) : Type 0 where
-  pub short : Short p z n
-  pub law : (pr : Prime p) → row (reading p pr) z ≡ comb (reading p pr) (reading p pr .cast s) (reading p pr .cast c) k (row (reading p pr) x) (row (reading p pr) y)
 
 -- ---- sums of products, kept below p p
 pub record SumIn (p q x y z : ℕ) : Type 0 where

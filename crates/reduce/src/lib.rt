@@ -3,15 +3,15 @@
 // of a size, so that rows b end before top - dr and rows c before top - dw.
 // Every contract speaks of the polynomial that a row stands for; none speaks of coefficients.
 use poly::Rapid;
+use poly::cross_in;
 use poly::rapid_of;
 use poly::rest;
 use poly::size_from;
 ghost use mathlib.Core.Path.{_≡_};
 ghost use Prim.Native.Nat.{_+_, _*_, _-_, _%_, _<_, _≤_};
-ghost use Rattle.reading.specs.Row.{shiftAt};
 ghost use Rattle.reduce.specs.Given.{given};
 ghost use Rattle.reduce.specs.Clear.{CancelBy, CancelOut, ClearBy, Cleared, ShearBy, Sheared, ReduceIn, Reduced, pair, ends, swapIf, endsIf};
-ghost use Rattle.reduce.specs.Leaves.{CrossBy, Crossed, SumIn, Summed, TermsIn, Terms, PlainIn, PartIn, PartBy, PartAtIn, PartAtBy, QuickAtIn, PartAt, Parted, TopIn, Topped, LeadIn, Led};
+ghost use Rattle.reduce.specs.Leaves.{SumIn, Summed, TermsIn, Terms, PlainIn, PartIn, PartBy, PartAtIn, PartAtBy, QuickAtIn, PartAt, Parted, TopIn, Topped, LeadIn, Led};
 
 // A modulus, the degrees of two series, and the bound of sizes: one more than the largest degree that may occur
 pub struct Bounds {
@@ -240,29 +240,6 @@ pub fn lead_of(
     t.c
 }
 
-// The coefficient of t^k y at i
-fn shifted(y: &[u64; 32], k: usize, i: usize) -> u64
-    requires { ⌜ i < 32 ⌝ }
-    ensures { λ r. ⌜ r ≡ shiftAt (now (y .entry)) k i ⌝ }
-{
-    if i < k { 0 } else { y[i - k] }
-}
-
-// s x - c t^k y, of n terms, in place of x
-fn cross(p: u64, fast: Rapid, s: u64, x: &mut [u64; 32], c: u64, k: usize, y: &[u64; 32], n: usize)
-    requires { ⌜ CrossBy p (fast .m) (fast .lim) s (now x) c k (now y) n ⌝ }
-    ensures { λ _. ⌜ Crossed p s (now (x .entry)) c k (now (y .entry)) n (now (x .exit)) ⌝ }
-{
-    let e = p - c;
-    let mut i: usize = 0;
-    while i < n {
-        let v = shifted(y, k, i);
-        let a = rest(p, fast, s * x[i] + e * v);
-        x[i] = a;
-        i += 1;
-    }
-}
-
 // The element a with its leading term canceled by b, which is no longer: s a - c t^k b in place of a, and the top of its size
 fn canceled(
     f: Bounds,
@@ -288,8 +265,8 @@ fn canceled(
     let s = b.c;
     let c = a.c;
     let k = a.n - b.n;
-    cross(p, fast, s, ab, c, k, bb, top - dr);
-    cross(p, fast, s, ac, c, k, bc, top - dw);
+    cross_in(p, fast, s, ab, c, k, bb, top - dr);
+    cross_in(p, fast, s, ac, c, k, bc, top - dw);
     top_of(f, fast, minus, ab, ac, r, w, a.n - 1, low)
 }
 

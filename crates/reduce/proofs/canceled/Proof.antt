@@ -8,17 +8,17 @@ use Rattle.reduce.proofs.canceled.Tie as tie
 sub-k : tie.Need-sub-k
 sub-k c = c .before .before .pre .inp .over
 
-sub-cross : tie.Need-sub-cross
-sub-cross c = c .before .before .before .pre .inp .room .low-r
+sub-cross-in : tie.Need-sub-cross-in
+sub-cross-in c = c .before .before .before .pre .inp .room .low-r
 
-cross-requires : tie.Need-cross-requires
-cross-requires c κs = record { inp = cancel-b (c .before .before .before .pre .inp); ready = c .before .before .before .pre .ready }
+cross-in-requires : tie.Need-cross-in-requires
+cross-in-requires c κs = cancel-b (c .before .before .before .pre .inp) (c .before .before .before .pre .ready)
 
-sub-cross-2 : tie.Need-sub-cross-2
-sub-cross-2 c = c .before .before .before .before .before .pre .inp .room .low-w
+sub-cross-in-2 : tie.Need-sub-cross-in-2
+sub-cross-in-2 c = c .before .before .before .before .before .pre .inp .room .low-w
 
-cross-requires-2 : tie.Need-cross-requires-2
-cross-requires-2 c κs = record { inp = cancel-c (c .before .before .before .before .before .pre .inp); ready = c .before .before .before .before .before .pre .ready }
+cross-in-requires-2 : tie.Need-cross-in-requires-2
+cross-in-requires-2 c κs = cancel-c (c .before .before .before .before .before .pre .inp) (c .before .before .before .before .before .pre .ready)
 
 sub-top-of : tie.Need-sub-top-of
 sub-top-of c =
@@ -28,20 +28,20 @@ sub-top-of c =
     omega arith
 
 top-of-requires : tie.Need-top-of-requires
-top-of-requires c κs = cancel-top (c .before .before .before .before .before .before .before .before .before .pre .inp) (c .before .before .before .before .before .cross .ensures) (c .before .before .before .cross2 .ensures) (c .before .before .before .before .before .before .before .before .before .pre .ready)
+top-of-requires c κs = cancel-top (c .before .before .before .before .before .before .before .before .before .pre .inp) (c .before .before .before .before .before .cross-in .ensures) (c .before .before .before .cross-in2 .ensures) (c .before .before .before .before .before .before .before .before .before .pre .ready)
 
 returns : tie.Need-returns
-returns c = cancel-made (c .before .before .before .before .before .before .before .before .before .before .pre .inp) (c .before .before .before .before .before .before .cross .ensures) (c .before .before .before .before .cross2 .ensures) (c .top-of .ensures)
+returns c = cancel-made (c .before .before .before .before .before .before .before .before .before .before .pre .inp) (c .before .before .before .before .before .before .cross-in .ensures) (c .before .before .before .before .cross-in2 .ensures) (c .top-of .ensures)
 
 pub canceled-spec : {M : Type 1} → statement M
 canceled-spec =
     tie.close
     (tie.spec
     sub-k
-    sub-cross
-    cross-requires
-    sub-cross-2
-    cross-requires-2
+    sub-cross-in
+    cross-in-requires
+    sub-cross-in-2
+    cross-in-requires-2
     sub-top-of
     top-of-requires
     returns)
