@@ -36,8 +36,7 @@ use Rattle.generators.specs.declared.Generators.{Generators}
 use Rattle.generators.proofs.Coordinates.{r-narrow, w-narrow}
 use Rattle.generators.proofs.Products.{sizes}
 use Rattle.reduce.specs.Frame.{Frame, frame, Fine, Meaning, Short}
-use Rattle.reduce.specs.Clear.{ClearIn}
-use Rattle.reduce.specs.declared.Pair.{Pair}
+use Rattle.reduce.specs.Clear.{Pair, pair, ClearIn}
 use Rattle.basis.specs.Based.{BasisIn}
 use Rattle.basis.proofs.Place.{row-short}
 use Rattle.step.specs.Steps.{Known, Keeps}
@@ -54,7 +53,7 @@ pub odd-prime : (p : ℕ) → Prime p → 5 ≤ p → p % 2 ≡ 1
 odd-prime p pr l = let h : p % 2 ≢ 0 = pr .only 2 (omega arith) (omega arith) in omega (arith, h)
 
 abbrev pub pairOf : Generators → Pair
-pairOf o = record { mb = o .mb; mc = o .mc; nb = o .nb; nc = o .nc }
+pairOf o = pair (o .mb) (o .mc) (o .nb) (o .nc)
 
 -- the rows of the generators
 pub record RowsOf (p : ℕ) (o : Generators) : Type 0 where

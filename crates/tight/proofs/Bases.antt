@@ -33,7 +33,7 @@ use Rattle.turn.proofs.Turn.{moved-back, moved-then}
 use Rattle.record.specs.Record.{part}
 use Rattle.record.proofs.Unique.{part-below}
 use Rattle.reduce.specs.Frame.{Frame, Meaning, rd, rowμ, X, Y, Ltμ}
-use Rattle.reduce.specs.declared.Pair.{Pair}
+use Rattle.reduce.specs.Clear.{Pair}
 use Rattle.basis.specs.Store.{Stored, Loaded}
 use Rattle.basis.specs.Levels.{LevelIn, Leveled}
 use Rattle.basis.specs.First.{nothing, unit, units, OrderIn}

@@ -14,9 +14,7 @@ use Rattle.reading.proofs.Unique.{row-unique, cast-inj}
 use Rattle.turn.proofs.Turn.{moved-back, moved-then}
 use Rattle.reduce.specs.Frame.{Frame, Meaning, rd, pt, side, X, Hasμ}
 use Rattle.reduce.specs.Leaves.{Parted, Led}
-use Rattle.reduce.specs.Clear.{ClearIn, Reduced}
-use Rattle.reduce.specs.declared.Pair.{Pair}
-use Rattle.reduce.specs.declared.Ends.{Ends}
+use Rattle.reduce.specs.Clear.{Pair, Ends, ClearIn, Reduced}
 use Rattle.tight.proofs.Rows.{floor-one}
 use Rattle.tight.specs.UpTo.{Scaled}
 use Rattle.tight.proofs.Pairs.{times-X, pairs-one}
