@@ -3,33 +3,32 @@
 use mathlib.Core.Path.{_≡_, sym, ap, ap₂, _∙_}
 use mathlib.Core.Logic.{_⊎_, inl, inr}
 use mathlib.Core.Bool.{false}
-use mathlib.Core.List.{List}
-use Prim.Native.Nat.{ℕ, suc, _+_, _-_, _<_, _≤_}
+use mathlib.Core.List.{List, [], _∷_}
+use Prim.Native.Nat.{ℕ, _+_, _*_, _-_, _<_, _≤_}
 use native.Mathlib.Omega.{arith}
 use native.Mathlib.Decide.{decLt}
-use lib.ListN.{getD, replicate}
+use lib.ListN.{length, getD}
 use Rattle.ring.specs.Ring.{Ops, CRing}
-use Rattle.ring.proofs.Laws as laws
+use Rattle.ring.proofs.Solve.{var, minus, _:+_, solve}
 use Rattle.fp.specs.Fp.{Prime}
 use Rattle.valued.specs.Val.{Valued}
-use Rattle.valued.specs.Degree.{Has, Lt}
+use Rattle.valued.specs.Degree.{Lt}
 use Rattle.valued.proofs.Degree.{lt-eq, lt-up}
 use Rattle.reading.specs.Reading.{Reading}
 use Rattle.reading.specs.Made.{reading}
 use Rattle.reading.specs.Row.{Row, Size, row}
-use Rattle.reading.proofs.Rows.{size-le, size-lt, size-has}
-use Rattle.reading.proofs.Floors.{sized, zero-row}
+use Rattle.reading.proofs.Rows.{size-le, size-lt}
+use Rattle.reading.proofs.Floors.{sized}
 use Rattle.reading.proofs.Turn.{lt-scale}
-use Rattle.poly.specs.Leaf.{Scaled, MulIn}
-use Rattle.poly.specs.Terms.{Ready}
-use Rattle.poly.proofs.Leaf.{zeros-row, zeros-size}
+use Rattle.poly.specs.Leaf.{Cut, Scaled}
 use Rattle.sized.specs.Sized.{MixIn, Mixed}
 use Rattle.record.specs.Record.{part}
 use Rattle.reduce.specs.Frame.{Short}
 use Rattle.basis.specs.Store.{StoreIn, Stored}
+use Rattle.basis.specs.InPlace.{ScaleBy}
 use Rattle.basis.specs.Levels.{LevelIn, Leveled}
 use Rattle.basis.specs.Place.{PlaceIn, PlacedAt, Placed}
-use Rattle.basis.proofs.Store.{stored-part, stored-other, stored-each}
+use Rattle.basis.proofs.Store.{stored-part, stored-other, stored-blank, stored-each}
 
 pub size-below : {p : ℕ} {l : List ℕ} {m n : ℕ} → Short p l n → Size l m → m ≤ n
 size-below {p} {l} {m} {n} h s = go (decLt n m)
@@ -48,90 +47,129 @@ row-short ρ {l} n h g = let (m, s) = sized l in let b : m ≤ n = size-le ρ n 
 pub scaled-short : {p c : ℕ} (ρ : Reading p) {x z : List ℕ} {n : ℕ} → Short p x n → Row p z → row ρ z ≡ ρ .𝓥 .L .ops .mul (ρ .𝓥 .const (ρ .cast c)) (row ρ x) → Short p z n
 scaled-short {p} {c} ρ {x} {z} {n} h hz e = row-short ρ n hz (lt-eq (ρ .𝓥) (lt-scale ρ (ρ .cast c) (short-lt ρ h)) (sym e))
 
-module _ {p i s : ℕ} {b c x x1 y1 u : List ℕ} (g : PlaceIn p i s b c x x1 y1 u) {mb mc t : List ℕ} (sb : Scaled p s b mb) (sc : Scaled p s c mc) (st : Scaled p s x t) where
-  b-short : Short p mb (g .lb)
-  b-short = scaled-short {c = s} (reading p (g .prime)) (g .hb) (sb .is-row) (sb .law (g .prime))
+module _ {p mul lim i top s : ℕ} {b c x x1 : List ℕ} {n1 : ℕ} {y1 : List ℕ} {n2 : ℕ} {u : List ℕ} {lu : ℕ} {B : List ℕ} (g : PlaceIn p mul lim i top s b c x x1 n1 y1 n2 u lu B) where
+  cut : {l : List ℕ} {n : ℕ} → Short p l n → n ≤ top → Cut l top
+  cut h w = let f : top ≤ 17 = g .fits in record { size = h .is-row .size; fits = omega arith; above = λ j v. h .above j (omega arith) }
 
-  c-short : Short p mc (g .lc)
-  c-short = scaled-short {c = s} (reading p (g .prime)) (g .hc) (sc .is-row) (sc .law (g .prime))
+  pub place-scale : {l : List ℕ} {n : ℕ} → Short p l n → n ≤ top → ScaleBy p mul lim s l top
+  place-scale h w = record { inp = record { modulus = g .modulus; hc = g .hs; hx = h .is-row }; ready = g .ready; cut = cut h w }
 
-  pub place-b : MulIn p mb x1
-  place-b = record {
-    modulus = g .modulus;
-    hx = sb .is-row;
-    hy = g .h1 .is-row;
-    room = λ n m sn sm. let l : n ≤ g .lb = size-below b-short sn in let k : m ≤ g .l1 = size-below (g .h1) sm in let d : g .lb + g .l1 ≤ 33 = g .room-b in omega arith;
-  }
+  module _ {mb mc t : List ℕ} (sb : Scaled p s b mb) (sc : Scaled p s c mc) (st : Scaled p s x t) where
+    scaled : {l m : List ℕ} {n : ℕ} → Short p l n → Scaled p s l m → Short p m n
+    scaled h e = scaled-short {c = s} (reading p (g .prime)) h (e .is-row) (e .law (g .prime))
 
-  pub place-c : MulIn p mc y1
-  place-c = record {
-    modulus = g .modulus;
-    hx = sc .is-row;
-    hy = g .h2 .is-row;
-    room = λ n m sn sm. let l : n ≤ g .lc = size-below c-short sn in let k : m ≤ g .l2 = size-below (g .h2) sm in let d : g .lc + g .l2 ≤ 33 = g .room-c in omega arith;
-  }
+    b-short : Short p mb (g .lb)
+    b-short = scaled (g .hb) sb
 
-  pub place-first : {mul lim n m : ℕ} → Ready p mul lim → Size mb n → Size x1 m → MixIn p mul lim mb n x1 m (replicate 32 0)
-  place-first w sn sm = record { modulus = g .modulus; ready = w; hx = sb .is-row; hy = g .h1 .is-row; sx = sn; sy = sm; fits = place-b .room _ _ sn sm; hr = zeros-row p (g .modulus .big) }
+    c-short : Short p mc (g .lc)
+    c-short = scaled (g .hc) sc
 
-  pub place-second : {mul lim n m : ℕ} {o : List ℕ} → Ready p mul lim → Size mc n → Size y1 m → Row p o → MixIn p mul lim mc n y1 m o
-  place-second w sn sm h = record { modulus = g .modulus; ready = w; hx = sc .is-row; hy = g .h2 .is-row; sx = sn; sy = sm; fits = place-c .room _ _ sn sm; hr = h }
+    pub place-b : Cut mb top
+    place-b = cut b-short (g .low-b)
 
-  module _ {o e : List ℕ} {n m k l : ℕ} (eb : Mixed p false mb n x1 m (replicate 32 0) o) (ec : Mixed p false mc k y1 l o e) where
-    e-is : (pr : Prime p) → let ρ = reading p pr in let c = ρ .𝓥 .L .ops in row ρ e ≡ c .add (c .mul (row ρ mb) (row ρ x1)) (c .mul (row ρ mc) (row ρ y1))
-    e-is pr = let R = reading p pr .𝓥 .L in
-        ec .law pr ∙ ap (λ a. R .ops .add a (R .ops .mul (row (reading p pr) mc) (row (reading p pr) y1))) (eb .law pr ∙ ap (λ a. R .ops .add a (R .ops .mul (row (reading p pr) mb) (row (reading p pr) x1))) (zero-row (reading p pr) (replicate 32 0) zeros-size) ∙ laws.zero-add′ R _)
+    pub place-c : Cut mc top
+    place-c = cut c-short (g .low-c)
 
-    pub place-level : LevelIn p t e u
-    place-level = record { modulus = g .modulus; odd = g .odd; ht = st .is-row; he = ec .is-row; hu = g .hu .is-row; monic = g .monic }
+    pub place-first : {n : ℕ} → Size mb n → MixIn p mul lim mb n x1 n1 t
+    place-first e = let l = size-below b-short e in let d : g .lb + n1 ≤ 33 = g .room-b in record {
+      modulus = g .modulus;
+      ready = g .ready;
+      hx = sb .is-row;
+      hy = g .h1;
+      sx = e;
+      sy = g .s1;
+      fits = omega (arith, l);
+      hr = st .is-row;
+    }
 
-    module _ {a : List ℕ} (la : Leveled p t e u a) where
-      a-short : Short p a 17
-      a-short =
-          let ρ = reading p (g .prime) in
-          let f : suc (g .n) ≤ 17 = size-below (g .hu) (g .u-size) in
-          row-short ρ 17 (la .is-row) (la .short (g .prime) (g .n) 17 (size-has ρ (g .hu .is-row) (g .u-size)) (omega arith) (short-lt ρ (scaled-short {c = s} ρ (g .hx) (st .is-row) (st .law (g .prime)))))
+    pub place-second : {n : ℕ} {o : List ℕ} → Size mc n → Row p o → MixIn p mul lim mc n y1 n2 o
+    place-second e h = let l = size-below c-short e in let d : g .lc + n2 ≤ 33 = g .room-c in record {
+      modulus = g .modulus;
+      ready = g .ready;
+      hx = sc .is-row;
+      hy = g .h2;
+      sx = e;
+      sy = g .s2;
+      fits = omega (arith, l);
+      hr = h;
+    }
 
-      narrow : {l : List ℕ} → Row p l → (j : ℕ) → getD l j 0 < 65536
-      narrow {l} h j = let q : getD l j 0 < p = h .each j in let w : p ≤ 65535 = g .small in omega arith
+    -- k = s x + s b x1 + s c y1
+    module _ {o k : List ℕ} {n m : ℕ} (eb : Mixed p false mb n x1 n1 t o) (ec : Mixed p false mc m y1 n2 o k) where
+      k-is : (pr : Prime p) → let ρ = reading p pr in let o = ρ .𝓥 .L .ops in row ρ k ≡ o .add (o .add (row ρ t) (o .mul (row ρ mb) (row ρ x1))) (o .mul (row ρ mc) (row ρ y1))
+      k-is pr = let ρ = reading p pr in let o = ρ .𝓥 .L .ops in ec .law pr ∙ ap (λ a. o .add a (o .mul (row ρ mc) (row ρ y1))) (eb .law pr)
 
-      pub place-0 : StoreIn i a
-      place-0 = let w : i + 2 < 7 = g .at in record { row = omega arith; each = narrow (la .is-row) }
+      pub place-level : {l : ℕ} → Size k l → LevelIn p mul lim u lu k l t top
+      place-level e = let f : top ≤ 17 = g .fits in record {
+        modulus = g .modulus;
+        prime = g .prime;
+        odd = g .odd;
+        ready = g .ready;
+        monic = g .monic;
+        hk = ec .is-row;
+        sk = e;
+        hx = scaled (g .hx) st;
+        low = g .low-u;
+        fits = omega arith;
+      }
 
-      pub place-1 : StoreIn (i + 1) mb
-      place-1 = let w : i + 2 < 7 = g .at in record { row = omega arith; each = narrow (sb .is-row) }
-
-      pub place-2 : StoreIn (i + 2) mc
-      place-2 = record { row = g .at; each = narrow (sc .is-row) }
-
-      module _ {B B₀ B₁ B₂ : List ℕ} (s₀ : Stored B i a B₀) (s₁ : Stored B₀ (i + 1) mb B₁) (s₂ : Stored B₁ (i + 2) mc B₂) where
-        is-a : (ρ : Reading p) → row ρ (part i B₂) ≡ row ρ a
-        is-a ρ = ap (row ρ) (stored-other B₁ (i + 2) mc B₂ s₂ i (inl (omega arith)) ∙ stored-other B₀ (i + 1) mb B₁ s₁ i (inl (omega arith))) ∙ stored-part B i a B₀ s₀ (a-short .above) ρ
-
-        is-b : (ρ : Reading p) → row ρ (part (i + 1) B₂) ≡ row ρ mb
-        is-b ρ = let f : g .lb ≤ 17 = g .fits-b in ap (row ρ) (stored-other B₁ (i + 2) mc B₂ s₂ (i + 1) (inl (omega arith))) ∙ stored-part B₀ (i + 1) mb B₁ s₁ (λ j l. b-short .above j (omega arith)) ρ
-
-        is-c : (ρ : Reading p) → row ρ (part (i + 2) B₂) ≡ row ρ mc
-        is-c ρ = let f : g .lc ≤ 17 = g .fits-c in stored-part B₁ (i + 2) mc B₂ s₂ (λ j l. c-short .above j (omega arith)) ρ
-
-        pub placed : Placed p i s b c x x1 y1 u B B₂
-        placed = record {
-          size = s₂ .size;
-          each = λ h. stored-each p B₁ (i + 2) mc B₂ s₂ (stored-each p B₀ (i + 1) mb B₁ s₁ (stored-each p B i a B₀ s₀ h (la .is-row .each)) (sb .is-row .each)) (sc .is-row .each);
-          other = away;
-          at = λ pr.
-              let ρ = reading p pr in
-              let o = ρ .𝓥 .L .ops in
-              let (k, kp, e₁) = la .law pr in record {
-                is-b = is-b ρ ∙ sb .law pr;
-                is-c = is-c ρ ∙ sc .law pr;
-                k = k;
-                k-poly = kp;
-                framed = ap₂ (o .add) (is-a ρ) (ap₂ (λ y z. o .add (o .mul y (row ρ x1)) (o .mul z (row ρ y1))) (is-b ρ) (is-c ρ) ∙ sym (e-is pr)) ∙ e₁;
-                low = λ n h. lt-eq (ρ .𝓥) (la .low pr n h) (ap₂ (λ y z. o .add (o .mul (o .add (o .𝟏) (o .𝟏)) y) (o .neg z)) (sym (is-a ρ)) (st .law pr));
-              };
+      module _ {a : List ℕ} (la : Leveled p u k t top a) where
+        store : {A l : List ℕ} {n : ℕ} (j : ℕ) → j < 7 → length A ≡ 119 → ((m : ℕ) → 17 * j ≤ m → getD A m 0 ≡ 0) → Short p l n → n ≤ top → StoreIn A j l top
+        store {l = l} j w e z h v = record {
+          size = e;
+          blank = z;
+          row = w;
+          each = λ m. let q : getD l m 0 < p = h .is-row .each m in let w : p ≤ 65535 = g .small in omega arith;
+          fits = g .fits;
+          above = λ m r. h .above m (omega arith);
         }
-          where
-            away : (k : ℕ) → (k < i) ⊎ (i + 2 < k) → part k B₂ ≡ part k B
-            away k (inl l) = stored-other B₁ (i + 2) mc B₂ s₂ k (inl (omega arith)) ∙ stored-other B₀ (i + 1) mb B₁ s₁ k (inl (omega arith)) ∙ stored-other B i a B₀ s₀ k (inl l)
-            away k (inr l) = stored-other B₁ (i + 2) mc B₂ s₂ k (inr l) ∙ stored-other B₀ (i + 1) mb B₁ s₁ k (inr (omega arith)) ∙ stored-other B i a B₀ s₀ k (inr (omega arith))
+
+        pub place-0 : StoreIn B i a top
+        place-0 = let w : i + 2 < 7 = g .at in store i (omega arith) (g .size) (g .blank) (la .short) (omega arith)
+
+        module _ {B₀ : List ℕ} (s₀ : Stored B i a B₀) where
+          blank-1 : (m : ℕ) → 17 * (i + 1) ≤ m → getD B₀ m 0 ≡ 0
+          blank-1 = stored-blank B i a B₀ s₀ (g .blank)
+
+          pub place-1 : StoreIn B₀ (i + 1) mb top
+          place-1 = let w : i + 2 < 7 = g .at in store (i + 1) (omega arith) (s₀ .size) blank-1 b-short (g .low-b)
+
+          module _ {B₁ : List ℕ} (s₁ : Stored B₀ (i + 1) mb B₁) where
+            pub place-2 : StoreIn B₁ (i + 2) mc top
+            place-2 = store (i + 2) (g .at) (s₁ .size) (λ m l. stored-blank B₀ (i + 1) mb B₁ s₁ blank-1 m (omega arith)) c-short (g .low-c)
+
+            module _ {B₂ : List ℕ} (s₂ : Stored B₁ (i + 2) mc B₂) where
+              is-a : (ρ : Reading p) → row ρ (part i B₂) ≡ row ρ a
+              is-a ρ = ap (row ρ) (stored-other B₁ (i + 2) mc B₂ s₂ i (inl (omega arith)) ∙ stored-other B₀ (i + 1) mb B₁ s₁ i (inl (omega arith))) ∙ stored-part B i a B₀ s₀ (λ j l. let f : top ≤ 17 = g .fits in la .short .above j (omega arith)) ρ
+
+              is-b : (ρ : Reading p) → row ρ (part (i + 1) B₂) ≡ row ρ mb
+              is-b ρ = ap (row ρ) (stored-other B₁ (i + 2) mc B₂ s₂ (i + 1) (inl (omega arith))) ∙ stored-part B₀ (i + 1) mb B₁ s₁ (λ j l. let f : top ≤ 17 = g .fits in place-b .above j (omega arith)) ρ
+
+              is-c : (ρ : Reading p) → row ρ (part (i + 2) B₂) ≡ row ρ mc
+              is-c ρ = stored-part B₁ (i + 2) mc B₂ s₂ (λ j l. let f : top ≤ 17 = g .fits in place-c .above j (omega arith)) ρ
+
+              pub placed : Placed p i s b c x x1 y1 u B B₂
+              placed = record {
+                size = s₂ .size;
+                each = λ h. stored-each p B₁ (i + 2) mc B₂ s₂ (stored-each p B₀ (i + 1) mb B₁ s₁ (stored-each p B i a B₀ s₀ h (la .short .is-row .each)) (sb .is-row .each)) (sc .is-row .each);
+                there = λ m w. s₂ .there m (away (i + 2) (omega arith) (omega arith) m w) ∙ s₁ .there m (away (i + 1) (omega arith) (omega arith) m w) ∙ s₀ .there m (away i (omega arith) (omega arith) m w);
+                at = λ pr.
+                    let ρ = reading p pr in
+                    let o = ρ .𝓥 .L .ops in
+                    let (k, kp, e₁) = la .law pr in record {
+                      is-b = is-b ρ ∙ sb .law pr;
+                      is-c = is-c ρ ∙ sc .law pr;
+                      k = k;
+                      k-poly = kp;
+                      framed = ap₂ (o .add) (ap (o .mul (o .add (o .𝟏) (o .𝟏))) (is-a ρ)) (ap₂ (λ y z. o .add (o .mul y (row ρ x1)) (o .mul z (row ρ y1))) (is-b ρ) (is-c ρ) ∙ over pr) ∙ e₁;
+                      low = λ n h. lt-eq (ρ .𝓥) (la .low pr n h) (ap₂ (λ y z. o .add (o .mul (o .add (o .𝟏) (o .𝟏)) y) (o .neg z)) (sym (is-a ρ)) (st .law pr));
+                    };
+              }
+                where
+                  away : (j : ℕ) → i ≤ j → j ≤ i + 2 → (m : ℕ) → (m < 17 * i) ⊎ (17 * (i + 3) ≤ m) → (m < 17 * j) ⊎ (17 * j + 17 ≤ m)
+                  away j l h m (inl w) = inl (omega arith)
+                  away j l h m (inr w) = inr (omega arith)
+
+                  over : (pr : Prime p) → let ρ = reading p pr in let o = ρ .𝓥 .L .ops in o .add (o .mul (row ρ mb) (row ρ x1)) (o .mul (row ρ mc) (row ρ y1)) ≡ o .add (row ρ k) (o .neg (row ρ t))
+                  over pr = let ρ = reading p pr in let o = ρ .𝓥 .L .ops in
+                      solve (ρ .𝓥 .L) (var 1 :+ var 2) (var 0 :+ var 1 :+ var 2 :+ minus (var 0)) tt (row ρ t ∷ o .mul (row ρ mb) (row ρ x1) ∷ o .mul (row ρ mc) (row ρ y1) ∷ []) ∙ ap (λ z. o .add z (o .neg (row ρ t))) (sym (k-is pr))

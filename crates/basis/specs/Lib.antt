@@ -1,4 +1,5 @@
 pub mod Store
+pub mod InPlace
 pub mod Levels
 pub mod Place
 pub mod Scales
