@@ -1,7 +1,7 @@
 -- What `placed` asks of its callees, and what it makes.
 --   row-short, size-below    a bound of the degree, or of the row, bounds the length
-use mathlib.Core.Path.{_≡_, sym, ap, ap₂, _∙_}
-use mathlib.Core.Logic.{_⊎_, inl, inr}
+use mathlib.Core.Path.{_≡_, sym, ap, ap₂, _∙_, subst}
+use mathlib.Core.Logic.{_≢_, _⊎_, inl, inr}
 use mathlib.Core.Bool.{false}
 use mathlib.Core.List.{List, [], _∷_}
 use Prim.Native.Nat.{ℕ, _+_, _*_, _-_, _<_, _≤_}
@@ -13,11 +13,12 @@ use Rattle.ring.proofs.Solve.{var, minus, _:+_, solve}
 use Rattle.fp.specs.Fp.{Prime}
 use Rattle.valued.specs.Val.{Valued}
 use Rattle.valued.specs.Degree.{Lt}
-use Rattle.valued.proofs.Degree.{lt-eq, lt-up}
+use Rattle.valued.proofs.Degree.{lt-eq, lt-up, has-eq, above}
+use Rattle.valued.proofs.Compare.{has-scale}
 use Rattle.reading.specs.Reading.{Reading}
 use Rattle.reading.specs.Made.{reading}
 use Rattle.reading.specs.Row.{Row, Size, row}
-use Rattle.reading.proofs.Rows.{size-le, size-lt}
+use Rattle.reading.proofs.Rows.{size-le, size-lt, size-has-at}
 use Rattle.reading.proofs.Floors.{sized}
 use Rattle.reading.proofs.Turn.{lt-scale}
 use Rattle.poly.specs.Leaf.{Cut, Scaled}
@@ -46,6 +47,16 @@ row-short ρ {l} n h g = let (m, s) = sized l in let b : m ≤ n = size-le ρ n 
 -- a row times a number ends where the row does
 pub scaled-short : {p c : ℕ} (ρ : Reading p) {x z : List ℕ} {n : ℕ} → Short p x n → Row p z → row ρ z ≡ ρ .𝓥 .L .ops .mul (ρ .𝓥 .const (ρ .cast c)) (row ρ x) → Short p z n
 scaled-short {p} {c} ρ {x} {z} {n} h hz e = row-short ρ n hz (lt-eq (ρ .𝓥) (lt-scale ρ (ρ .cast c) (short-lt ρ h)) (sym e))
+
+-- and by a number that is not 0 it has the same length
+pub scaled-size : {p c : ℕ} (ρ : Reading p) {x z : List ℕ} {n : ℕ} → ρ .cast c ≢ ρ .𝓥 .K .ops .𝟎 → Row p x → Row p z → row ρ z ≡ ρ .𝓥 .L .ops .mul (ρ .𝓥 .const (ρ .cast c)) (row ρ x) → Size x n → Size z n
+scaled-size {p} {c} ρ {x} {z} {n} hc hx hz e s = let (m, w) = sized z in subst (λ k. Size z k) (go n m s w) w
+  where
+    go : (n m : ℕ) → Size x n → Size z m → m ≡ n
+    go n m s w = let hi : m ≤ n = size-le ρ n hz w (lt-eq (ρ .𝓥) (lt-scale ρ (ρ .cast c) (size-lt ρ s)) (sym e)) in elim (decLt m n) [
+      | no l ↦ omega arith
+      | yes l ↦ let h = has-eq (ρ .𝓥) (has-scale (ρ .𝓥) (ρ .cast c, hc, ρ .𝓥 .const-lead (ρ .cast c)) (size-has-at ρ n hx s (omega arith))) (sym e) in absurd (omega (arith, above (ρ .𝓥) h (size-lt ρ w)))
+    ]
 
 module _ {p mul lim i top s : ℕ} {b c x x1 : List ℕ} {n1 : ℕ} {y1 : List ℕ} {n2 : ℕ} {u : List ℕ} {lu : ℕ} {B : List ℕ} (g : PlaceIn p mul lim i top s b c x x1 n1 y1 n2 u lu B) where
   cut : {l : List ℕ} {n : ℕ} → Short p l n → n ≤ top → Cut l top

@@ -200,8 +200,40 @@ pub fn reduced_basis(
     scale_in(p, fast, 2, &mut x2, n1);
     scale_in(p, fast, 2, &mut y2, n2);
     let mut rows: [u16; 119] = [0; 119];
-    placed(&mut rows, 0, p, fast, top, k.m, &mut mb, &mut mc, &mut mx, &x2, n1, &y2, n2, &u, lu);
-    placed(&mut rows, 3, p, fast, top, k.n, &mut nb, &mut nc, &mut nx, &x2, n1, &y2, n2, &u, lu);
+    placed(
+        &mut rows,
+        0,
+        p,
+        fast,
+        top,
+        k.m,
+        &mut mb,
+        &mut mc,
+        &mut mx,
+        &x2,
+        n1,
+        &y2,
+        n2,
+        &u,
+        lu,
+    );
+    placed(
+        &mut rows,
+        3,
+        p,
+        fast,
+        top,
+        k.n,
+        &mut nb,
+        &mut nc,
+        &mut nx,
+        &x2,
+        n1,
+        &y2,
+        n2,
+        &u,
+        lu,
+    );
     stored(&mut rows, 6, &u, lu);
     rows
 }
