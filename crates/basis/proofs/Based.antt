@@ -1,6 +1,6 @@
 -- What `reduced_basis` asks of its callees, and what it makes.
 use mathlib.Core.Path.{_≡_, refl, sym, ap, ap₂, _∙_, subst}
-use mathlib.Core.Logic.{_≢_, inl, inr}
+use mathlib.Core.Logic.{_≢_, inl}
 use mathlib.Core.Bool.{true, false}
 use mathlib.Core.List.{List, [], _∷_}
 use Prim.Native.Nat.{ℕ, zero, suc, _+_, _*_, _-_, _/_, _%_, _<_, _≤_}
@@ -34,15 +34,14 @@ use Rattle.reduce.specs.declared.Ends.{Ends}
 use Rattle.basis.specs.declared.Factors.{Factors}
 use Rattle.reduce.proofs.Laid.{zeros-at}
 use Rattle.reduce.proofs.Clearing.{part-in, rows-of}
-use Rattle.basis.specs.Store.{StoreIn, Stored}
 use Rattle.basis.specs.InPlace.{ScaleBy}
 use Rattle.basis.specs.Levels.{Monic}
-use Rattle.basis.specs.Place.{off, PlaceIn, PlacedAt, Placed}
+use Rattle.basis.specs.Place.{off, ElementIn, PlacedAt, FillIn, Filled}
 use Rattle.basis.specs.Scales.{ScalesIn, Scaling}
 use Rattle.basis.specs.Based.{BasisIn, BasedAt, Based, Z, at, Mpt, Npt}
 use Rattle.basis.proofs.Store.{stored-part, stored-other, stored-each, part-same}
 use Rattle.basis.proofs.Place.{size-below, scaled-size}
-use Rattle.basis.proofs.InPlace.{cast-two, const-two, half}
+use Rattle.basis.proofs.Two.{cast-two, const-two, half}
 
 pub short-up : {p : ℕ} {l : List ℕ} {m n : ℕ} → Short p l m → m ≤ n → Short p l n
 short-up h u = record { is-row = h .is-row; above = λ i w. h .above i (omega arith) }
@@ -148,9 +147,8 @@ module _ {F : Frame} {q : Pair} {top : ℕ} {d x1 y1 : List ℕ} (g : BasisIn F 
             doubled h s e = let μ = g .clear .some in scaled-size {c = 2} (rd μ) (λ z. μ .two (sym (cast-two (rd μ)) ∙ z)) h (e .is-row) (e .law (μ .prime)) s
 
             -- an element with its polynomial part, over U
-            place : {b c x : List ℕ} {B : List ℕ} (i s : ℕ) → i + 2 < 7 → s < F .p → Held F false top (point b c x) → length B ≡ 119 → ((m : ℕ) → 17 * i ≤ m → getD B m 0 ≡ 0)
-                → PlaceIn (F .p) mul lim i top s b c x x2 n1 y2 n2 u lu B
-            place i s l ls t sz bl =
+            element : {b c x : List ℕ} {s : ℕ} → s < F .p → Held F false top (point b c x) → ElementIn (F .p) mul lim top s b c x x2 n1 y2 n2 u lu
+            element ls t =
                 let f : top ≤ 17 = g .fits in
                 let r : F .dr ≤ top = g .clear .room .low-r in
                 let w : F .dw ≤ top = g .clear .room .low-w in
@@ -163,7 +161,6 @@ module _ {F : Frame} {q : Pair} {top : ℕ} {d x1 y1 : List ℕ} (g : BasisIn F 
                   prime = g .clear .some .prime;
                   small = g .small;
                   odd = g .odd;
-                  at = l;
                   hs = ls;
                   fits = f;
                   lb = top - F .dr;
@@ -181,137 +178,122 @@ module _ {F : Frame} {q : Pair} {top : ℕ} {d x1 y1 : List ℕ} (g : BasisIn F 
                   room-c = omega arith;
                   monic = u-monic;
                   low-u = omega arith;
-                  size = sz;
-                  blank = bl;
                 }
 
-            pub place-m : PlaceIn (F .p) mul lim 0 top (k .m) (o .mb) (o .mc) (o .mx) x2 n1 y2 n2 u lu (replicate 119 0)
-            place-m = place 0 (k .m) (omega arith) (hk .m-low) (h .hm) refl (λ m w. zeros-at 119 m)
+            pub based-fill : FillIn (F .p) mul lim top k (o .mb) (o .mc) (o .mx) (o .nb) (o .nc) (o .nx) x2 n1 y2 n2 u lu
+            based-fill = record { m = element (hk .m-low) (h .hm); n = element (hk .n-low) (h .hn) }
 
-            module _ {B₁ : List ℕ} (pm : Placed (F .p) 0 (k .m) (o .mb) (o .mc) (o .mx) x2 y2 u (replicate 119 0) B₁) where
-              pub place-n : PlaceIn (F .p) mul lim 3 top (k .n) (o .nb) (o .nc) (o .nx) x2 n1 y2 n2 u lu B₁
-              place-n = place 3 (k .n) (omega arith) (hk .n-low) (h .hn) (pm .size) (λ m w. pm .there m (inr (omega arith)) ∙ zeros-at 119 m)
+            module _ {B₃ : List ℕ} (fl : Filled (F .p) k (o .mb) (o .mc) (o .mx) (o .nb) (o .nc) (o .nx) x2 y2 u B₃) where
+              open Filled fl using (B₁, B₂, at-m as pm, at-n as pn, at-u as st)
 
-              module _ {B₂ : List ℕ} (pn : Placed (F .p) 3 (k .n) (o .nb) (o .nc) (o .nx) x2 y2 u B₁ B₂) where
-                pub place-u : StoreIn B₂ 6 u lu
-                place-u = record {
-                  size = pn .size;
-                  blank = λ m w. pn .there m (inr (omega arith)) ∙ pm .there m (inr (omega arith)) ∙ zeros-at 119 m;
-                  row = omega arith;
-                  each = λ j. let w : getD u j 0 < F .p = su .is-row .each j in let s : F .p ≤ 65535 = g .small in omega arith;
-                  fits = size-below (g .hd) sd;
-                  above = u-monic .size .above;
-                }
+              part-M : (j : ℕ) → j < 3 → part j B₁ ≡ part j B₃
+              part-M j l = sym (stored-other B₂ 6 u B₃ st j (inl (omega arith)) ∙ part-same B₁ B₂ j (λ m w. pn .there (17 * j + m) (inl (omega arith))))
 
-                module _ {B₃ : List ℕ} (st : Stored B₂ 6 u B₃) where
-                  part-M : (j : ℕ) → j < 3 → part j B₁ ≡ part j B₃
-                  part-M j l = sym (stored-other B₂ 6 u B₃ st j (inl (omega arith)) ∙ part-same B₁ B₂ j (λ m w. pn .there (17 * j + m) (inl (omega arith))))
+              part-N : (j : ℕ) → j < 6 → part j B₂ ≡ part j B₃
+              part-N j l = sym (stored-other B₂ 6 u B₃ st j (inl l))
 
-                  part-N : (j : ℕ) → j < 6 → part j B₂ ≡ part j B₃
-                  part-N j l = sym (stored-other B₂ 6 u B₃ st j (inl l))
+              at-M : (pr : Prime (F .p)) → PlacedAt (reading (F .p) pr) (k .m) (o .mb) (o .mc) (o .mx) x2 y2 u (part 0 B₃) (part 1 B₃) (part 2 B₃)
+              at-M pr = subst (λ z. PlacedAt (reading (F .p) pr) (k .m) (o .mb) (o .mc) (o .mx) x2 y2 u (part 0 B₃) (part 1 B₃) z) (part-M 2 (omega arith))
+                  (subst (λ z. PlacedAt (reading (F .p) pr) (k .m) (o .mb) (o .mc) (o .mx) x2 y2 u (part 0 B₃) z (part 2 B₁)) (part-M 1 (omega arith))
+                  (subst (λ z. PlacedAt (reading (F .p) pr) (k .m) (o .mb) (o .mc) (o .mx) x2 y2 u z (part 1 B₁) (part 2 B₁)) (part-M 0 (omega arith)) (pm .at pr)))
 
-                  at-M : (pr : Prime (F .p)) → PlacedAt (reading (F .p) pr) (k .m) (o .mb) (o .mc) (o .mx) x2 y2 u (part 0 B₃) (part 1 B₃) (part 2 B₃)
-                  at-M pr = subst (λ z. PlacedAt (reading (F .p) pr) (k .m) (o .mb) (o .mc) (o .mx) x2 y2 u (part 0 B₃) (part 1 B₃) z) (part-M 2 (omega arith))
-                      (subst (λ z. PlacedAt (reading (F .p) pr) (k .m) (o .mb) (o .mc) (o .mx) x2 y2 u (part 0 B₃) z (part 2 B₁)) (part-M 1 (omega arith))
-                      (subst (λ z. PlacedAt (reading (F .p) pr) (k .m) (o .mb) (o .mc) (o .mx) x2 y2 u z (part 1 B₁) (part 2 B₁)) (part-M 0 (omega arith)) (pm .at pr)))
+              at-N : (pr : Prime (F .p)) → PlacedAt (reading (F .p) pr) (k .n) (o .nb) (o .nc) (o .nx) x2 y2 u (part 3 B₃) (part 4 B₃) (part 5 B₃)
+              at-N pr = subst (λ z. PlacedAt (reading (F .p) pr) (k .n) (o .nb) (o .nc) (o .nx) x2 y2 u (part 3 B₃) (part 4 B₃) z) (part-N 5 (omega arith))
+                  (subst (λ z. PlacedAt (reading (F .p) pr) (k .n) (o .nb) (o .nc) (o .nx) x2 y2 u (part 3 B₃) z (part 5 B₂)) (part-N 4 (omega arith))
+                  (subst (λ z. PlacedAt (reading (F .p) pr) (k .n) (o .nb) (o .nc) (o .nx) x2 y2 u z (part 4 B₂) (part 5 B₂)) (part-N 3 (omega arith)) (pn .at pr)))
 
-                  at-N : (pr : Prime (F .p)) → PlacedAt (reading (F .p) pr) (k .n) (o .nb) (o .nc) (o .nx) x2 y2 u (part 3 B₃) (part 4 B₃) (part 5 B₃)
-                  at-N pr = subst (λ z. PlacedAt (reading (F .p) pr) (k .n) (o .nb) (o .nc) (o .nx) x2 y2 u (part 3 B₃) (part 4 B₃) z) (part-N 5 (omega arith))
-                      (subst (λ z. PlacedAt (reading (F .p) pr) (k .n) (o .nb) (o .nc) (o .nx) x2 y2 u (part 3 B₃) z (part 5 B₂)) (part-N 4 (omega arith))
-                      (subst (λ z. PlacedAt (reading (F .p) pr) (k .n) (o .nb) (o .nc) (o .nx) x2 y2 u z (part 4 B₂) (part 5 B₂)) (part-N 3 (omega arith)) (pn .at pr)))
+              module _ (μ : Meaning F) where
+                is-U : at μ 6 B₃ ≡ rowμ μ u
+                is-U = stored-part B₂ 6 u B₃ st (λ j l. let w : lu ≤ 17 = size-below (g .hd) sd in u-monic .size .above j (omega arith)) (rd μ)
 
-                  module _ (μ : Meaning F) where
-                    is-U : at μ 6 B₃ ≡ rowμ μ u
-                    is-U = stored-part B₂ 6 u B₃ st (λ j l. let w : lu ≤ 17 = size-below (g .hd) sd in u-monic .size .above j (omega arith)) (rd μ)
+                -- the pairs are those of the reduction, scaled
+                times : ℕ → List ℕ → List ℕ → Pt (Ser μ)
+                times s b c = record { b = rd μ .𝓥 .L .ops .mul (rd μ .𝓥 .const (rd μ .cast s)) (rowμ μ b); c = rd μ .𝓥 .L .ops .mul (rd μ .𝓥 .const (rd μ .cast s)) (rowμ μ c) }
 
-                    -- the pairs are those of the reduction, scaled
-                    times : ℕ → List ℕ → List ℕ → Pt (Ser μ)
-                    times s b c = record { b = rd μ .𝓥 .L .ops .mul (rd μ .𝓥 .const (rd μ .cast s)) (rowμ μ b); c = rd μ .𝓥 .L .ops .mul (rd μ .𝓥 .const (rd μ .cast s)) (rowμ μ c) }
+                is-M : times (k .m) (o .mb) (o .mc) ≡ Mpt μ B₃
+                unfolding times
+                is-M = ap₂ (λ y z. record { b = y; c = z }) (sym (at-M (μ .prime) .is-b)) (sym (at-M (μ .prime) .is-c))
 
-                    is-M : times (k .m) (o .mb) (o .mc) ≡ Mpt μ B₃
-                    unfolding times
-                    is-M = ap₂ (λ y z. record { b = y; c = z }) (sym (at-M (μ .prime) .is-b)) (sym (at-M (μ .prime) .is-c))
+                is-N : times (k .n) (o .nb) (o .nc) ≡ Npt μ B₃
+                unfolding times
+                is-N = ap₂ (λ y z. record { b = y; c = z }) (sym (at-N (μ .prime) .is-b)) (sym (at-N (μ .prime) .is-c))
 
-                    is-N : times (k .n) (o .nb) (o .nc) ≡ Npt μ B₃
-                    unfolding times
-                    is-N = ap₂ (λ y z. record { b = y; c = z }) (sym (at-N (μ .prime) .is-b)) (sym (at-N (μ .prime) .is-c))
+                times-X : (s : ℕ) (b c : List ℕ) → rd μ .𝓥 .L .ops .mul (rd μ .𝓥 .const (rd μ .cast s)) (X μ (pt μ b c)) ≡ X μ (times s b c)
+                unfolding times
+                times-X s b c = solve (rd μ .𝓥 .L) (var 0 :* (var 1 :* var 3 :+ var 2 :* var 4)) (var 0 :* var 1 :* var 3 :+ var 0 :* var 2 :* var 4) tt (rd μ .𝓥 .const (rd μ .cast s) ∷ rowμ μ b ∷ rowμ μ c ∷ μ .r ∷ μ .w ∷ [])
 
-                    times-X : (s : ℕ) (b c : List ℕ) → rd μ .𝓥 .L .ops .mul (rd μ .𝓥 .const (rd μ .cast s)) (X μ (pt μ b c)) ≡ X μ (times s b c)
-                    unfolding times
-                    times-X s b c = solve (rd μ .𝓥 .L) (var 0 :* (var 1 :* var 3 :+ var 2 :* var 4)) (var 0 :* var 1 :* var 3 :+ var 0 :* var 2 :* var 4) tt (rd μ .𝓥 .const (rd μ .cast s) ∷ rowμ μ b ∷ rowμ μ c ∷ μ .r ∷ μ .w ∷ [])
+                times-Y : (s : ℕ) (b c : List ℕ) → rd μ .𝓥 .L .ops .mul (rd μ .𝓥 .const (rd μ .cast s)) (Y μ (pt μ b c)) ≡ Y μ (times s b c)
+                unfolding times
+                times-Y s b c = solve (rd μ .𝓥 .L) (var 0 :* (var 1 :* var 3 :+ minus (var 2 :* var 4))) (var 0 :* var 1 :* var 3 :+ minus (var 0 :* var 2 :* var 4)) tt (rd μ .𝓥 .const (rd μ .cast s) ∷ rowμ μ b ∷ rowμ μ c ∷ μ .r ∷ μ .w ∷ [])
 
-                    times-Y : (s : ℕ) (b c : List ℕ) → rd μ .𝓥 .L .ops .mul (rd μ .𝓥 .const (rd μ .cast s)) (Y μ (pt μ b c)) ≡ Y μ (times s b c)
-                    unfolding times
-                    times-Y s b c = solve (rd μ .𝓥 .L) (var 0 :* (var 1 :* var 3 :+ minus (var 2 :* var 4))) (var 0 :* var 1 :* var 3 :+ minus (var 0 :* var 2 :* var 4)) tt (rd μ .𝓥 .const (rd μ .cast s) ∷ rowμ μ b ∷ rowμ μ c ∷ μ .r ∷ μ .w ∷ [])
+                -- Z = (2a − s x) − s (X − x)
+                low : {s : ℕ} {b c x a₀ b₀ c₀ : List ℕ} → Held F false top (point b c x) → PlacedAt (rd μ) s b c x x2 y2 u a₀ b₀ c₀ → Ltμ μ (Z μ (rowμ μ a₀) (rowμ μ b₀) (rowμ μ c₀)) (g .u)
+                low {s} {b} {c} {x} {a₀} {b₀} {c₀} t e =
+                    let ρ = rd μ in
+                    lt-eq (ρ .𝓥) (lt-add (ρ .𝓥) (e .low (g .u) (ρ .𝓥 .K .ops .𝟏, ρ .𝓥 .one≢zero, u-lead (μ .prime))) (lt-neg (ρ .𝓥) (lt-up (ρ .𝓥) (g .u) (lt-scale ρ (ρ .cast s) (t .floor μ)) (omega arith))))
+                    (solve-by (ρ .𝓥 .L) ((one :+ one) :* var 0 :+ minus (var 4 :* var 9) :+ minus (var 4 :* (var 5 :* var 7 :+ var 6 :* var 8 :+ minus (var 9)))) ((one :+ one) :* var 0 :+ minus (var 2 :* var 7) :+ minus (var 3 :* var 8))
+                    (hyp (var 7) (var 2) (var 4 :* var 5) ∷ hyp (var 8) (var 3) (var 4 :* var 6) ∷ []) tt
+                    (rowμ μ a₀ ∷ rowμ μ a₀ ∷ rowμ μ b₀ ∷ rowμ μ c₀ ∷ ρ .𝓥 .const (ρ .cast s) ∷ rowμ μ b ∷ rowμ μ c ∷ μ .r ∷ μ .w ∷ rowμ μ x ∷ []) (e .is-b, (e .is-c, tt)))
 
-                    -- Z = (2a − s x) − s (X − x)
-                    low : {s : ℕ} {b c x a₀ b₀ c₀ : List ℕ} → Held F false top (point b c x) → PlacedAt (rd μ) s b c x x2 y2 u a₀ b₀ c₀ → Ltμ μ (Z μ (rowμ μ a₀) (rowμ μ b₀) (rowμ μ c₀)) (g .u)
-                    low {s} {b} {c} {x} {a₀} {b₀} {c₀} t e =
-                        let ρ = rd μ in
-                        lt-eq (ρ .𝓥) (lt-add (ρ .𝓥) (e .low (g .u) (ρ .𝓥 .K .ops .𝟏, ρ .𝓥 .one≢zero, u-lead (μ .prime))) (lt-neg (ρ .𝓥) (lt-up (ρ .𝓥) (g .u) (lt-scale ρ (ρ .cast s) (t .floor μ)) (omega arith))))
-                        (solve-by (ρ .𝓥 .L) ((one :+ one) :* var 0 :+ minus (var 4 :* var 9) :+ minus (var 4 :* (var 5 :* var 7 :+ var 6 :* var 8 :+ minus (var 9)))) ((one :+ one) :* var 0 :+ minus (var 2 :* var 7) :+ minus (var 3 :* var 8))
-                        (hyp (var 7) (var 2) (var 4 :* var 5) ∷ hyp (var 8) (var 3) (var 4 :* var 6) ∷ []) tt
-                        (rowμ μ a₀ ∷ rowμ μ a₀ ∷ rowμ μ b₀ ∷ rowμ μ c₀ ∷ ρ .𝓥 .const (ρ .cast s) ∷ rowμ μ b ∷ rowμ μ c ∷ μ .r ∷ μ .w ∷ rowμ μ x ∷ []) (e .is-b, (e .is-c, tt)))
+                abbrev h₂ : Ser μ
+                h₂ = rd μ .𝓥 .const (rd μ .cast ((F .p + 1) / 2))
 
-                    abbrev h₂ : Ser μ
-                    h₂ = rd μ .𝓥 .const (rd μ .cast ((F .p + 1) / 2))
+                twice : {x z : List ℕ} → Scaled (F .p) 2 x z → rowμ μ z ≡ rd μ .𝓥 .L .ops .mul (rd μ .𝓥 .L .ops .add (rd μ .𝓥 .L .ops .𝟏) (rd μ .𝓥 .L .ops .𝟏)) (rowμ μ x)
+                twice {x} e = e .law (μ .prime) ∙ ap (λ y. rd μ .𝓥 .L .ops .mul y (rowμ μ x)) (const-two (rd μ))
 
-                    twice : {x z : List ℕ} → Scaled (F .p) 2 x z → rowμ μ z ≡ rd μ .𝓥 .L .ops .mul (rd μ .𝓥 .L .ops .add (rd μ .𝓥 .L .ops .𝟏) (rd μ .𝓥 .L .ops .𝟏)) (rowμ μ x)
-                    twice {x} e = e .law (μ .prime) ∙ ap (λ y. rd μ .𝓥 .L .ops .mul y (rowμ μ x)) (const-two (rd μ))
+                -- row 0 is half of what is placed
+                row-0 : {s : ℕ} {b c x a₀ b₀ c₀ : List ℕ} (e : PlacedAt (rd μ) s b c x x2 y2 u a₀ b₀ c₀)
+                    → off (rd μ .𝓥 .L .ops) (rowμ μ x1) (rowμ μ y1) (rowμ μ a₀) (rowμ μ b₀) (rowμ μ c₀) ≡ rd μ .𝓥 .L .ops .mul (at μ 6 B₃) (rd μ .𝓥 .L .ops .mul h₂ (e .k))
+                row-0 {a₀ = a₀} {b₀} {c₀} e =
+                    let ρ = rd μ in
+                    solve-by (ρ .𝓥 .L) (var 0 :+ (var 1 :* var 3 :+ var 2 :* var 4)) (var 7 :* (var 8 :* var 9))
+                    (hyp (var 8) ((one :+ one) :* var 0 :+ (var 1 :* var 5 :+ var 2 :* var 6)) (var 7 :* var 9) ∷ hyp (minus (var 8 :* var 1)) (var 5) ((one :+ one) :* var 3) ∷ hyp (minus (var 8 :* var 2)) (var 6) ((one :+ one) :* var 4)
+                    ∷ hyp (minus (var 0 :+ (var 1 :* var 3 :+ var 2 :* var 4))) (var 8 :+ var 8) one ∷ []) tt
+                    (rowμ μ a₀ ∷ rowμ μ b₀ ∷ rowμ μ c₀ ∷ rowμ μ x1 ∷ rowμ μ y1 ∷ rowμ μ x2 ∷ rowμ μ y2 ∷ rowμ μ u ∷ h₂ ∷ e .k ∷ []) (e .framed, (twice e1, (twice e2, (half ρ (g .odd), tt))))
+                    ∙ ap (λ y. ρ .𝓥 .L .ops .mul y (ρ .𝓥 .L .ops .mul h₂ (e .k))) (sym is-U)
 
-                    -- row 0 is half of what is placed
-                    row-0 : {s : ℕ} {b c x a₀ b₀ c₀ : List ℕ} (e : PlacedAt (rd μ) s b c x x2 y2 u a₀ b₀ c₀)
-                        → off (rd μ .𝓥 .L .ops) (rowμ μ x1) (rowμ μ y1) (rowμ μ a₀) (rowμ μ b₀) (rowμ μ c₀) ≡ rd μ .𝓥 .L .ops .mul (at μ 6 B₃) (rd μ .𝓥 .L .ops .mul h₂ (e .k))
-                    row-0 {a₀ = a₀} {b₀} {c₀} e =
-                        let ρ = rd μ in
-                        solve-by (ρ .𝓥 .L) (var 0 :+ (var 1 :* var 3 :+ var 2 :* var 4)) (var 7 :* (var 8 :* var 9))
-                        (hyp (var 8) ((one :+ one) :* var 0 :+ (var 1 :* var 5 :+ var 2 :* var 6)) (var 7 :* var 9) ∷ hyp (minus (var 8 :* var 1)) (var 5) ((one :+ one) :* var 3) ∷ hyp (minus (var 8 :* var 2)) (var 6) ((one :+ one) :* var 4)
-                        ∷ hyp (minus (var 0 :+ (var 1 :* var 3 :+ var 2 :* var 4))) (var 8 :+ var 8) one ∷ []) tt
-                        (rowμ μ a₀ ∷ rowμ μ b₀ ∷ rowμ μ c₀ ∷ rowμ μ x1 ∷ rowμ μ y1 ∷ rowμ μ x2 ∷ rowμ μ y2 ∷ rowμ μ u ∷ h₂ ∷ e .k ∷ []) (e .framed, (twice e1, (twice e2, (half ρ (g .odd), tt))))
-                        ∙ ap (λ y. ρ .𝓥 .L .ops .mul y (ρ .𝓥 .L .ops .mul h₂ (e .k))) (sym is-U)
+                half-poly : (z : Ser μ) → rd μ .𝓥 .IsPoly z → rd μ .𝓥 .IsPoly (rd μ .𝓥 .L .ops .mul h₂ z)
+                half-poly z hz = rd μ .𝓥 .closed .mul _ _ (rd μ .𝓥 .const-poly _) hz
 
-                    half-poly : (z : Ser μ) → rd μ .𝓥 .IsPoly z → rd μ .𝓥 .IsPoly (rd μ .𝓥 .L .ops .mul h₂ z)
-                    half-poly z hz = rd μ .𝓥 .closed .mul _ _ (rd μ .𝓥 .const-poly _) hz
+                pub based-at : BasedAt μ q d x1 y1 B₃
+                unfolding times
+                based-at =
+                    let ρ = rd μ in
+                    let v = ρ .𝓥 in
+                    let e : lu ≡ suc (g .u) = lu-is in
+                    let w : lu - 1 ≡ g .u = omega arith in
+                    let z : 0 < o .lx = lx-pos in
+                    let l : h .x2 < o .lx = h .x-less in
+                    let hi : lu ≤ suc (h .y) = h .y-high in record {
+                      u = g .u;
+                      x = o .lx - 1;
+                      y = h .y;
+                      U-lead = lead-eq v (u-lead (μ .prime)) (sym is-U) refl;
+                      X-M = lead-eq v (lead-scale ρ (ρ .cast (k .m)) (floor-top ρ (o .lx) (h .hm .floor μ) (h .sx1) z)) (times-X (k .m) (o .mb) (o .mc) ∙ ap (X μ) is-M) (hk .m-law (μ .prime));
+                      Y-N = lead-eq v (lead-scale ρ (ρ .cast (k .n)) (ly .law μ (h .y) (h .y-has μ) .2)) (times-Y (k .n) (o .nb) (o .nc) ∙ ap (Y μ) is-N) (hk .n-law (μ .prime));
+                      u≤y = omega arith;
+                      X-N = lt-eq v (lt-scale ρ (ρ .cast (k .n)) (lt-up v (o .lx - 1) (floor-lt ρ (h .hn .floor μ) (h .sx2)) (omega arith))) (times-X (k .n) (o .nb) (o .nc) ∙ ap (X μ) is-N);
+                      Y-M = lt-eq v (lt-scale ρ (ρ .cast (k .m)) (lt-up v (g .u) (h .y-low μ) (omega arith))) (times-Y (k .m) (o .mb) (o .mc) ∙ ap (Y μ) is-M);
+                      Z-M = low (h .hm) (at-M (μ .prime));
+                      Z-N = low (h .hn) (at-N (μ .prime));
+                      kM = ρ .𝓥 .L .ops .mul h₂ (at-M (μ .prime) .k);
+                      kN = ρ .𝓥 .L .ops .mul h₂ (at-N (μ .prime) .k);
+                      kM-poly = half-poly _ (at-M (μ .prime) .k-poly);
+                      kN-poly = half-poly _ (at-N (μ .prime) .k-poly);
+                      M-a = row-0 (at-M (μ .prime));
+                      N-a = row-0 (at-N (μ .prime));
+                      ν = ρ .cast (k .u);
+                      ν-unit = not-zero μ (k .u) _ _ (v .one≢zero) (hk .u-law (μ .prime));
+                      U-eq = is-U ∙ su .law (μ .prime);
+                      moved = subst (λ y. Moved ρ (pt μ (q .mb) (q .mc)) (pt μ (q .nb) (q .nc)) (Mpt μ B₃) y) is-N
+                          (subst (λ y. Moved ρ (pt μ (q .mb) (q .mc)) (pt μ (q .nb) (q .nc)) y (times (k .n) (o .nb) (o .nc))) is-M
+                          (moved-then ρ (h .moved μ)
+                          (moved-scale ρ (ρ .cast (k .m)) (ρ .cast (k .n)) (not-zero μ (k .m) _ _ (μ .two) (hk .m-law (μ .prime))) (not-zero μ (k .n) _ _ (v .one≢zero) (hk .n-law (μ .prime))) (pt μ (o .mb) (o .mc)) (pt μ (o .nb) (o .nc)))));
+                    }
 
-                    pub based-at : BasedAt μ q d x1 y1 B₃
-                    unfolding times
-                    based-at =
-                        let ρ = rd μ in
-                        let v = ρ .𝓥 in
-                        let e : lu ≡ suc (g .u) = lu-is in
-                        let w : lu - 1 ≡ g .u = omega arith in
-                        let z : 0 < o .lx = lx-pos in
-                        let l : h .x2 < o .lx = h .x-less in
-                        let hi : lu ≤ suc (h .y) = h .y-high in record {
-                          u = g .u;
-                          x = o .lx - 1;
-                          y = h .y;
-                          U-lead = lead-eq v (u-lead (μ .prime)) (sym is-U) refl;
-                          X-M = lead-eq v (lead-scale ρ (ρ .cast (k .m)) (floor-top ρ (o .lx) (h .hm .floor μ) (h .sx1) z)) (times-X (k .m) (o .mb) (o .mc) ∙ ap (X μ) is-M) (hk .m-law (μ .prime));
-                          Y-N = lead-eq v (lead-scale ρ (ρ .cast (k .n)) (ly .law μ (h .y) (h .y-has μ) .2)) (times-Y (k .n) (o .nb) (o .nc) ∙ ap (Y μ) is-N) (hk .n-law (μ .prime));
-                          u≤y = omega arith;
-                          X-N = lt-eq v (lt-scale ρ (ρ .cast (k .n)) (lt-up v (o .lx - 1) (floor-lt ρ (h .hn .floor μ) (h .sx2)) (omega arith))) (times-X (k .n) (o .nb) (o .nc) ∙ ap (X μ) is-N);
-                          Y-M = lt-eq v (lt-scale ρ (ρ .cast (k .m)) (lt-up v (g .u) (h .y-low μ) (omega arith))) (times-Y (k .m) (o .mb) (o .mc) ∙ ap (Y μ) is-M);
-                          Z-M = low (h .hm) (at-M (μ .prime));
-                          Z-N = low (h .hn) (at-N (μ .prime));
-                          kM = ρ .𝓥 .L .ops .mul h₂ (at-M (μ .prime) .k);
-                          kN = ρ .𝓥 .L .ops .mul h₂ (at-N (μ .prime) .k);
-                          kM-poly = half-poly _ (at-M (μ .prime) .k-poly);
-                          kN-poly = half-poly _ (at-N (μ .prime) .k-poly);
-                          M-a = row-0 (at-M (μ .prime));
-                          N-a = row-0 (at-N (μ .prime));
-                          ν = ρ .cast (k .u);
-                          ν-unit = not-zero μ (k .u) _ _ (v .one≢zero) (hk .u-law (μ .prime));
-                          U-eq = is-U ∙ su .law (μ .prime);
-                          moved = subst (λ y. Moved ρ (pt μ (q .mb) (q .mc)) (pt μ (q .nb) (q .nc)) (Mpt μ B₃) y) is-N
-                              (subst (λ y. Moved ρ (pt μ (q .mb) (q .mc)) (pt μ (q .nb) (q .nc)) y (times (k .n) (o .nb) (o .nc))) is-M
-                              (moved-then ρ (h .moved μ)
-                              (moved-scale ρ (ρ .cast (k .m)) (ρ .cast (k .n)) (not-zero μ (k .m) _ _ (μ .two) (hk .m-law (μ .prime))) (not-zero μ (k .n) _ _ (v .one≢zero) (hk .n-law (μ .prime))) (pt μ (o .mb) (o .mc)) (pt μ (o .nb) (o .nc)))));
-                        }
-
-                  pub based : Based F q d x1 y1 B₃
-                  based = record {
-                    size = st .size;
-                    each = stored-each (F .p) B₂ 6 u B₃ st (pn .each (pm .each (λ j. let w : _≡_ {A = ℕ} (getD (replicate 119 0) j 0) 0 = zeros-at 119 j in let b : 1 < F .p = g .clear .room .fine .modulus .big in omega arith))) (su .is-row .each);
-                    meant = based-at;
-                  }
+              pub based : Based F q d x1 y1 B₃
+              based = record {
+                size = st .size;
+                each = stored-each (F .p) B₂ 6 u B₃ st (pn .each (pm .each (λ j. let w : _≡_ {A = ℕ} (getD (replicate 119 0) j 0) 0 = zeros-at 119 j in let b : 1 < F .p = g .clear .room .fine .modulus .big in omega arith))) (su .is-row .each);
+                meant = based-at;
+              }

@@ -3,10 +3,8 @@ use mathlib.Core.Path.{_≡_, sym, ap, ap₂, _∙_}
 use mathlib.Core.List.{List, [], _∷_}
 use Prim.Native.Nat.{ℕ, _≤_, _<_, _%_, _/_}
 use Prim.Native.Nat as N
-use native.Mathlib.Nat.{mod-self}
 use native.Mathlib.Omega.{arith}
 use lib.ListN.{getD}
-use Rattle.ring.proofs.Laws as r
 use Rattle.ring.specs.Ring.{Ops, CRing}
 use Rattle.ring.proofs.Solve.{var, one, zer, minus, _:+_, _:*_, hyp, solve, solve-by}
 use Rattle.fp.specs.Fp.{Prime}
@@ -19,6 +17,7 @@ use Rattle.poly.specs.Leaf.{Scaled}
 use Rattle.reduce.specs.Frame.{Short}
 use Rattle.reduce.proofs.Laid.{Laid, laid-short, laid-row, Swept, swept-laid}
 use Rattle.basis.specs.InPlace.{ScaleBy, HalveIn, Halved}
+use Rattle.basis.proofs.Two.{half}
 
 module _ {p : ℕ} (ρ : Reading p) where
   open Reading ρ using (𝓥, cast)
@@ -29,20 +28,6 @@ module _ {p : ℕ} (ρ : Reading p) where
   infixl 60 _+_ _+ᵏ_
   infixl 70 _*_ _*ᵏ_
   infix 80 -_ -ᵏ_
-  pub cast-two : cast 2 ≡ 1ᵏ +ᵏ 1ᵏ
-  cast-two = ρ .cast-add 1 1 ∙ ap₂ _+ᵏ_ (ρ .cast-one) (ρ .cast-one)
-
-  pub const-two : const (cast 2) ≡ 𝟏 + 𝟏
-  const-two = ap const cast-two ∙ ρ .const-add 1ᵏ 1ᵏ ∙ ap₂ _+_ (ρ .const-one) (ρ .const-one)
-
-  -- (p + 1)/2 is a half
-  pub half : p % 2 ≡ 1 → const (cast (N._+_ p 1 / 2)) + const (cast (N._+_ p 1 / 2)) ≡ 𝟏
-  half h =
-      let n = N._+_ p 1 / 2 in
-      let e : N._+_ n n ≡ N._+_ p 1 = omega arith in
-      sym (ρ .const-add (cast n) (cast n)) ∙ ap const (sym (ρ .cast-add n n) ∙ ap cast e ∙ ρ .cast-add p 1
-      ∙ ap₂ _+ᵏ_ (sym (ρ .cast-mod p) ∙ ap cast (mod-self p) ∙ ρ .cast-zero) (ρ .cast-one) ∙ r.zero-add′ K 1ᵏ) ∙ ρ .const-one
-
   -- a coefficient of s x − c y
   abbrev pub less : K .El → K .El → List ℕ → List ℕ → ℕ → K .El
   less s c x y j = s *ᵏ coefs ρ x j +ᵏ -ᵏ (c *ᵏ coefs ρ y j)

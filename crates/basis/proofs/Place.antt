@@ -1,13 +1,13 @@
--- What `placed` asks of its callees, and what it makes.
+-- What `placed` and `filled` ask of their callees, and what they make.
 --   row-short, size-below    a bound of the degree, or of the row, bounds the length
-use mathlib.Core.Path.{_≡_, sym, ap, ap₂, _∙_, subst}
+use mathlib.Core.Path.{_≡_, refl, sym, ap, ap₂, _∙_, subst}
 use mathlib.Core.Logic.{_≢_, _⊎_, inl, inr}
 use mathlib.Core.Bool.{false}
 use mathlib.Core.List.{List, [], _∷_}
 use Prim.Native.Nat.{ℕ, _+_, _*_, _-_, _<_, _≤_}
 use native.Mathlib.Omega.{arith}
 use native.Mathlib.Decide.{decLt}
-use lib.ListN.{length, getD}
+use lib.ListN.{length, getD, replicate}
 use Rattle.ring.specs.Ring.{Ops, CRing}
 use Rattle.ring.proofs.Solve.{var, minus, _:+_, solve}
 use Rattle.fp.specs.Fp.{Prime}
@@ -25,10 +25,12 @@ use Rattle.poly.specs.Leaf.{Cut, Scaled}
 use Rattle.sized.specs.Sized.{MixIn, Mixed}
 use Rattle.record.specs.Record.{part}
 use Rattle.reduce.specs.Frame.{Short}
+use Rattle.reduce.proofs.Laid.{zeros-at}
 use Rattle.basis.specs.Store.{StoreIn, Stored}
 use Rattle.basis.specs.InPlace.{ScaleBy}
 use Rattle.basis.specs.Levels.{LevelIn, Leveled}
-use Rattle.basis.specs.Place.{PlaceIn, PlacedAt, Placed}
+use Rattle.basis.specs.Place.{ElementIn, PlaceIn, PlacedAt, Placed, FillIn, Filled}
+use Rattle.basis.specs.declared.Factors.{Factors}
 use Rattle.basis.proofs.Store.{stored-part, stored-other, stored-blank, stored-each}
 
 pub size-below : {p : ℕ} {l : List ℕ} {m n : ℕ} → Short p l n → Size l m → m ≤ n
@@ -60,47 +62,47 @@ scaled-size {p} {c} ρ {x} {z} {n} hc hx hz e s = let (m, w) = sized z in subst 
 
 module _ {p mul lim i top s : ℕ} {b c x x1 : List ℕ} {n1 : ℕ} {y1 : List ℕ} {n2 : ℕ} {u : List ℕ} {lu : ℕ} {B : List ℕ} (g : PlaceIn p mul lim i top s b c x x1 n1 y1 n2 u lu B) where
   cut : {l : List ℕ} {n : ℕ} → Short p l n → n ≤ top → Cut l top
-  cut h w = let f : top ≤ 17 = g .fits in record { size = h .is-row .size; fits = omega arith; above = λ j v. h .above j (omega arith) }
+  cut h w = let f : top ≤ 17 = g .inp .fits in record { size = h .is-row .size; fits = omega arith; above = λ j v. h .above j (omega arith) }
 
   pub place-scale : {l : List ℕ} {n : ℕ} → Short p l n → n ≤ top → ScaleBy p mul lim s l top
-  place-scale h w = record { inp = record { modulus = g .modulus; hc = g .hs; hx = h .is-row }; ready = g .ready; cut = cut h w }
+  place-scale h w = record { inp = record { modulus = g .inp .modulus; hc = g .inp .hs; hx = h .is-row }; ready = g .inp .ready; cut = cut h w }
 
   module _ {mb mc t : List ℕ} (sb : Scaled p s b mb) (sc : Scaled p s c mc) (st : Scaled p s x t) where
     scaled : {l m : List ℕ} {n : ℕ} → Short p l n → Scaled p s l m → Short p m n
-    scaled h e = scaled-short {c = s} (reading p (g .prime)) h (e .is-row) (e .law (g .prime))
+    scaled h e = scaled-short {c = s} (reading p (g .inp .prime)) h (e .is-row) (e .law (g .inp .prime))
 
-    b-short : Short p mb (g .lb)
-    b-short = scaled (g .hb) sb
+    b-short : Short p mb (g .inp .lb)
+    b-short = scaled (g .inp .hb) sb
 
-    c-short : Short p mc (g .lc)
-    c-short = scaled (g .hc) sc
+    c-short : Short p mc (g .inp .lc)
+    c-short = scaled (g .inp .hc) sc
 
     pub place-b : Cut mb top
-    place-b = cut b-short (g .low-b)
+    place-b = cut b-short (g .inp .low-b)
 
     pub place-c : Cut mc top
-    place-c = cut c-short (g .low-c)
+    place-c = cut c-short (g .inp .low-c)
 
     pub place-first : {n : ℕ} → Size mb n → MixIn p mul lim mb n x1 n1 t
-    place-first e = let l = size-below b-short e in let d : g .lb + n1 ≤ 33 = g .room-b in record {
-      modulus = g .modulus;
-      ready = g .ready;
+    place-first e = let l = size-below b-short e in let d : g .inp .lb + n1 ≤ 33 = g .inp .room-b in record {
+      modulus = g .inp .modulus;
+      ready = g .inp .ready;
       hx = sb .is-row;
-      hy = g .h1;
+      hy = g .inp .h1;
       sx = e;
-      sy = g .s1;
+      sy = g .inp .s1;
       fits = omega (arith, l);
       hr = st .is-row;
     }
 
     pub place-second : {n : ℕ} {o : List ℕ} → Size mc n → Row p o → MixIn p mul lim mc n y1 n2 o
-    place-second e h = let l = size-below c-short e in let d : g .lc + n2 ≤ 33 = g .room-c in record {
-      modulus = g .modulus;
-      ready = g .ready;
+    place-second e h = let l = size-below c-short e in let d : g .inp .lc + n2 ≤ 33 = g .inp .room-c in record {
+      modulus = g .inp .modulus;
+      ready = g .inp .ready;
       hx = sc .is-row;
-      hy = g .h2;
+      hy = g .inp .h2;
       sx = e;
-      sy = g .s2;
+      sy = g .inp .s2;
       fits = omega (arith, l);
       hr = h;
     }
@@ -111,16 +113,16 @@ module _ {p mul lim i top s : ℕ} {b c x x1 : List ℕ} {n1 : ℕ} {y1 : List �
       k-is pr = let ρ = reading p pr in let o = ρ .𝓥 .L .ops in ec .law pr ∙ ap (λ a. o .add a (o .mul (row ρ mc) (row ρ y1))) (eb .law pr)
 
       pub place-level : {l : ℕ} → Size k l → LevelIn p mul lim u lu k l t top
-      place-level e = let f : top ≤ 17 = g .fits in record {
-        modulus = g .modulus;
-        prime = g .prime;
-        odd = g .odd;
-        ready = g .ready;
-        monic = g .monic;
+      place-level e = let f : top ≤ 17 = g .inp .fits in record {
+        modulus = g .inp .modulus;
+        prime = g .inp .prime;
+        odd = g .inp .odd;
+        ready = g .inp .ready;
+        monic = g .inp .monic;
         hk = ec .is-row;
         sk = e;
-        hx = scaled (g .hx) st;
-        low = g .low-u;
+        hx = scaled (g .inp .hx) st;
+        low = g .inp .low-u;
         fits = omega arith;
       }
 
@@ -130,8 +132,8 @@ module _ {p mul lim i top s : ℕ} {b c x x1 : List ℕ} {n1 : ℕ} {y1 : List �
           size = e;
           blank = z;
           row = w;
-          each = λ m. let q : getD l m 0 < p = h .is-row .each m in let w : p ≤ 65535 = g .small in omega arith;
-          fits = g .fits;
+          each = λ m. let q : getD l m 0 < p = h .is-row .each m in let w : p ≤ 65535 = g .inp .small in omega arith;
+          fits = g .inp .fits;
           above = λ m r. h .above m (omega arith);
         }
 
@@ -143,21 +145,21 @@ module _ {p mul lim i top s : ℕ} {b c x x1 : List ℕ} {n1 : ℕ} {y1 : List �
           blank-1 = stored-blank B i a B₀ s₀ (g .blank)
 
           pub place-1 : StoreIn B₀ (i + 1) mb top
-          place-1 = let w : i + 2 < 7 = g .at in store (i + 1) (omega arith) (s₀ .size) blank-1 b-short (g .low-b)
+          place-1 = let w : i + 2 < 7 = g .at in store (i + 1) (omega arith) (s₀ .size) blank-1 b-short (g .inp .low-b)
 
           module _ {B₁ : List ℕ} (s₁ : Stored B₀ (i + 1) mb B₁) where
             pub place-2 : StoreIn B₁ (i + 2) mc top
-            place-2 = store (i + 2) (g .at) (s₁ .size) (λ m l. stored-blank B₀ (i + 1) mb B₁ s₁ blank-1 m (omega arith)) c-short (g .low-c)
+            place-2 = store (i + 2) (g .at) (s₁ .size) (λ m l. stored-blank B₀ (i + 1) mb B₁ s₁ blank-1 m (omega arith)) c-short (g .inp .low-c)
 
             module _ {B₂ : List ℕ} (s₂ : Stored B₁ (i + 2) mc B₂) where
               is-a : (ρ : Reading p) → row ρ (part i B₂) ≡ row ρ a
-              is-a ρ = ap (row ρ) (stored-other B₁ (i + 2) mc B₂ s₂ i (inl (omega arith)) ∙ stored-other B₀ (i + 1) mb B₁ s₁ i (inl (omega arith))) ∙ stored-part B i a B₀ s₀ (λ j l. let f : top ≤ 17 = g .fits in la .short .above j (omega arith)) ρ
+              is-a ρ = ap (row ρ) (stored-other B₁ (i + 2) mc B₂ s₂ i (inl (omega arith)) ∙ stored-other B₀ (i + 1) mb B₁ s₁ i (inl (omega arith))) ∙ stored-part B i a B₀ s₀ (λ j l. let f : top ≤ 17 = g .inp .fits in la .short .above j (omega arith)) ρ
 
               is-b : (ρ : Reading p) → row ρ (part (i + 1) B₂) ≡ row ρ mb
-              is-b ρ = ap (row ρ) (stored-other B₁ (i + 2) mc B₂ s₂ (i + 1) (inl (omega arith))) ∙ stored-part B₀ (i + 1) mb B₁ s₁ (λ j l. let f : top ≤ 17 = g .fits in place-b .above j (omega arith)) ρ
+              is-b ρ = ap (row ρ) (stored-other B₁ (i + 2) mc B₂ s₂ (i + 1) (inl (omega arith))) ∙ stored-part B₀ (i + 1) mb B₁ s₁ (λ j l. let f : top ≤ 17 = g .inp .fits in place-b .above j (omega arith)) ρ
 
               is-c : (ρ : Reading p) → row ρ (part (i + 2) B₂) ≡ row ρ mc
-              is-c ρ = stored-part B₁ (i + 2) mc B₂ s₂ (λ j l. let f : top ≤ 17 = g .fits in place-c .above j (omega arith)) ρ
+              is-c ρ = stored-part B₁ (i + 2) mc B₂ s₂ (λ j l. let f : top ≤ 17 = g .inp .fits in place-c .above j (omega arith)) ρ
 
               pub placed : Placed p i s b c x x1 y1 u B B₂
               placed = record {
@@ -184,3 +186,23 @@ module _ {p mul lim i top s : ℕ} {b c x x1 : List ℕ} {n1 : ℕ} {y1 : List �
                   over : (pr : Prime p) → let ρ = reading p pr in let o = ρ .𝓥 .L .ops in o .add (o .mul (row ρ mb) (row ρ x1)) (o .mul (row ρ mc) (row ρ y1)) ≡ o .add (row ρ k) (o .neg (row ρ t))
                   over pr = let ρ = reading p pr in let o = ρ .𝓥 .L .ops in
                       solve (ρ .𝓥 .L) (var 1 :+ var 2) (var 0 :+ var 1 :+ var 2 :+ minus (var 0)) tt (row ρ t ∷ o .mul (row ρ mb) (row ρ x1) ∷ o .mul (row ρ mc) (row ρ y1) ∷ []) ∙ ap (λ z. o .add z (o .neg (row ρ t))) (sym (k-is pr))
+
+-- ---- m, n and u in turn
+module _ {p mul lim top : ℕ} {k : Factors} {mb mc mx nb nc nx x1 : List ℕ} {n1 : ℕ} {y1 : List ℕ} {n2 : ℕ} {u : List ℕ} {lu : ℕ} (g : FillIn p mul lim top k mb mc mx nb nc nx x1 n1 y1 n2 u lu) where
+  pub fill-m : PlaceIn p mul lim 0 top (k .m) mb mc mx x1 n1 y1 n2 u lu (replicate 119 0)
+  fill-m = record { inp = g .m; at = omega arith; size = refl; blank = λ j w. zeros-at 119 j }
+
+  module _ {B₁ : List ℕ} (pm : Placed p 0 (k .m) mb mc mx x1 y1 u (replicate 119 0) B₁) where
+    pub fill-n : PlaceIn p mul lim 3 top (k .n) nb nc nx x1 n1 y1 n2 u lu B₁
+    fill-n = record { inp = g .n; at = omega arith; size = pm .size; blank = λ j w. pm .there j (inr (omega arith)) ∙ zeros-at 119 j }
+
+    module _ {B₂ : List ℕ} (pn : Placed p 3 (k .n) nb nc nx x1 y1 u B₁ B₂) where
+      pub fill-u : StoreIn B₂ 6 u lu
+      fill-u = let l : lu ≤ top = g .m .low-u in let f : top ≤ 17 = g .m .fits in record {
+        size = pn .size;
+        blank = λ j w. pn .there j (inr (omega arith)) ∙ pm .there j (inr (omega arith)) ∙ zeros-at 119 j;
+        row = omega arith;
+        each = λ j. let w : getD u j 0 < p = g .m .monic .is-row .each j in let s : p ≤ 65535 = g .m .small in omega arith;
+        fits = omega arith;
+        above = g .m .monic .size .above;
+      }

@@ -19,7 +19,7 @@ ghost use Rattle.basis.specs.Based.{BasisIn, Based};
 ghost use Rattle.basis.specs.First.{OrderIn, units, unit, nothing};
 ghost use Rattle.basis.specs.InPlace.{ScaleBy, HalveIn, Halved};
 ghost use Rattle.basis.specs.Levels.{LevelIn, Leveled};
-ghost use Rattle.basis.specs.Place.{PlaceIn, Placed};
+ghost use Rattle.basis.specs.Place.{PlaceIn, Placed, FillIn, Filled};
 ghost use Rattle.basis.specs.Scales.{ScalesIn, Scaling};
 ghost use Rattle.basis.specs.Store.{StoreIn, Stored, LoadIn, Loaded};
 
@@ -164,6 +164,67 @@ fn placed(
     stored(rows, i + 2, c, top);
 }
 
+// The record of the elements m and n, scaled by the factors of k, over u
+fn filled(
+    p: u64,
+    q: Rapid,
+    top: usize,
+    k: Factors,
+    mb: &mut [u64; 32],
+    mc: &mut [u64; 32],
+    mx: &mut [u64; 32],
+    nb: &mut [u64; 32],
+    nc: &mut [u64; 32],
+    nx: &mut [u64; 32],
+    x1: &[u64; 32],
+    n1: usize,
+    y1: &[u64; 32],
+    n2: usize,
+    u: &[u64; 32],
+    lu: usize,
+) -> [u16; 119]
+    requires { ⌜ FillIn p (q .m) (q .lim) top k (now mb) (now mc) (now mx) (now nb) (now nc) (now nx) (now x1) n1 (now y1) n2 (now u) lu ⌝ }
+    ensures { λ o. ⌜ Filled p k (now (mb .entry)) (now (mc .entry)) (now (mx .entry)) (now (nb .entry)) (now (nc .entry)) (now (nx .entry)) (now (x1 .entry)) (now (y1 .entry)) (now (u .entry)) o ⌝ }
+{
+    let mut rows: [u16; 119] = [0; 119];
+    placed(
+        &mut rows,
+        0,
+        p,
+        q,
+        top,
+        k.m,
+        mb,
+        mc,
+        mx,
+        x1,
+        n1,
+        y1,
+        n2,
+        u,
+        lu,
+    );
+    placed(
+        &mut rows,
+        3,
+        p,
+        q,
+        top,
+        k.n,
+        nb,
+        nc,
+        nx,
+        x1,
+        n1,
+        y1,
+        n2,
+        u,
+        lu,
+    );
+    stored(&mut rows, 6, u, lu);
+    rows
+}
+
 // The scaled basis of the lattice of 1 and of the elements over q by the denominator d
 pub fn reduced_basis(
     f: Bounds,
@@ -192,38 +253,21 @@ pub fn reduced_basis(
     let y = lead_of(f, true, &nb, &nc, r, w);
     let k = factors_of(p, d[lu - 1], mx[lx - 1], y);
     let mut u = *d;
-    scale_in(p, fast, k.u, &mut u, lu);
-    let n1 = size_from(x1, f.dr + 1);
-    let n2 = size_from(y1, f.dw + 1);
     let mut x2 = *x1;
     let mut y2 = *y1;
+    let n1 = size_from(x1, f.dr + 1);
+    let n2 = size_from(y1, f.dw + 1);
+    scale_in(p, fast, k.u, &mut u, lu);
     scale_in(p, fast, 2, &mut x2, n1);
     scale_in(p, fast, 2, &mut y2, n2);
-    let mut rows: [u16; 119] = [0; 119];
-    placed(
-        &mut rows,
-        0,
+    filled(
         p,
         fast,
         top,
-        k.m,
+        k,
         &mut mb,
         &mut mc,
         &mut mx,
-        &x2,
-        n1,
-        &y2,
-        n2,
-        &u,
-        lu,
-    );
-    placed(
-        &mut rows,
-        3,
-        p,
-        fast,
-        top,
-        k.n,
         &mut nb,
         &mut nc,
         &mut nx,
@@ -233,9 +277,7 @@ pub fn reduced_basis(
         n2,
         &u,
         lu,
-    );
-    stored(&mut rows, 6, &u, lu);
-    rows
+    )
 }
 
 // The basis of the order: from the elements r and w, with the denominator 1

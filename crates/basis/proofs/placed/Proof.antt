@@ -6,13 +6,13 @@ use Rattle.basis.proofs.placed.Statement.{statement}
 use Rattle.basis.proofs.placed.Tie as tie
 
 scale-in-requires : tie.Need-scale-in-requires
-scale-in-requires c κs = place-scale (c .before .pre) (c .before .pre .hb) (c .before .pre .low-b)
+scale-in-requires c κs = place-scale (c .before .pre) (c .before .pre .inp .hb) (c .before .pre .inp .low-b)
 
 scale-in-requires-2 : tie.Need-scale-in-requires-2
-scale-in-requires-2 c κs = place-scale (c .before .before .before .pre) (c .before .before .before .pre .hc) (c .before .before .before .pre .low-c)
+scale-in-requires-2 c κs = place-scale (c .before .before .before .pre) (c .before .before .before .pre .inp .hc) (c .before .before .before .pre .inp .low-c)
 
 scale-in-requires-3 : tie.Need-scale-in-requires-3
-scale-in-requires-3 c κs = place-scale (c .before .before .before .before .before .pre) (c .before .before .before .before .before .pre .hx) (omega arith)
+scale-in-requires-3 c κs = place-scale (c .before .before .before .before .before .pre) (c .before .before .before .before .before .pre .inp .hx) (omega arith)
 
 size-from-requires : tie.Need-size-from-requires
 size-from-requires c κs = place-b (c .before .before .before .before .before .before .before .pre) (c .before .before .before .before .before .scale-in .ensures) (c .before .before .before .scale-in2 .ensures) (c .before .scale-in3 .ensures)
