@@ -22,9 +22,10 @@ use Rattle.turn.specs.Points.{Pt, Moved}
 use Rattle.turn.proofs.Turn.{moved-scale, moved-then}
 use Rattle.reading.proofs.Unique.{cast-inj}
 use Rattle.residue.specs.Residue.{Modulus}
-use Rattle.poly.specs.Leaf.{Cut, Scaled}
+use Rattle.poly.specs.Leaf.{Cut, Scaled, ScaleBy, ScaleOut}
 use Rattle.poly.specs.Terms.{Ready}
 use Rattle.poly.proofs.Leaf.{size-one}
+use Rattle.sized.proofs.Mixing.{size-cut}
 use Rattle.record.specs.Record.{part}
 use Rattle.reduce.specs.Frame.{Frame, Meaning, Short, Held, point, rd, Ser, rowμ, pt, X, Y, Ltμ, Hasμ}
 use Rattle.reduce.specs.Leaves.{PartIn, Led}
@@ -34,17 +35,13 @@ use Rattle.reduce.specs.declared.Ends.{Ends}
 use Rattle.basis.specs.declared.Factors.{Factors}
 use Rattle.reduce.proofs.Laid.{zeros-at}
 use Rattle.reduce.proofs.Clearing.{part-in, rows-of}
-use Rattle.basis.specs.InPlace.{ScaleBy}
 use Rattle.basis.specs.Levels.{Monic}
 use Rattle.basis.specs.Place.{off, ElementIn, PlacedAt, FillIn, Filled}
 use Rattle.basis.specs.Scales.{ScalesIn, Scaling}
 use Rattle.basis.specs.Based.{BasisIn, BasedAt, Based, Z, at, Mpt, Npt}
 use Rattle.basis.proofs.Store.{stored-part, stored-other, stored-each, part-same}
-use Rattle.basis.proofs.Place.{size-below, scaled-size}
-use Rattle.basis.proofs.Two.{cast-two, const-two, half}
-
-pub short-up : {p : ℕ} {l : List ℕ} {m n : ℕ} → Short p l m → m ≤ n → Short p l n
-short-up h u = record { is-row = h .is-row; above = λ i w. h .above i (omega arith) }
+use Rattle.basis.proofs.Place.{size-below, short-up, short-cut, scaled-size}
+use Rattle.basis.proofs.Two.{const-two, half}
 
 positive : (v : ℕ) → v ≢ 0 → 0 < v
 positive zero h = absurd (h refl)
@@ -52,24 +49,20 @@ positive (suc v) h = omega arith
 
 -- what `scale_in` asks, where the length is known
 by-size : {p mul lim c : ℕ} {x : List ℕ} {n : ℕ} → Modulus p → Ready p mul lim → c < p → Row p x → Size x n → ScaleBy p mul lim c x n
-by-size {x = x} {n} m w l h s = let f : n ≤ length x = s .fits in let e : length x ≡ 32 = h .size in record {
-  inp = record { modulus = m; hc = l; hx = h };
-  ready = w;
-  cut = record { size = h .size; fits = omega arith; above = s .above };
-}
+by-size m w l h s = record { modulus = m; ready = w; hc = l; hx = record { is-row = h; above = s .above }; fits = size-cut h s .fits }
 
 module _ {F : Frame} {q : Pair} {top : ℕ} {d x1 y1 : List ℕ} (g : BasisIn F q top d x1 y1) where
   two-low : 2 < F .p
   two-low = let b : 1 < F .p = g .clear .room .fine .modulus .big in let o : F .p % 2 ≡ 1 = g .odd in omega arith
 
   pub based-d : Cut d 17
-  based-d = record { size = g .hd .is-row .size; fits = omega arith; above = g .hd .above }
+  based-d = short-cut (g .hd) (omega arith)
 
   pub based-x : Cut x1 (F .dr + 1)
-  based-x = let t : top ≤ 17 = g .fits in let r : F .dr ≤ top = g .clear .room .low-r in record { size = g .h1 .is-row .size; fits = omega arith; above = λ j l. g .h1 .above j (omega arith) }
+  based-x = let t : top ≤ 17 = g .fits in let r : F .dr ≤ top = g .clear .room .low-r in short-cut (short-up (g .h1) (omega arith)) (omega arith)
 
   pub based-y : Cut y1 (F .dw + 1)
-  based-y = let t : top ≤ 17 = g .fits in let r : F .dw ≤ top = g .clear .room .low-w in record { size = g .h2 .is-row .size; fits = omega arith; above = λ j l. g .h2 .above j (omega arith) }
+  based-y = let t : top ≤ 17 = g .fits in let r : F .dw ≤ top = g .clear .room .low-w in short-cut (short-up (g .h2) (omega arith)) (omega arith)
 
   -- the doubles of x1 and y1
   pub double-x : {mul lim n : ℕ} → Ready (F .p) mul lim → Size x1 n → ScaleBy (F .p) mul lim 2 x1 n
@@ -116,7 +109,9 @@ module _ {F : Frame} {q : Pair} {top : ℕ} {d x1 y1 : List ℕ} (g : BasisIn F 
           }
 
       module _ {k : Factors} (hk : Scaling (F .p) (getD d (lu - 1) 0) (getD (o .mx) (o .lx - 1) 0) y k) where
-        module _ {u : List ℕ} (su : Scaled (F .p) (k .u) d u) where
+        module _ {u : List ℕ} (so : ScaleOut (F .p) (k .u) d lu u) where
+          open ScaleOut so using (scaled as su)
+
           -- U leads with 1
           u-lead : (pr : Prime (F .p)) → reading (F .p) pr .𝓥 .Lead (row (reading (F .p) pr) u) (g .u) 0 (reading (F .p) pr .𝓥 .K .ops .𝟏)
           u-lead pr =
@@ -142,10 +137,7 @@ module _ {F : Frame} {q : Pair} {top : ℕ} {d x1 y1 : List ℕ} (g : BasisIn F 
                     (ρ .𝓥 .lead-unique (size-lead-at ρ lu s based-lu) (subst (λ m. ρ .𝓥 .Lead (row ρ u) m 0 (ρ .𝓥 .K .ops .𝟏)) (sym w) (u-lead (μ .prime))) ∙ sym (ρ .cast-one));
               }
 
-          module _ {mul lim : ℕ} (rdy : Ready (F .p) mul lim) {n1 n2 : ℕ} (s1 : Size x1 n1) (s2 : Size y1 n2) {x2 y2 : List ℕ} (e1 : Scaled (F .p) 2 x1 x2) (e2 : Scaled (F .p) 2 y1 y2) where
-            doubled : {x z : List ℕ} {n : ℕ} → Row (F .p) x → Size x n → Scaled (F .p) 2 x z → Size z n
-            doubled h s e = let μ = g .clear .some in scaled-size {c = 2} (rd μ) (λ z. μ .two (sym (cast-two (rd μ)) ∙ z)) h (e .is-row) (e .law (μ .prime)) s
-
+          module _ {mul lim : ℕ} (rdy : Ready (F .p) mul lim) {n1 n2 : ℕ} (s1 : Size x1 n1) (s2 : Size y1 n2) {x2 y2 : List ℕ} (e1 : ScaleOut (F .p) 2 x1 n1 x2) (e2 : ScaleOut (F .p) 2 y1 n2 y2) where
             -- an element with its polynomial part, over U
             element : {b c x : List ℕ} {s : ℕ} → s < F .p → Held F false top (point b c x) → ElementIn (F .p) mul lim top s b c x x2 n1 y2 n2 u lu
             element ls t =
@@ -170,10 +162,10 @@ module _ {F : Frame} {q : Pair} {top : ℕ} {d x1 y1 : List ℕ} (g : BasisIn F 
                   hx = t .hz;
                   low-b = omega arith;
                   low-c = omega arith;
-                  h1 = e1 .is-row;
-                  s1 = doubled (g .h1 .is-row) s1 e1;
-                  h2 = e2 .is-row;
-                  s2 = doubled (g .h2 .is-row) s2 e2;
+                  h1 = e1 .short;
+                  h2 = e2 .short;
+                  fits-1 = omega arith;
+                  fits-2 = omega arith;
                   room-b = omega arith;
                   room-c = omega arith;
                   monic = u-monic;
@@ -249,7 +241,7 @@ module _ {F : Frame} {q : Pair} {top : ℕ} {d x1 y1 : List ℕ} (g : BasisIn F 
                     solve-by (ρ .𝓥 .L) (var 0 :+ (var 1 :* var 3 :+ var 2 :* var 4)) (var 7 :* (var 8 :* var 9))
                     (hyp (var 8) ((one :+ one) :* var 0 :+ (var 1 :* var 5 :+ var 2 :* var 6)) (var 7 :* var 9) ∷ hyp (minus (var 8 :* var 1)) (var 5) ((one :+ one) :* var 3) ∷ hyp (minus (var 8 :* var 2)) (var 6) ((one :+ one) :* var 4)
                     ∷ hyp (minus (var 0 :+ (var 1 :* var 3 :+ var 2 :* var 4))) (var 8 :+ var 8) one ∷ []) tt
-                    (rowμ μ a₀ ∷ rowμ μ b₀ ∷ rowμ μ c₀ ∷ rowμ μ x1 ∷ rowμ μ y1 ∷ rowμ μ x2 ∷ rowμ μ y2 ∷ rowμ μ u ∷ h₂ ∷ e .k ∷ []) (e .framed, (twice e1, (twice e2, (half ρ (g .odd), tt))))
+                    (rowμ μ a₀ ∷ rowμ μ b₀ ∷ rowμ μ c₀ ∷ rowμ μ x1 ∷ rowμ μ y1 ∷ rowμ μ x2 ∷ rowμ μ y2 ∷ rowμ μ u ∷ h₂ ∷ e .k ∷ []) (e .framed, (twice (e1 .scaled), (twice (e2 .scaled), (half ρ (g .odd), tt))))
                     ∙ ap (λ y. ρ .𝓥 .L .ops .mul y (ρ .𝓥 .L .ops .mul h₂ (e .k))) (sym is-U)
 
                 half-poly : (z : Ser μ) → rd μ .𝓥 .IsPoly z → rd μ .𝓥 .IsPoly (rd μ .𝓥 .L .ops .mul h₂ z)

@@ -1,7 +1,6 @@
 pub mod Store
 pub mod Loads
 pub mod Two
-pub mod InPlace
 pub mod Place
 pub mod Levels
 pub mod Scales

@@ -1,5 +1,4 @@
 pub mod Store
-pub mod InPlace
 pub mod Levels
 pub mod Place
 pub mod Scales

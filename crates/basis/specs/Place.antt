@@ -1,6 +1,6 @@
 -- An element s (b r + c w) over u, put into three rows of the record from row i on.
 --   ElementIn     rows b, c, x for the element and the polynomial part of its X; the denominator u; polynomials x1, y1 that settle row 0;
---                 numbers: the lengths n1, n2, lu, and top, which bounds b, c and x
+--                 numbers: n1, n2 and top, before which x1, y1 and b, c, x end, and the length lu of u
 --   PlaceIn       the same, and the record is 0 from row i on
 --   PlacedAt      b₀ and c₀ are s b and s c; 2 a₀ is −(s b x1 + s c y1) modulo u, and 2 a₀ less s x lies below u
 --   Placed        the three rows of B′ are such, for a prime p; the rest of it is that of B
@@ -17,7 +17,7 @@ use Rattle.valued.specs.Degree.{Has, Lt}
 use Rattle.residue.specs.Residue.{Modulus}
 use Rattle.reading.specs.Reading.{Reading}
 use Rattle.reading.specs.Made.{reading}
-use Rattle.reading.specs.Row.{Row, Size, row}
+use Rattle.reading.specs.Row.{row}
 use Rattle.poly.specs.Terms.{Ready}
 use Rattle.record.specs.Record.{part}
 use Rattle.reduce.specs.Frame.{Short}
@@ -45,10 +45,10 @@ pub record ElementIn (p mul lim top s : ℕ) (b c x x1 : List ℕ) (n1 : ℕ) (y
   pub hx : Short p x top
   pub low-b : lb ≤ top
   pub low-c : lc ≤ top
-  pub h1 : Row p x1
-  pub s1 : Size x1 n1
-  pub h2 : Row p y1
-  pub s2 : Size y1 n2
+  pub h1 : Short p x1 n1
+  pub h2 : Short p y1 n2
+  pub fits-1 : n1 ≤ 32
+  pub fits-2 : n2 ≤ 32
   pub room-b : lb + n1 ≤ 33
   pub room-c : lc + n2 ≤ 33
   pub monic : Monic p u lu

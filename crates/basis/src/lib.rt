@@ -1,23 +1,22 @@
 // The basis record: seven rows of 17 coefficients, M0, M1, M2, N0, N1, N2, U. It starts as zeros and is filled row by row.
 use poly::Rapid;
+use poly::cross_in;
 use poly::rapid_of;
-use poly::rest;
-use poly::size;
+use poly::scale_in;
 use poly::size_from;
 use reduce::Bounds;
 use reduce::Pair;
 use reduce::lead_of;
 use reduce::reduced;
 use residue::inverse;
+use sized::both_in;
 use sized::mix_in;
 use sized::quotient_in;
 ghost use mathlib.Core.Path.{_≡_};
 ghost use Prim.Native.Nat.{_+_, _*_, _-_, _%_, _<_, _≤_};
-ghost use Rattle.poly.specs.Leaf.{Scaled};
 ghost use Rattle.reduce.specs.Given.{given};
 ghost use Rattle.basis.specs.Based.{BasisIn, Based};
 ghost use Rattle.basis.specs.First.{OrderIn, units, unit, nothing};
-ghost use Rattle.basis.specs.InPlace.{ScaleBy, HalveIn, Halved};
 ghost use Rattle.basis.specs.Levels.{LevelIn, Leveled};
 ghost use Rattle.basis.specs.Place.{PlaceIn, Placed, FillIn, Filled};
 ghost use Rattle.basis.specs.Scales.{ScalesIn, Scaling};
@@ -58,33 +57,6 @@ pub fn load(rows: &[u16; 119], i: usize) -> [u64; 32]
     r
 }
 
-// c x in place of x, which ends before n
-fn scale_in(p: u64, q: Rapid, c: u64, x: &mut [u64; 32], n: usize)
-    requires { ⌜ ScaleBy p (q .m) (q .lim) c (now x) n ⌝ }
-    ensures { λ _. ⌜ Scaled p c (now (x .entry)) (now (x .exit)) ⌝ }
-{
-    let mut i: usize = 0;
-    while i < n {
-        let v = rest(p, q, c * x[i]);
-        x[i] = v;
-        i += 1;
-    }
-}
-
-// Half of x - k in place of x, where both end before n
-fn halved(p: u64, q: Rapid, x: &mut [u64; 32], k: &[u64; 32], n: usize)
-    requires { ⌜ HalveIn p (q .m) (q .lim) (now x) (now k) n ⌝ }
-    ensures { λ _. ⌜ Halved p (now (x .entry)) (now (k .entry)) n (now (x .exit)) ⌝ }
-{
-    let h = (p + 1) / 2;
-    let mut i: usize = 0;
-    while i < n {
-        let v = rest(p, q, (x[i] + (p - k[i])) * h);
-        x[i] = v;
-        i += 1;
-    }
-}
-
 // Row 0 of an element over the denominator u, which leads with 1: half of x - (k mod u), in place of x
 fn level(
     p: u64,
@@ -102,7 +74,8 @@ fn level(
     let mut d: [u64; 32] = [0; 32];
     let l = quotient_in(p, q, k, n, u, lu, 1, &mut d);
     mix_in(p, q, true, &d, l, u, lu, k);
-    halved(p, q, x, k, top);
+    let h = (p + 1) / 2;
+    cross_in(p, q, h, x, h, 0, k, top);
 }
 
 // The factors by which U, m and n are scaled
@@ -155,9 +128,22 @@ fn placed(
     let nb = size_from(b, top);
     let nc = size_from(c, top);
     let mut k = *x;
-    mix_in(p, q, false, b, nb, x1, n1, &mut k);
-    mix_in(p, q, false, c, nc, y1, n2, &mut k);
-    let n = size(&k);
+    let n = both_in(
+        p,
+        q,
+        false,
+        b,
+        nb,
+        x1,
+        n1,
+        false,
+        c,
+        nc,
+        y1,
+        n2,
+        &mut k,
+        top,
+    );
     level(p, q, u, lu, &mut k, n, x, top);
     stored(rows, i, x, top);
     stored(rows, i + 1, b, top);

@@ -1,6 +1,8 @@
 -- `basis::level` meets its contract: `leveled`.
 use mathlib.Core.Path.{refl}
-use Rattle.basis.proofs.Levels.{level-divide, level-rest, leveled}
+use Prim.Native.Nat.{_<_}
+use native.Mathlib.Omega.{arith}
+use Rattle.basis.proofs.Levels.{level-divide, level-half, leveled}
 use Rattle.basis.proofs.level.Statement.{statement}
 use Rattle.basis.proofs.level.Tie as tie
 
@@ -15,13 +17,14 @@ mix-in-requires c κs =
     let o = c .before .before .quotient-in .ensures in
     record { modulus = g .modulus; ready = g .ready; hx = o .quotient .is-row; hy = g .monic .is-row; sx = o .size; sy = g .monic .size; fits = o .quotient .room _ _ (o .size) (g .monic .size); hr = g .hk }
 
-halved-requires : tie.Need-halved-requires
-halved-requires c κs =
-    let g = c .before .before .before .before .before .before .before .before .pre in
-    record { modulus = g .modulus; odd = g .odd; ready = g .ready; hx = g .hx; hk = level-rest g (c .before .before .before .before .before .quotient-in .ensures .quotient) (c .before .before .mix-in .ensures); fits = g .fits }
+add-h : tie.Need-add-h
+add-h c = let m : c .before .before .before .before .before .before .args .p < 2147483648 = c .before .before .before .before .before .before .pre .modulus .small in record { fits = omega arith }
+
+cross-in-requires : tie.Need-cross-in-requires
+cross-in-requires c κs = level-half (c .before .before .before .before .before .before .before .before .pre) (c .before .before .before .before .before .quotient-in .ensures .quotient) (c .before .before .mix-in .ensures)
 
 returns : tie.Need-returns
-returns c = leveled (c .before .before .before .before .before .before .before .before .before .pre) (c .before .before .before .before .before .before .quotient-in .ensures .quotient) (c .before .before .before .mix-in .ensures) (c .halved .ensures)
+returns c = leveled (c .before .before .before .before .before .before .before .before .before .pre) (c .before .before .before .before .before .before .quotient-in .ensures .quotient) (c .before .before .before .mix-in .ensures) (c .cross-in .ensures)
 
 pub level-spec : {M : Type 1} → statement M
-level-spec = tie.close (tie.spec quotient-in-requires mix-in-requires halved-requires returns)
+level-spec = tie.close (tie.spec quotient-in-requires mix-in-requires add-h cross-in-requires returns)

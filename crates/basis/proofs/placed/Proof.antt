@@ -1,7 +1,7 @@
 -- `basis::placed` meets its contract: the lemmas of Place.
 use Prim.Native.Nat.{ℕ, _+_, _<_}
 use native.Mathlib.Omega.{arith}
-use Rattle.basis.proofs.Place.{place-scale, place-b, place-c, place-first, place-second, place-level, place-0, place-1, place-2, placed}
+use Rattle.basis.proofs.Place.{place-scale, place-cut, place-both, place-level, place-0, place-1, place-2, placed}
 use Rattle.basis.proofs.placed.Statement.{statement}
 use Rattle.basis.proofs.placed.Tie as tie
 
@@ -15,40 +15,34 @@ scale-in-requires-3 : tie.Need-scale-in-requires-3
 scale-in-requires-3 c κs = place-scale (c .before .before .before .before .before .pre) (c .before .before .before .before .before .pre .inp .hx) (omega arith)
 
 size-from-requires : tie.Need-size-from-requires
-size-from-requires c κs = place-b (c .before .before .before .before .before .before .before .pre) (c .before .before .before .before .before .scale-in .ensures) (c .before .before .before .scale-in2 .ensures) (c .before .scale-in3 .ensures)
+size-from-requires c κs = place-cut (c .before .before .before .before .before .before .before .pre) (c .before .before .before .before .before .scale-in .ensures .short)
 
 size-from-requires-2 : tie.Need-size-from-requires-2
-size-from-requires-2 c κs = place-c (c .before .before .before .before .before .before .before .before .before .pre) (c .before .before .before .before .before .before .before .scale-in .ensures) (c .before .before .before .before .before .scale-in2 .ensures) (c .before .before .before .scale-in3 .ensures)
+size-from-requires-2 c κs = place-cut (c .before .before .before .before .before .before .before .before .before .pre) (c .before .before .before .before .before .scale-in2 .ensures .short)
 
-mix-in-requires : tie.Need-mix-in-requires
-mix-in-requires c κs = place-first (c .before .before .before .before .before .before .before .before .before .before .before .before .before .pre) (c .before .before .before .before .before .before .before .before .before .before .before .scale-in .ensures) (c .before .before .before .before .before .before .before .before .before .scale-in2 .ensures) (c .before .before .before .before .before .before .before .scale-in3 .ensures) (c .before .before .before .before .before .size-from .ensures)
-
-mix-in-requires-2 : tie.Need-mix-in-requires-2
-mix-in-requires-2 c κs = place-second (c .before .before .before .before .before .before .before .before .before .before .before .before .before .before .before .before .pre) (c .before .before .before .before .before .before .before .before .before .before .before .before .before .before .scale-in .ensures) (c .before .before .before .before .before .before .before .before .before .before .before .before .scale-in2 .ensures) (c .before .before .before .before .before .before .before .before .before .before .scale-in3 .ensures) (c .before .before .before .before .before .before .size-from2 .ensures) (c .before .before .mix-in .ensures .is-row)
-
-size-requires : tie.Need-size-requires
-size-requires c κs = c .before .mix-in2 .ensures .is-row .size
+both-in-requires : tie.Need-both-in-requires
+both-in-requires c κs = place-both (c .before .before .before .before .before .before .before .before .before .before .before .before .before .before .pre) (c .before .before .before .before .before .before .before .before .before .before .before .before .scale-in .ensures) (c .before .before .before .before .before .before .before .before .before .before .scale-in2 .ensures) (c .before .before .before .before .before .before .before .before .scale-in3 .ensures) (c .before .before .before .before .before .before .size-from .ensures) (c .before .before .before .before .size-from2 .ensures)
 
 level-requires : tie.Need-level-requires
-level-requires c κs = place-level (c .before .before .before .before .before .before .before .before .before .before .before .before .before .before .before .before .before .before .before .before .before .pre) (c .before .before .before .before .before .before .before .before .before .before .before .before .before .before .before .before .before .before .before .scale-in .ensures) (c .before .before .before .before .before .before .before .before .before .before .before .before .before .before .before .before .before .scale-in2 .ensures) (c .before .before .before .before .before .before .before .before .before .before .before .before .before .before .before .scale-in3 .ensures) (c .before .before .before .before .before .before .before .mix-in .ensures) (c .before .before .before .before .mix-in2 .ensures) (c .before .before .size .ensures)
+level-requires c κs = place-level (c .before .before .before .before .before .before .before .before .before .before .before .before .before .before .before .before .before .pre) (c .before .before .before .before .before .before .before .before .before .before .before .before .before .before .before .scale-in .ensures) (c .before .before .before .before .before .before .before .before .before .before .before .before .before .scale-in2 .ensures) (c .before .before .before .before .before .before .before .before .before .before .before .scale-in3 .ensures) (c .before .before .both-in .ensures)
 
 stored-requires : tie.Need-stored-requires
-stored-requires c κs = place-0 (c .before .before .before .before .before .before .before .before .before .before .before .before .before .before .before .before .before .before .before .before .before .before .before .before .pre) (c .before .before .before .before .before .before .before .before .before .before .before .before .before .before .before .before .before .before .before .before .before .before .scale-in .ensures) (c .before .before .before .before .before .before .before .before .before .before .before .before .before .before .before .before .before .before .before .before .scale-in2 .ensures) (c .before .before .before .before .before .before .before .before .before .before .before .before .before .before .before .before .before .before .scale-in3 .ensures) (c .before .before .before .before .before .before .before .before .before .before .mix-in .ensures) (c .before .before .before .before .before .before .before .mix-in2 .ensures) (c .before .before .level .ensures)
+stored-requires c κs = place-0 (c .before .before .before .before .before .before .before .before .before .before .before .before .before .before .before .before .before .before .before .before .pre) (c .before .before .before .before .before .before .before .before .before .before .before .before .before .before .before .before .before .before .scale-in .ensures) (c .before .before .before .before .before .before .before .before .before .before .before .before .before .before .before .before .scale-in2 .ensures) (c .before .before .before .before .before .before .before .before .before .before .before .before .before .before .scale-in3 .ensures) (c .before .before .before .before .before .both-in .ensures) (c .before .before .level .ensures)
 
 add-stored : tie.Need-add-stored
-add-stored c = let l : c .before .before .before .before .before .before .before .before .before .before .before .before .before .before .before .before .before .before .before .before .before .before .before .before .before .before .args .i + 2 < 7 = c .before .before .before .before .before .before .before .before .before .before .before .before .before .before .before .before .before .before .before .before .before .before .before .before .before .before .pre .at in record { fits = omega arith }
+add-stored c = let l : c .before .before .before .before .before .before .before .before .before .before .before .before .before .before .before .before .before .before .before .before .before .before .args .i + 2 < 7 = c .before .before .before .before .before .before .before .before .before .before .before .before .before .before .before .before .before .before .before .before .before .before .pre .at in record { fits = omega arith }
 
 stored-requires-2 : tie.Need-stored-requires-2
-stored-requires-2 c κs = place-1 (c .before .before .before .before .before .before .before .before .before .before .before .before .before .before .before .before .before .before .before .before .before .before .before .before .before .before .before .pre) (c .before .before .before .before .before .before .before .before .before .before .before .before .before .before .before .before .before .before .before .before .before .before .before .before .before .scale-in .ensures) (c .before .before .before .before .before .before .before .before .before .before .before .before .before .before .before .before .before .before .before .before .before .before .before .scale-in2 .ensures) (c .before .before .before .before .before .before .before .before .before .before .before .before .before .before .before .before .before .before .before .before .before .scale-in3 .ensures) (c .before .before .before .before .before .before .before .before .before .before .before .before .before .mix-in .ensures) (c .before .before .before .before .before .before .before .before .before .before .mix-in2 .ensures) (c .before .before .before .before .before .level .ensures) (c .before .before .stored .ensures)
+stored-requires-2 c κs = place-1 (c .before .before .before .before .before .before .before .before .before .before .before .before .before .before .before .before .before .before .before .before .before .before .before .pre) (c .before .before .before .before .before .before .before .before .before .before .before .before .before .before .before .before .before .before .before .before .before .scale-in .ensures) (c .before .before .before .before .before .before .before .before .before .before .before .before .before .before .before .before .before .before .before .scale-in2 .ensures) (c .before .before .before .before .before .before .before .before .before .before .before .before .before .before .before .before .before .scale-in3 .ensures) (c .before .before .before .before .before .before .before .before .both-in .ensures) (c .before .before .before .before .before .level .ensures) (c .before .before .stored .ensures)
 
 add-stored-2 : tie.Need-add-stored-2
-add-stored-2 c = let l : c .before .before .before .before .before .before .before .before .before .before .before .before .before .before .before .before .before .before .before .before .before .before .before .before .before .before .before .before .before .args .i + 2 < 7 = c .before .before .before .before .before .before .before .before .before .before .before .before .before .before .before .before .before .before .before .before .before .before .before .before .before .before .before .before .before .pre .at in record { fits = omega arith }
+add-stored-2 c = let l : c .before .before .before .before .before .before .before .before .before .before .before .before .before .before .before .before .before .before .before .before .before .before .before .before .before .args .i + 2 < 7 = c .before .before .before .before .before .before .before .before .before .before .before .before .before .before .before .before .before .before .before .before .before .before .before .before .before .pre .at in record { fits = omega arith }
 
 stored-requires-3 : tie.Need-stored-requires-3
-stored-requires-3 c κs = place-2 (c .before .before .before .before .before .before .before .before .before .before .before .before .before .before .before .before .before .before .before .before .before .before .before .before .before .before .before .before .before .before .pre) (c .before .before .before .before .before .before .before .before .before .before .before .before .before .before .before .before .before .before .before .before .before .before .before .before .before .before .before .before .scale-in .ensures) (c .before .before .before .before .before .before .before .before .before .before .before .before .before .before .before .before .before .before .before .before .before .before .before .before .before .before .scale-in2 .ensures) (c .before .before .before .before .before .before .before .before .before .before .before .before .before .before .before .before .before .before .before .before .before .before .before .before .scale-in3 .ensures) (c .before .before .before .before .before .before .before .before .before .before .before .before .before .before .before .before .mix-in .ensures) (c .before .before .before .before .before .before .before .before .before .before .before .before .before .mix-in2 .ensures) (c .before .before .before .before .before .before .before .before .level .ensures) (c .before .before .before .before .before .stored .ensures) (c .before .before .stored2 .ensures)
+stored-requires-3 c κs = place-2 (c .before .before .before .before .before .before .before .before .before .before .before .before .before .before .before .before .before .before .before .before .before .before .before .before .before .before .pre) (c .before .before .before .before .before .before .before .before .before .before .before .before .before .before .before .before .before .before .before .before .before .before .before .before .scale-in .ensures) (c .before .before .before .before .before .before .before .before .before .before .before .before .before .before .before .before .before .before .before .before .before .before .scale-in2 .ensures) (c .before .before .before .before .before .before .before .before .before .before .before .before .before .before .before .before .before .before .before .before .scale-in3 .ensures) (c .before .before .before .before .before .before .before .before .before .before .before .both-in .ensures) (c .before .before .before .before .before .before .before .before .level .ensures) (c .before .before .before .before .before .stored .ensures) (c .before .before .stored2 .ensures)
 
 returns : tie.Need-returns
-returns c = placed (c .before .before .before .before .before .before .before .before .before .before .before .before .before .before .before .before .before .before .before .before .before .before .before .before .before .before .before .before .before .before .before .pre) (c .before .before .before .before .before .before .before .before .before .before .before .before .before .before .before .before .before .before .before .before .before .before .before .before .before .before .before .before .before .scale-in .ensures) (c .before .before .before .before .before .before .before .before .before .before .before .before .before .before .before .before .before .before .before .before .before .before .before .before .before .before .before .scale-in2 .ensures) (c .before .before .before .before .before .before .before .before .before .before .before .before .before .before .before .before .before .before .before .before .before .before .before .before .before .scale-in3 .ensures) (c .before .before .before .before .before .before .before .before .before .before .before .before .before .before .before .before .before .mix-in .ensures) (c .before .before .before .before .before .before .before .before .before .before .before .before .before .before .mix-in2 .ensures) (c .before .before .before .before .before .before .before .before .before .level .ensures) (c .before .before .before .before .before .before .stored .ensures) (c .before .before .before .stored2 .ensures) (c .stored3 .ensures)
+returns c = placed (c .before .before .before .before .before .before .before .before .before .before .before .before .before .before .before .before .before .before .before .before .before .before .before .before .before .before .before .pre) (c .before .before .before .before .before .before .before .before .before .before .before .before .before .before .before .before .before .before .before .before .before .before .before .before .before .scale-in .ensures) (c .before .before .before .before .before .before .before .before .before .before .before .before .before .before .before .before .before .before .before .before .before .before .before .scale-in2 .ensures) (c .before .before .before .before .before .before .before .before .before .before .before .before .before .before .before .before .before .before .before .before .before .scale-in3 .ensures) (c .before .before .before .before .before .before .before .before .before .before .before .before .both-in .ensures) (c .before .before .before .before .before .before .before .before .before .level .ensures) (c .before .before .before .before .before .before .stored .ensures) (c .before .before .before .stored2 .ensures) (c .stored3 .ensures)
 
 pub placed-spec : {M : Type 1} → statement M
 placed-spec =
@@ -59,9 +53,7 @@ placed-spec =
     scale-in-requires-3
     size-from-requires
     size-from-requires-2
-    mix-in-requires
-    mix-in-requires-2
-    size-requires
+    both-in-requires
     level-requires
     stored-requires
     add-stored
