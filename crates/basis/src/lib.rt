@@ -225,7 +225,6 @@ pub fn reduced_basis(
     ensures { λ o. ⌜ Based (given f (now (r .entry)) (now (w .entry))) q (now (d .entry)) (now (x1 .entry)) (now (y1 .entry)) o ⌝ }
 {
     let p = f.p;
-    let top = f.top;
     let fast = rapid_of(p);
     let lu = size_from(d, 17);
     let o = reduced(f, r, w, q, lu);
@@ -249,7 +248,7 @@ pub fn reduced_basis(
     filled(
         p,
         fast,
-        top,
+        f.top,
         k,
         &mut mb,
         &mut mc,
