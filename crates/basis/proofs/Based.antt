@@ -29,9 +29,7 @@ use Rattle.sized.proofs.Mixing.{size-cut}
 use Rattle.record.specs.Record.{part}
 use Rattle.reduce.specs.Frame.{Frame, Meaning, Short, Held, point, rd, Ser, rowμ, pt, X, Y, Ltμ, Hasμ}
 use Rattle.reduce.specs.Leaves.{PartIn, Led}
-use Rattle.reduce.specs.Clear.{ClearIn, Reduced, Movedμ}
-use Rattle.reduce.specs.declared.Pair.{Pair}
-use Rattle.reduce.specs.declared.Ends.{Ends}
+use Rattle.reduce.specs.Clear.{Pair, Ends, ClearIn, Reduced, Movedμ}
 use Rattle.basis.specs.declared.Factors.{Factors}
 use Rattle.reduce.proofs.Laid.{zeros-at}
 use Rattle.reduce.proofs.Clearing.{part-in, rows-of}

@@ -1,6 +1,6 @@
 -- The order: the demands of the reduction hold for r and w, and its record is the basis of the order of an accepted field.
 --   unit-is, nothing-is   the polynomials of the two rows
---   order-in              what `order` asks of its callee
+--   order-in, order-by    what `order` asks of its callee
 --   order-start           the theorem
 use mathlib.Core.Path.{_≡_, refl, sym, ap, ap₂, _∙_}
 use mathlib.Core.List.{List, [], _∷_}
@@ -16,10 +16,11 @@ use Rattle.reading.specs.Reading.{Reading}
 use Rattle.reading.specs.Row.{Row, Size, row, psum, tpow}
 use Rattle.reading.proofs.Rows.{row-cut}
 use Rattle.turn.specs.Points.{Pt}
+use Rattle.poly.specs.Terms.{Ready}
 use Rattle.reduce.specs.Frame.{Frame, Meaning, Short, rd, Ser, pt, X, Y, D, Hasμ}
 use Rattle.reduce.specs.Clear.{ClearIn, Room, Rows}
 use Rattle.reduce.proofs.Laid.{zeros-at, zeros-row, zeros-size}
-use Rattle.basis.specs.Based.{BasisIn}
+use Rattle.basis.specs.Based.{BasisIn, BasisBy}
 use Rattle.basis.specs.First.{unit, nothing, units, OrderIn}
 
 -- ---- the rows of 1 and 0
@@ -110,3 +111,6 @@ module _ {F : Frame} {top : ℕ} (i : OrderIn F top) where
               ∙ ap₂ (λ x y. D μ x y) (sym at-m) (sym at-n))) (omega arith);
         };
       }
+
+  pub order-by : {mul lim : ℕ} → Ready (F .p) mul lim → BasisBy F mul lim units top unit 1 nothing 0 nothing 0
+  order-by r = record { inp = order-in; ready = r; size = unit-size; size-1 = zeros-size; size-2 = zeros-size }

@@ -25,7 +25,7 @@ use Rattle.chain.proofs.Moved.{changed-of}
 use Rattle.chain.proofs.Correct.{Ends, order-correct}
 use Rattle.record.specs.Record.{part, setting, polyOf, basisOf}
 use Rattle.reduce.specs.Frame.{Frame, frame, Meaning, pt}
-use Rattle.reduce.specs.declared.Pair as reduced
+use Rattle.reduce.specs.Clear as reduced
 use Rattle.basis.specs.Based.{BasedAt, Based, Mpt, Npt, at}
 use Rattle.basis.specs.First.{unit, nothing, units}
 use Rattle.basis.proofs.First.{unit-is, nothing-is}

@@ -1,9 +1,11 @@
 -- The scaled basis that the reduction of two elements over a denominator gives, as a record.
 --   BasisIn F q top d x1 y1   two elements within the bounds of the reduction, the denominator d, and the polynomials x1, y1: the element
 --                             of the lattice over b r + c w has the first coordinate −(b x1 + c y1) modulo d
+--   BasisBy, BasisOn          the same for code: with the lengths, what a quick remainder needs, and rows for the polynomial parts
 --   M, N, U of a record B     its rows, as series
 --   BasedAt                   the inequalities of a reduced basis, in numbers; the scaling; M and N span what q does; row 0 is as above
 --   Based                     the same at each meaning of the series
+--   FinishIn, Finished        from a pair o that the reduction made: Based for every q that it is the reduction of
 use mathlib.Core.Path.{_≡_}
 use mathlib.Core.Logic.{_≢_}
 use mathlib.Core.List.{List}
@@ -14,10 +16,10 @@ use Rattle.valued.specs.Val.{Valued}
 use Rattle.reading.specs.Reading.{Reading}
 use Rattle.reading.specs.Row.{Size}
 use Rattle.turn.specs.Points.{Pt, Moved}
+use Rattle.poly.specs.Terms.{Ready}
 use Rattle.record.specs.Record.{part}
 use Rattle.reduce.specs.Frame.{Frame, Meaning, Short, rd, Ser, rowμ, pt, X, Y, Ltμ}
-use Rattle.reduce.specs.Clear.{ClearIn}
-use Rattle.reduce.specs.declared.Pair.{Pair}
+use Rattle.reduce.specs.Clear.{Pair, Ends, ClearIn, Reduced}
 use Rattle.basis.specs.Place.{off}
 
 pub record BasisIn (F : Frame) (q : Pair) (top : ℕ) (d x1 y1 : List ℕ) : Type 0 where
@@ -30,6 +32,20 @@ pub record BasisIn (F : Frame) (q : Pair) (top : ℕ) (d x1 y1 : List ℕ) : Typ
   pub u : ℕ
   pub d-size : Size d (suc u)
   pub clear : ClearIn F q top (suc u)
+
+-- the same with what a quick remainder needs, and the lengths of d, x1 and y1
+pub record BasisBy (F : Frame) (mul lim : ℕ) (q : Pair) (top : ℕ) (d : List ℕ) (lu : ℕ) (x1 : List ℕ) (n1 : ℕ) (y1 : List ℕ) (n2 : ℕ) : Type 0 where
+  pub inp : BasisIn F q top d x1 y1
+  pub ready : Ready (F .p) mul lim
+  pub size : Size d lu
+  pub size-1 : Size x1 n1
+  pub size-2 : Size y1 n2
+
+-- the same with the rows that X(m), X(n) go into
+pub record BasisOn (F : Frame) (mul lim : ℕ) (q : Pair) (top : ℕ) (d : List ℕ) (lu : ℕ) (x1 : List ℕ) (n1 : ℕ) (y1 : List ℕ) (n2 : ℕ) (mx nx : List ℕ) : Type 0 where
+  pub by : BasisBy F mul lim q top d lu x1 n1 y1 n2
+  pub hmx : Short (F .p) mx top
+  pub hnx : Short (F .p) nx top
 
 module _ {F : Frame} (μ : Meaning F) where
   -- 2a − b r − c w
@@ -76,3 +92,12 @@ pub record Based (F : Frame) (q : Pair) (d x1 y1 B : List ℕ) : Type 0 where
   pub size : length B ≡ 119
   pub each : (k : ℕ) → getD B k 0 < F .p
   pub meant : (μ : Meaning F) → BasedAt μ q d x1 y1 B
+
+-- ---- from a reduced pair o on
+pub record FinishIn (F : Frame) (mul lim top : ℕ) (o : Ends) (d : List ℕ) (lu : ℕ) (x1 : List ℕ) (n1 : ℕ) (y1 : List ℕ) (n2 : ℕ) : Type 0 where
+  pub q : Pair
+  pub by : BasisBy F mul lim q top d lu x1 n1 y1 n2
+  pub from : Reduced F q top lu o
+
+pub record Finished (F : Frame) (top : ℕ) (o : Ends) (d : List ℕ) (lu : ℕ) (x1 y1 B : List ℕ) : Type 0 where
+  pub each : {q : Pair} → BasisIn F q top d x1 y1 → Size d lu → Reduced F q top lu o → Based F q d x1 y1 B

@@ -8,7 +8,7 @@ use mathlib.Core.List.{List}
 use Prim.Native.Nat.{ℕ, suc, _+_, _%_, _≤_}
 use lib.ListN.{set, replicate}
 use Rattle.reduce.specs.Frame.{Frame, Fine, Meaning}
-use Rattle.reduce.specs.declared.Pair.{Pair}
+use Rattle.reduce.specs.Clear.{Pair, pair}
 
 abbrev pub nothing : List ℕ
 nothing = replicate 32 0
@@ -17,7 +17,7 @@ abbrev pub unit : List ℕ
 unit = set (replicate 32 0) 0 1
 
 abbrev pub units : Pair
-units = record { mb = unit; mc = nothing; nb = nothing; nc = unit }
+units = pair unit nothing nothing unit
 
 pub record OrderIn (F : Frame) (top : ℕ) : Type 0 where
   pub fine : Fine F

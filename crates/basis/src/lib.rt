@@ -5,7 +5,6 @@ use poly::rapid_of;
 use poly::scale_in;
 use poly::size_from;
 use reduce::Bounds;
-use reduce::Pair;
 use reduce::lead_of;
 use reduce::reduced;
 use residue::inverse;
@@ -15,7 +14,8 @@ use sized::quotient_in;
 ghost use mathlib.Core.Path.{_≡_};
 ghost use Prim.Native.Nat.{_+_, _*_, _-_, _%_, _<_, _≤_};
 ghost use Rattle.reduce.specs.Given.{given};
-ghost use Rattle.basis.specs.Based.{BasisIn, Based};
+ghost use Rattle.reduce.specs.Clear.{pair, ends};
+ghost use Rattle.basis.specs.Based.{BasisBy, BasisOn, Based, FinishIn, Finished};
 ghost use Rattle.basis.specs.First.{OrderIn, units, unit, nothing};
 ghost use Rattle.basis.specs.Levels.{LevelIn, Leveled};
 ghost use Rattle.basis.specs.Place.{PlaceIn, Placed, FillIn, Filled};
@@ -211,57 +211,109 @@ fn filled(
     rows
 }
 
-// The scaled basis of the lattice of 1 and of the elements over q by the denominator d
-pub fn reduced_basis(
+// The scaled basis from a reduced pair m, n on, with l the length of X(m): all rows are scaled in place.
+fn finished(
     f: Bounds,
+    q: Rapid,
     r: &[u64; 32],
     w: &[u64; 32],
-    q: Pair,
-    d: &[u64; 32],
-    x1: &[u64; 32],
-    y1: &[u64; 32],
+    mb: &mut [u64; 32],
+    mc: &mut [u64; 32],
+    mx: &mut [u64; 32],
+    nb: &mut [u64; 32],
+    nc: &mut [u64; 32],
+    nx: &mut [u64; 32],
+    l: usize,
+    d: &mut [u64; 32],
+    lu: usize,
+    x1: &mut [u64; 32],
+    n1: usize,
+    y1: &mut [u64; 32],
+    n2: usize,
 ) -> [u16; 119]
-    requires { ⌜ BasisIn (given f (now r) (now w)) q (f .top) (now d) (now x1) (now y1) ⌝ }
-    ensures { λ o. ⌜ Based (given f (now (r .entry)) (now (w .entry))) q (now (d .entry)) (now (x1 .entry)) (now (y1 .entry)) o ⌝ }
+    requires { ⌜ FinishIn (given f (now r) (now w)) (q .m) (q .lim) (f .top) (ends (now mb) (now mc) (now mx) (now nb) (now nc) (now nx) l) (now d) lu (now x1) n1 (now y1) n2 ⌝ }
+    ensures { λ o. ⌜ Finished (given f (now (r .entry)) (now (w .entry))) (f .top) (ends (now (mb .entry)) (now (mc .entry)) (now (mx .entry)) (now (nb .entry)) (now (nc .entry)) (now (nx .entry)) l) (now (d .entry)) lu (now (x1 .entry)) (now (y1 .entry)) o ⌝ }
 {
     let p = f.p;
-    let fast = rapid_of(p);
-    let lu = size_from(d, 17);
-    let o = reduced(f, r, w, q, lu);
-    let mut mb = o.mb;
-    let mut mc = o.mc;
-    let mut mx = o.mx;
-    let mut nb = o.nb;
-    let mut nc = o.nc;
-    let mut nx = o.nx;
-    let lx = o.lx;
-    let y = lead_of(f, true, &nb, &nc, r, w);
-    let k = factors_of(p, d[lu - 1], mx[lx - 1], y);
-    let mut u = *d;
-    let mut x2 = *x1;
-    let mut y2 = *y1;
-    let n1 = size_from(x1, f.dr + 1);
-    let n2 = size_from(y1, f.dw + 1);
-    scale_in(p, fast, k.u, &mut u, lu);
-    scale_in(p, fast, 2, &mut x2, n1);
-    scale_in(p, fast, 2, &mut y2, n2);
-    filled(
-        p,
-        fast,
-        f.top,
-        k,
-        &mut mb,
-        &mut mc,
+    let top = f.top;
+    let y = lead_of(f, q, true, nb, nc, r, w);
+    let k = factors_of(p, d[lu - 1], mx[l - 1], y);
+    scale_in(p, q, k.u, d, lu);
+    scale_in(p, q, 2, x1, n1);
+    scale_in(p, q, 2, y1, n2);
+    filled(p, q, top, k, mb, mc, mx, nb, nc, nx, x1, n1, y1, n2, d, lu)
+}
+
+// The scaled basis of the lattice of 1 and of the elements over m, n by the denominator d; the polynomial parts of X go into mx and nx.
+fn basis_in(
+    f: Bounds,
+    q: Rapid,
+    r: &[u64; 32],
+    w: &[u64; 32],
+    mb: &mut [u64; 32],
+    mc: &mut [u64; 32],
+    mx: &mut [u64; 32],
+    nb: &mut [u64; 32],
+    nc: &mut [u64; 32],
+    nx: &mut [u64; 32],
+    d: &mut [u64; 32],
+    lu: usize,
+    x1: &mut [u64; 32],
+    n1: usize,
+    y1: &mut [u64; 32],
+    n2: usize,
+) -> [u16; 119]
+    requires { ⌜ BasisOn (given f (now r) (now w)) (q .m) (q .lim) (pair (now mb) (now mc) (now nb) (now nc)) (f .top) (now d) lu (now x1) n1 (now y1) n2 (now mx) (now nx) ⌝ }
+    ensures { λ o. ⌜ Based (given f (now (r .entry)) (now (w .entry))) (pair (now (mb .entry)) (now (mc .entry)) (now (nb .entry)) (now (nc .entry))) (now (d .entry)) (now (x1 .entry)) (now (y1 .entry)) o ⌝ }
+{
+    let o = reduced(f, q, r, w, mb, mc, mx, nb, nc, nx, lu);
+    let l = o.l;
+    if o.swap {
+        finished(f, q, r, w, nb, nc, nx, mb, mc, mx, l, d, lu, x1, n1, y1, n2)
+    } else {
+        finished(f, q, r, w, mb, mc, mx, nb, nc, nx, l, d, lu, x1, n1, y1, n2)
+    }
+}
+
+// The same with rows of its own for the polynomial parts
+pub fn reduced_basis(
+    f: Bounds,
+    q: Rapid,
+    r: &[u64; 32],
+    w: &[u64; 32],
+    mb: &mut [u64; 32],
+    mc: &mut [u64; 32],
+    nb: &mut [u64; 32],
+    nc: &mut [u64; 32],
+    d: &mut [u64; 32],
+    lu: usize,
+    x1: &mut [u64; 32],
+    n1: usize,
+    y1: &mut [u64; 32],
+    n2: usize,
+) -> [u16; 119]
+    requires { ⌜ BasisBy (given f (now r) (now w)) (q .m) (q .lim) (pair (now mb) (now mc) (now nb) (now nc)) (f .top) (now d) lu (now x1) n1 (now y1) n2 ⌝ }
+    ensures { λ o. ⌜ Based (given f (now (r .entry)) (now (w .entry))) (pair (now (mb .entry)) (now (mc .entry)) (now (nb .entry)) (now (nc .entry))) (now (d .entry)) (now (x1 .entry)) (now (y1 .entry)) o ⌝ }
+{
+    let mut mx: [u64; 32] = [0; 32];
+    let mut nx: [u64; 32] = [0; 32];
+    basis_in(
+        f,
+        q,
+        r,
+        w,
+        mb,
+        mc,
         &mut mx,
-        &mut nb,
-        &mut nc,
+        nb,
+        nc,
         &mut nx,
-        &x2,
-        n1,
-        &y2,
-        n2,
-        &u,
+        d,
         lu,
+        x1,
+        n1,
+        y1,
+        n2,
     )
 }
 
@@ -270,14 +322,29 @@ pub fn order(f: Bounds, r: &[u64; 32], w: &[u64; 32]) -> [u16; 119]
     requires { ⌜ OrderIn (given f (now r) (now w)) (f .top) ⌝ }
     ensures { λ o. ⌜ Based (given f (now (r .entry)) (now (w .entry))) units unit nothing nothing o ⌝ }
 {
-    let z: [u64; 32] = [0; 32];
-    let mut one: [u64; 32] = [0; 32];
-    one[0] = 1;
-    let q = Pair {
-        mb: one,
-        mc: z,
-        nb: z,
-        nc: one,
-    };
-    reduced_basis(f, r, w, q, &one, &z, &z)
+    let fast = rapid_of(f.p);
+    let mut mb: [u64; 32] = [0; 32];
+    mb[0] = 1;
+    let mut nc = mb;
+    let mut d = mb;
+    let mut mc: [u64; 32] = [0; 32];
+    let mut nb: [u64; 32] = [0; 32];
+    let mut x: [u64; 32] = [0; 32];
+    let mut y: [u64; 32] = [0; 32];
+    reduced_basis(
+        f,
+        fast,
+        r,
+        w,
+        &mut mb,
+        &mut mc,
+        &mut nb,
+        &mut nc,
+        &mut d,
+        1,
+        &mut x,
+        0,
+        &mut y,
+        0,
+    )
 }

@@ -1,17 +1,20 @@
--- `basis::order` meets its contract: `order-in`.
+-- `basis::order` meets its contract: `order-by`.
 use borrow.Author.Needs.{needs}
-use Rattle.basis.proofs.First.{order-in}
+use Rattle.basis.proofs.First.{order-by}
 use Rattle.basis.proofs.order.Statement.{statement}
 use Rattle.basis.proofs.order.Tie as tie
 
-array-write-one : tie.Need-array-write-one
-array-write-one c = search needs
+rapid-of-requires : tie.Need-rapid-of-requires
+rapid-of-requires c κs = c .pre .fine .modulus
+
+array-write-mb : tie.Need-array-write-mb
+array-write-mb c = search needs
 
 reduced-basis-requires : tie.Need-reduced-basis-requires
-reduced-basis-requires c κs = order-in (c .before .before .before .pre)
+reduced-basis-requires c κs = order-by (c .before .before .before .before .before .before .before .before .pre) (c .before .before .before .before .before .before .before .rapid-of .ensures)
 
 returns : tie.Need-returns
-returns c = search needs
+returns c = c .reduced-basis .ensures
 
 pub order-spec : {M : Type 1} → statement M
-order-spec = tie.close (tie.spec array-write-one reduced-basis-requires returns)
+order-spec = tie.close (tie.spec rapid-of-requires array-write-mb reduced-basis-requires returns)
