@@ -49,20 +49,20 @@ sub-divided c = lead-low (c .before .before .before .before .before .before .bef
 divided-requires : tie.Need-divided-requires
 divided-requires c κs = divided-in (c .before .before .before .before .before .before .before .before .before .before .before .before .before .before .before .before .before .before .before .pre) (seven-loaded (c .before .before .before .before .before .before .before .before .before .before .before .before)) _ (c .before .before .before .before .before .before .before .lead .ensures)
 
-add-t44 : tie.Need-add-t44
-add-t44 c = omega (arith, n-small (c .before .before .before .before .before .before .before .before .before .before .before .before .before .before .before .before .before .before .before .before .before .before .before .before .before .before .before .pre) (seven-loaded (c .before .before .before .before .before .before .before .before .before .before .before .before .before .before .before .before .before .before .before .before)))
+add-t36 : tie.Need-add-t36
+add-t36 c = omega (arith, n-small (c .before .before .before .before .before .before .before .before .before .before .before .before .before .before .before .before .before .before .before .before .pre) (seven-loaded (c .before .before .before .before .before .before .before .before .before .before .before .before .before)))
 
-sub-t45 : tie.Need-sub-t45
-sub-t45 c = omega (arith, cut-fits (c .before .before .before .before .before .before .before .before .before .before .before .before .before .before .before .before .before .before .before .before .before .before .before .before .before .before .before .pre) (seven-loaded (c .before .before .before .before .before .before .before .before .before .before .before .before .before .before .before .before .before .before .before .before)) (c .before .before .before .before .before .before .before .divided .ensures))
+sub-t37 : tie.Need-sub-t37
+sub-t37 c = omega (arith, cut-fits (c .before .before .before .before .before .before .before .before .before .before .before .before .before .before .before .before .before .before .before .before .pre) (seven-loaded (c .before .before .before .before .before .before .before .before .before .before .before .before .before)) (c .divided .ensures))
 
-reduced-basis-requires : tie.Need-reduced-basis-requires
-reduced-basis-requires c κs = reduced-in (c .before .before .before .before .before .before .before .before .before .before .before .before .before .before .before .before .before .before .before .before .before .before .before .before .before .before .before .before .before .before .pre) (seven-loaded (c .before .before .before .before .before .before .before .before .before .before .before .before .before .before .before .before .before .before .before .before .before .before .before)) (c .before .before .before .before .before .before .before .before .before .before .divided .ensures)
+basis-of-requires : tie.Need-basis-of-requires
+basis-of-requires c κs = reduced-in (c .before .before .before .before .before .before .before .before .before .before .before .before .before .before .before .before .before .before .before .before .pre) (seven-loaded (c .before .before .before .before .before .before .before .before .before .before .before .before .before)) (c .divided .ensures)
 
-sub-t44 : tie.Need-sub-t44
-sub-t44 c = shorter (c .before .before .before .before .before .before .before .before .before .before .before .before .before .before .before .before .before .before .before .before .before .before .before .before .before .before .before .before .before .before .before .pre) (seven-loaded (c .before .before .before .before .before .before .before .before .before .before .before .before .before .before .before .before .before .before .before .before .before .before .before .before)) _ _ (c .before .before .before .before .before .before .before .before .before .before .before .before .before .before .before .before .before .before .before .before .before .before .size .ensures) (c .before .before .before .before .before .before .before .before .before .before .before .before .before .before .before .before .before .before .before .before .size2 .ensures)
+sub-t36 : tie.Need-sub-t36
+sub-t36 c = shorter (c .before .before .before .before .before .before .before .before .before .before .before .before .before .before .before .before .before .before .before .before .before .pre) (seven-loaded (c .before .before .before .before .before .before .before .before .before .before .before .before .before .before)) _ _ (c .before .before .before .before .before .before .before .before .before .before .before .before .size .ensures) (c .before .before .before .before .before .before .before .before .before .before .size2 .ensures)
 
 returns : tie.Need-returns
-returns c = advanced-of (c .before .before .before .before .before .before .before .before .before .before .before .before .before .before .before .before .before .before .before .before .before .before .before .before .before .before .before .before .before .before .before .pre) (seven-loaded (c .before .before .before .before .before .before .before .before .before .before .before .before .before .before .before .before .before .before .before .before .before .before .before .before)) (c .before .before .before .before .before .before .before .before .before .before .before .divided .ensures) _ _ (c .before .before .before .before .before .before .before .before .before .before .before .before .before .before .before .before .before .before .before .before .before .before .size .ensures) (c .before .before .before .before .before .before .before .before .before .before .before .before .before .before .before .before .before .before .before .before .size2 .ensures) _ (c .reduced-basis .ensures) refl
+returns c = advanced-of (c .before .before .before .before .before .before .before .before .before .before .before .before .before .before .before .before .before .before .before .before .before .pre) (seven-loaded (c .before .before .before .before .before .before .before .before .before .before .before .before .before .before)) (c .before .divided .ensures) _ _ (c .before .before .before .before .before .before .before .before .before .before .before .before .size .ensures) (c .before .before .before .before .before .before .before .before .before .before .size2 .ensures) _ (c .basis-of .ensures) refl
 
 pub advanced-spec : {M : Type 1} → statement M
 advanced-spec =
@@ -80,8 +80,8 @@ advanced-spec =
     lead-requires
     sub-divided
     divided-requires
-    add-t44
-    sub-t45
-    reduced-basis-requires
-    sub-t44
+    add-t36
+    sub-t37
+    basis-of-requires
+    sub-t36
     returns)
