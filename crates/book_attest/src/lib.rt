@@ -2,6 +2,8 @@
 //
 // No buffer is lent, so the lists stand in arrays of their greatest lengths: 13 coefficients for G and H, 4,096 for each row of E,
 // and for a product the sum of its factors' lengths: 12,327 for the norm.
+use book_body::HEAD;
+use book_body::LENGTHS;
 use long::mix;
 use long::scale;
 use long::size;
@@ -28,7 +30,7 @@ fn load(s: &[u8], k: usize, out: &mut [u16])
 {
     let mut i: usize = 0;
     while i < out.len() {
-        let v = book_bytes::item(s, 16, 2, k, i);
+        let v = book_bytes::item(s, HEAD, LENGTHS, k, i);
         out[i] = v as u16;
         i += 1;
     }
