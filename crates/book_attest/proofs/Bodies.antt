@@ -6,7 +6,6 @@ use Prim.Native.Nat.{ℕ, zero, suc, _+_, _-_, _<_, _≤_}
 use native.Mathlib.Omega.{arith}
 use native.Mathlib.Decide.{decLt}
 use lib.ListN.{length, getD, replicate, List·getD-eq-default}
-use Rattle.ring.specs.Ring.{Ops, CRing}
 use Rattle.ring.proofs.Solve.{var, one, zer, _:+_, _:*_, solve}
 use Rattle.cubic.specs.Tri.{normT}
 use Rattle.fp.specs.Fp.{Prime}
@@ -19,11 +18,9 @@ use Rattle.reading.proofs.Tab.{Filled}
 use Rattle.reading.proofs.Unique.{const-inj, psum-unique}
 use Rattle.field.specs.Refusal as field
 use Rattle.field.proofs.Accept.{accepted}
-use Rattle.book_bytes.specs.Decides.{Decides}
-use Rattle.book_bytes.proofs.Tests.{answer-yes, answer-no}
 use Rattle.book_body.specs.Body.{listAt, bodyOf, Finished}
-use Rattle.book_attest.specs.Attest.{NonZeroConstant, norm, Attested}
-use Rattle.book_attest.specs.Code.{LoadIn, Loaded, NormIn, Norm, BodyNormIn, BodyNorm}
+use Rattle.book_attest.specs.Attest.{NonZeroConstant, Attested}
+use Rattle.book_attest.specs.Code.{LoadIn, Loaded, NormIn, Norm, BodyNorm}
 
 -- ---- one list
 past : (l : List ℕ) (i : ℕ) → length l ≤ i → getD l i 0 ≡ 0

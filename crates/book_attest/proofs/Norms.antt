@@ -1,21 +1,17 @@
 -- The code's products are the norm.
-use mathlib.Core.Path.{_≡_, refl, sym, ap, ap₂, _∙_}
+use mathlib.Core.Path.{_≡_, ap, ap₂, _∙_}
 use mathlib.Core.List.{List, [], _∷_}
 use Prim.Native.Nat.{ℕ, _+_, _-_, _≤_}
 use native.Mathlib.Omega.{arith}
 use lib.ListN.{length}
-use Rattle.ring.specs.Ring.{Ops, CRing}
 use Rattle.ring.proofs.Solve.{var, one, minus, _:+_, _:*_, solve}
-use Rattle.fp.specs.Fp.{Prime}
-use Rattle.valued.specs.Val.{Valued}
 use Rattle.reading.specs.Reading.{Reading}
 use Rattle.reading.specs.Made.{reading}
 use Rattle.reading.specs.Row.{row}
 use Rattle.reading.proofs.Rows.{const-neg, cast-sub}
 use Rattle.long.specs.Long.{Mixed, Times, Scaled}
 use Rattle.long.proofs.Low.{whole}
-use Rattle.book_attest.specs.Attest.{norm}
-use Rattle.book_attest.specs.Code.{SquareIn, Square, squareOf, CubesIn, Cubes, cubesOf, NormIn, Norm}
+use Rattle.book_attest.specs.Code.{SquareIn, Square, CubesIn, Cubes, cubesOf, NormIn, Norm}
 
 -- the remainder p − 3 stands for −3
 thrice : {p : ℕ} (ρ : Reading p) → 3 ≤ p → let o = ρ .𝓥 .L .ops in ρ .𝓥 .const (ρ .cast (p - 3)) ≡ o .neg (o .add (o .add (o .𝟏) (o .𝟏)) (o .𝟏))
@@ -72,7 +68,8 @@ norm-from p g h a b c z0 z1 z2 gh x y out r w e0 e1 e2 t q k m = record {
       let ld : length out ≡ 12327 = w .room in
       whole (omega arith) (omega arith) m pr
       ∙ ap₂ (λ u v. o .add (o .mul (row ρ a) u) (o .mul (row ρ gh) v)) (q .law pr) (k .law pr)
-      ∙ ap (λ u. o .add (o .mul (row ρ a) (o .add (o .mul (row ρ a) (row ρ a)) (o .neg (o .add (o .add (o .mul u (o .mul (row ρ b) (row ρ c))) (o .mul u (o .mul (row ρ b) (row ρ c)))) (o .mul u (o .mul (row ρ b) (row ρ c))))))) (o .mul u (cubesOf p pr g h b c))) (t .law pr)
+      ∙ ap (λ u. let v = o .mul u (o .mul (row ρ b) (row ρ c)) in
+      o .add (o .mul (row ρ a) (o .add (o .mul (row ρ a) (row ρ a)) (o .neg (o .add (o .add v v) v)))) (o .mul u (cubesOf p pr g h b c))) (t .law pr)
       ∙ solve L
       (var 2 :* (var 2 :* var 2 :+ minus (var 0 :* var 1 :* (var 3 :* var 4) :+ var 0 :* var 1 :* (var 3 :* var 4) :+ var 0 :* var 1 :* (var 3 :* var 4)))
       :+ var 0 :* var 1 :* (var 1 :* var 3 :* (var 3 :* var 3) :+ var 0 :* var 4 :* (var 4 :* var 4)))

@@ -1,11 +1,10 @@
 -- What `pair`, `cofactor` and `norm` hand out, from the products that they call.
 use mathlib.Core.Path.{_≡_, refl, sym, ap, ap₂, _∙_, subst}
 use mathlib.Core.List.{List, [], _∷_, _++_}
-use Prim.Native.Nat.{ℕ, zero, suc, _+_, _*_, _-_, _<_, _≤_}
+use Prim.Native.Nat.{ℕ, _+_, _*_, _-_, _<_, _≤_}
 use native.Mathlib.Omega.{arith}
 use lib.ListN.{length, getD, take, drop}
 use lib.Seq.{ext-getD}
-use Rattle.ring.specs.Ring.{Ops}
 use Rattle.ring.proofs.Solve.{var, _:+_, _:*_, solve}
 use Rattle.fp.specs.Fp.{Prime}
 use Rattle.reading.specs.Reading.{Reading}

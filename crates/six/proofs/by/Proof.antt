@@ -1,5 +1,4 @@
 -- `six::by` meets its contract.
-use native.Mathlib.Omega.{arith}
 use borrow.Author.Needs.{needs}
 use Rattle.six.proofs.by.Statement.{statement}
 use Rattle.six.proofs.by.Tie as tie
