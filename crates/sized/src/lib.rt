@@ -1,19 +1,77 @@
-// Products and quotients of rows whose trimmed lengths are known, into lent rows. specs/Sized.antt has the contracts.
+// Products and quotients of rows whose trimmed lengths are known, into lent rows. specs/Sized.antt has the contracts, specs/Sums.antt
+// those of the inner functions: products are gathered in 64 bits, row by row, and each coefficient is reduced once at the end.
 use poly::Rapid;
 use poly::digit;
+use poly::more;
 use poly::once;
-use poly::place;
+use poly::rest;
 use poly::size_from;
 ghost use mathlib.Core.Path.{_≡_};
-ghost use Prim.Native.Nat.{_≤_};
-ghost use Rattle.sized.specs.Sized.{signAt, MixIn, Mixed, ReachIn, Reach, TimesBy, TimesOut, DetBy, DetOut, QuotientBy, QuotientOut};
+ghost use Rattle.sized.specs.Sums.{SignIn, Signed, LayIn, Laid, GatherIn, Gathered, SettleIn, Settled, ReachIn, Reach};
+ghost use Rattle.sized.specs.Sized.{MixIn, Mixed, BothIn, BothOut, TimesBy, TimesOut, DetBy, DetOut, QuotientBy, QuotientOut};
 
-// v, or p - v
+// v, or - v mod p
 fn signed(p: u64, minus: bool, v: u64) -> u64
-    requires { ⌜ v ≤ p ⌝ }
-    ensures { λ r. ⌜ r ≡ signAt p minus v ⌝ }
+    requires { ⌜ SignIn p v ⌝ }
+    ensures { λ r. ⌜ Signed p minus v r ⌝ }
 {
-    if minus { p - v } else { v }
+    if minus { once(p, p - v) } else { v }
+}
+
+// acc + v t^i y up to multiples of p, in place of acc; y ends before m.
+fn laid(p: u64, v: u64, y: &[u64; 32], m: usize, i: usize, acc: &mut [u64; 32])
+    requires { ⌜ LayIn p v (now y) m i (now acc) ⌝ }
+    ensures { λ _. ⌜ Laid p v (now (y .entry)) m i (now (acc .entry)) (now (acc .exit)) ⌝ }
+{
+    let mut j: usize = 0;
+    while j < m {
+        let a = more(p, acc[i + j], v, y[j]);
+        acc[i + j] = a;
+        j += 1;
+    }
+}
+
+// acc + x y, or acc - x y, up to multiples of p, in place of acc; x and y end before n and m.
+fn gather(
+    p: u64,
+    minus: bool,
+    x: &[u64; 32],
+    n: usize,
+    y: &[u64; 32],
+    m: usize,
+    acc: &mut [u64; 32],
+)
+    requires { ⌜ GatherIn p (now x) n (now y) m (now acc) ⌝ }
+    ensures { λ _. ⌜ Gathered p minus (now (x .entry)) n (now (y .entry)) m (now (acc .entry)) (now (acc .exit)) ⌝ }
+{
+    let mut i: usize = 0;
+    while i < n {
+        let v = signed(p, minus, x[i]);
+        laid(p, v, y, m, i, acc);
+        i += 1;
+    }
+}
+
+// Each coefficient mod p, in place; those from t on are below p as they are.
+fn settle(p: u64, q: Rapid, acc: &mut [u64; 32], t: usize)
+    requires { ⌜ SettleIn p (q .m) (q .lim) (now acc) t ⌝ }
+    ensures { λ _. ⌜ Settled p (now (acc .entry)) (now (acc .exit)) ⌝ }
+{
+    let mut k: usize = 0;
+    while k < t {
+        let v = rest(p, q, acc[k]);
+        acc[k] = v;
+        k += 1;
+    }
+}
+
+// Where products whose factors have a and b coefficients together have ended.
+fn reach(a: usize, b: usize) -> usize
+    requires { ⌜ ReachIn a b ⌝ }
+    ensures { λ r. ⌜ Reach a b r ⌝ }
+{
+    let t = if a < b { b } else { a };
+    if t == 0 { 0 } else { t - 1 }
 }
 
 // r + x y, or r - x y, in place of r; n and m are the lengths of x and y.
@@ -30,23 +88,37 @@ pub fn mix_in(
     requires { ⌜ MixIn p (q .m) (q .lim) (now x) n (now y) m (now r) ⌝ }
     ensures { λ _. ⌜ Mixed p minus (now (x .entry)) n (now (y .entry)) m (now (r .entry)) (now (r .exit)) ⌝ }
 {
-    let mut k: usize = 0;
-    while k + 1 < n + m {
-        let v = place(p, q, x, n, y, m, k);
-        let w = signed(p, minus, v);
-        let a = once(p, r[k] + w);
-        r[k] = a;
-        k += 1;
-    }
+    gather(p, minus, x, n, y, m, r);
+    let t = reach(n + m, 0);
+    settle(p, q, r, t);
 }
 
-// Where products whose factors have a and b coefficients together have ended.
-fn reach(a: usize, b: usize) -> usize
-    requires { ⌜ ReachIn a b ⌝ }
-    ensures { λ r. ⌜ Reach a b r ⌝ }
+// r ± x y ± z v in place of r, and its length: x y is taken off where minus is true, z v where less is. r ends before l.
+pub fn both_in(
+    p: u64,
+    q: Rapid,
+    minus: bool,
+    x: &[u64; 32],
+    nx: usize,
+    y: &[u64; 32],
+    ny: usize,
+    less: bool,
+    z: &[u64; 32],
+    nz: usize,
+    v: &[u64; 32],
+    nv: usize,
+    r: &mut [u64; 32],
+    l: usize,
+) -> usize
+    requires { ⌜ BothIn p (q .m) (q .lim) (now x) nx (now y) ny (now z) nz (now v) nv (now r) l ⌝ }
+    ensures { λ n. ⌜ BothOut p minus (now (x .entry)) (now (y .entry)) less (now (z .entry)) (now (v .entry)) (now (r .entry)) (now (r .exit)) n ⌝ }
 {
-    let t = if a < b { b } else { a };
-    if t == 0 { 0 } else { t - 1 }
+    gather(p, minus, x, nx, y, ny, r);
+    gather(p, less, z, nz, v, nv, r);
+    let s = reach(nx + ny, nz + nv);
+    let t = reach(s + 1, l + 1);
+    settle(p, q, r, t);
+    size_from(r, t)
 }
 
 // x y into the zero row r; its length.
@@ -84,10 +156,7 @@ pub fn det_in(
     requires { ⌜ DetBy p (q .m) (q .lim) (now x) nx (now y) ny (now z) nz (now v) nv (now r) ⌝ }
     ensures { λ l. ⌜ DetOut p (now (x .entry)) (now (y .entry)) (now (z .entry)) (now (v .entry)) (now (r .exit)) l ⌝ }
 {
-    mix_in(p, q, false, x, nx, y, ny, r);
-    mix_in(p, q, true, z, nz, v, nv, r);
-    let t = reach(nx + ny, nz + nv);
-    size_from(r, t)
+    both_in(p, q, false, x, nx, y, ny, true, z, nz, v, nv, r, 0)
 }
 
 // The quotient of a by b from the top into the zero row r, and its length; il is the inverse of b's leading coefficient.

@@ -7,7 +7,7 @@ use Rattle.fp.specs.Fp.{Prime}
 use Rattle.reading.specs.Made.{reading}
 use Rattle.reading.specs.Row.{Size}
 use Rattle.poly.specs.Division.{DivIn}
-use Rattle.sized.specs.Sized.{Mixed, TimesOut, DetOut, QuotientBy, QuotientOut}
+use Rattle.sized.specs.Sized.{Mixed, BothOut, TimesOut, DetOut, QuotientBy, QuotientOut}
 use Rattle.tight.proofs.Rows.{by-row}
 use Rattle.tight.proofs.Poly.{size-one, mul-one, quotient-one}
 
@@ -18,6 +18,9 @@ both {l = l} e s s′ = (e, size-one (subst (λ z. Size z l) e s) s′)
 module _ {p : ℕ} (pr : Prime p) where
   pub mix-in-one : {e : Bool} {x : List ℕ} {n : ℕ} {y : List ℕ} {m : ℕ} {r o o′ : List ℕ} → Mixed p e x n y m r o → Mixed p e x n y m r o′ → o ≡ o′
   mix-in-one h k = by-row (reading p pr) (h .is-row) (k .is-row) (h .law pr) (k .law pr)
+
+  pub both-in-one : {e f : Bool} {x y z v r o o′ : List ℕ} {l l′ : ℕ} → BothOut p e x y f z v r o l → BothOut p e x y f z v r o′ l′ → (o ≡ o′) × (l ≡ l′)
+  both-in-one h k = both (by-row (reading p pr) (h .is-row) (k .is-row) (h .law pr) (k .law pr)) (h .size) (k .size)
 
   pub times-in-one : {x y o o′ : List ℕ} {l l′ : ℕ} → TimesOut p x y o l → TimesOut p x y o′ l′ → (o ≡ o′) × (l ≡ l′)
   times-in-one h k = both (mul-one pr (h .product) (k .product)) (h .size) (k .size)
