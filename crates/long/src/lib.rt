@@ -109,13 +109,14 @@ pub fn times(p: u64, x: &[u16], y: &[u16], d: &mut [u16])
     mix(p, x, y, &o, &o, d);
 }
 
-// s d
+// s d. Zeros at the end stay as they are.
 pub fn scale(p: u64, s: u64, d: &mut [u16])
     requires { ⌜ ScaleIn p s ⌝ }
     ensures { λ _. ⌜ Scaled p s (now (d .entry)) (now (d .exit)) ⌝ }
 {
+    let n = size(d);
     let mut i: usize = 0;
-    while i < d.len() {
+    while i < n {
         d[i] = ((d[i] as u64) * s % p) as u16;
         i += 1;
     }
