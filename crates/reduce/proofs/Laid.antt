@@ -1,8 +1,8 @@
 -- Rows that a loop fills from the front with numbers of given classes mod p.
 --   zeros-row, zeros-size      the row of zeros that such a loop starts from
---   Laid p n f l i             the invariant: the first i of n places hold the classes f, the rest are 0
---   laid-start, laid-more, laid-short, laid-row
---   Swept p n f l₀ l i         the same of a loop that starts from l₀: the rest is as it was
+--   Laid p n f l i             the first i of n places hold the classes f, the rest are 0
+--   laid-short, laid-row       what that is at the end
+--   Swept p n f l₀ l i         the invariant of a loop that starts from l₀: the rest is as it was
 --   swept-start, swept-more, swept-laid
 use mathlib.Core.Path.{_≡_, refl, sym, ap, _∙_}
 use mathlib.Core.List.{List}
@@ -60,17 +60,6 @@ pub record Laid (p n : ℕ) (f : (pr : Prime p) → ℕ → reading p pr .𝓥 .
   pub rest : (j : ℕ) → i ≤ j → getD l j 0 ≡ 0
 
 module _ {p n : ℕ} {f : (pr : Prime p) → ℕ → reading p pr .𝓥 .K .El} where
-  pub laid-start : 0 < p → Laid p n f (replicate 32 0) 0
-  laid-start h = record { is-row = zeros-row p h; upto = omega arith; done = λ pr j l. absurd (omega arith); rest = λ j l. zeros-at 32 j }
-
-  pub laid-more : (l : List ℕ) (i v : ℕ) → Laid p n f l i → i < n → n ≤ 32 → v < p → ((pr : Prime p) → reading p pr .cast v ≡ f pr i) → Laid p n f (set l i v) (i + 1)
-  laid-more l i v h u m b e = record {
-    is-row = set-row p l i v (h .is-row) b;
-    upto = omega arith;
-    done = λ pr j w. set-class pr f l i v j w (h .is-row .size) (omega arith) (e pr) (h .done pr) (ℕ-discrete j i);
-    rest = λ j w. getD-set-other l i j v 0 (λ q. absurd (omega arith)) ∙ h .rest j (omega arith);
-  }
-
   pub laid-short : {l : List ℕ} {i : ℕ} → Laid p n f l i → n ≤ i → Short p l n
   laid-short {l} {i} h u = record { is-row = h .is-row; above = λ j w. let y : i ≤ n = h .upto in h .rest j (omega arith) }
 
