@@ -109,14 +109,13 @@ pub fn times(p: u64, x: &[u16], y: &[u16], d: &mut [u16])
     mix(p, x, y, &o, &o, d);
 }
 
-// s d. Zeros at the end stay as they are.
+// s d
 pub fn scale(p: u64, s: u64, d: &mut [u16])
     requires { ⌜ ScaleIn p s ⌝ }
     ensures { λ _. ⌜ Scaled p s (now (d .entry)) (now (d .exit)) ⌝ }
 {
-    let n = size(d);
     let mut i: usize = 0;
-    while i < n {
+    while i < d.len() {
         d[i] = ((d[i] as u64) * s % p) as u16;
         i += 1;
     }
