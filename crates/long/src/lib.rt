@@ -109,6 +109,18 @@ pub fn times(p: u64, x: &[u16], y: &[u16], d: &mut [u16])
     mix(p, x, y, &o, &o, d);
 }
 
+// x s mod p; zeros cost no division.
+fn scaled(p: u64, s: u64, x: u16) -> u16
+    requires { ⌜ ScaleIn p s ⌝ }
+    ensures { λ r. ⌜ r ≡ (x * s) % p ⌝ }
+{
+    if x == 0 {
+        0
+    } else {
+        ((x as u64) * s % p) as u16
+    }
+}
+
 // s d
 pub fn scale(p: u64, s: u64, d: &mut [u16])
     requires { ⌜ ScaleIn p s ⌝ }
@@ -116,7 +128,8 @@ pub fn scale(p: u64, s: u64, d: &mut [u16])
 {
     let mut i: usize = 0;
     while i < d.len() {
-        d[i] = ((d[i] as u64) * s % p) as u16;
+        let v = scaled(p, s, d[i]);
+        d[i] = v;
         i += 1;
     }
 }
