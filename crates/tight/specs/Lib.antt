@@ -13,7 +13,7 @@
 --   series        series, open_with_series: answer-one, expands-one (series/proofs/Answer)
 --   reduce        part: part-one; lead_of, where the size has a degree: lead-of-one; reduced, up to constants: reduced-one (Reduction)
 --   generators    det, coords: det-one, coords-one; divided, up to a constant: divided-one (Generators)
---   basis         stored, load, level, reduced_basis, order: stored-one, load-one, level-one, reduced-basis-one, order-one (Bases)
+--   basis         load, reduced_basis, order: load-one, reduced-basis-one, order-one (Bases)
 --   closure       under: under-one (Tests)
 --   accepts       below, narrow, ordered, units, shape: decides-one; shaped, alone, passes, accepts: shaped-one, alone-one, passes-one,
 --                 accepts-one (Tests)
