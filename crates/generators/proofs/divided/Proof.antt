@@ -15,10 +15,10 @@ turned-w-requires : tie.Need-turned-w-requires
 turned-w-requires c κs = (_, turn-in (c .before .before .before .before .before .before .before .before .before .before .before .pre .inp) (c .before .before .before .before .before .before .before .before .before .before .before .pre .ready) (c .before .before .before .before .before .before .before .before .before .lengths-of .ensures) (c .before .before .before .before .before .before .before .before .before .before .before .pre .blank-y))
 
 negate-requires : tie.Need-negate-requires
-negate-requires c κs = let s = c .before .before .before .before .before .before .turned-r .ensures .spans in record { modulus = modulus (c .before .before .before .before .before .before .before .before .before .before .before .before .before .pre .inp); hx = s .ha; sx = s .sa }
+negate-requires c κs = let s = c .before .before .before .before .before .before .turned-r .ensures .spans in record { modulus = modulus (c .before .before .before .before .before .before .before .before .before .before .before .before .before .pre .inp); hx = search (s .ha, s .hb, s .hc); sx = search (s .sa, s .sb, s .sc) }
 
 negate-requires-2 : tie.Need-negate-requires-2
-negate-requires-2 c κs = let s = c .before .before .before .turned-w .ensures .spans in record { modulus = modulus (c .before .before .before .before .before .before .before .before .before .before .before .before .before .before .before .pre .inp); hx = s .hc; sx = s .sc }
+negate-requires-2 c κs = let s = c .before .before .before .turned-w .ensures .spans in record { modulus = modulus (c .before .before .before .before .before .before .before .before .before .before .before .before .before .before .before .pre .inp); hx = search (s .ha, s .hb, s .hc); sx = search (s .sa, s .sb, s .sc) }
 
 taken-off-requires : tie.Need-taken-off-requires
 taken-off-requires c κs = take-in (c .before .before .before .before .before .before .before .before .before .before .before .before .before .before .before .before .before .before .before .before .before .pre .inp) (c .before .before .before .before .before .before .before .before .before .before .before .before .before .before .turned-r .ensures) (c .before .before .before .before .before .before .before .before .before .turned-w .ensures) (c .before .before .before .before .before .before .before .negate .ensures) (c .before .before .before .before .before .negate2 .ensures) (c .before .before .before .before .before .before .before .before .before .before .before .before .before .before .before .before .before .before .before .before .before .pre .ready) (c .before .before .before .before .before .before .before .before .before .before .before .before .before .before .before .before .before .before .before .before .before .pre .blank-d)
