@@ -20,13 +20,14 @@ use Rattle.reading.specs.Row.{tab, Row, Size, row}
 use Rattle.reading.proofs.Tab.{Begun, begun-end, tab-row}
 use Rattle.reading.proofs.Rows.{size-le, size-has, size-lead-at}
 use Rattle.reading.proofs.Turn.{comb-drop}
-use Rattle.reading.proofs.Floors.{zero-row, top-not}
+use Rattle.reading.proofs.Floors.{zero-row, top-not, sized}
 use Rattle.reading.proofs.Derivative.{derivative-law}
 use Rattle.reading.proofs.Square.{∂, squarefree-unit, square-factor}
 use Rattle.turn.proofs.Euclid.{Span, span-start, span-swap, span-turn, span-gcd}
-use Rattle.poly.specs.Leaf.{Given, CrossIn, Crossed}
+use Rattle.poly.specs.Leaf.{Cut, Given, CrossBy, Crossed}
+use Rattle.poly.specs.Terms.{Ready}
 use Rattle.poly.specs.Factors.{polynomial, Derived, OverBoth, Common, SquareTest, CoprimeTest}
-use Rattle.poly.proofs.Leaf.{size-one}
+use Rattle.poly.proofs.Leaf.{size-one, cross-by}
 
 -- ---- the derivative
 pub derived : (p : ℕ) (x : List ℕ) (n i : ℕ) (r : List ℕ) → Given p x → Size x n → n ≤ i + 1 → Begun 32 (λ j. ((j + 1) * getD x (j + 1) 0) % p) r i → Derived p x r
@@ -52,15 +53,19 @@ pub euclid-swap : {p : ℕ} {a b x y : List ℕ} {n m : ℕ} → Euclid p a b x 
 euclid-swap {p} i = record { hx = i .hy; hy = i .hx; sx = i .sy; sy = i .sx; each = λ pr. span-swap (reading p pr) (i .each pr) }
 
 module _ {p : ℕ} {a b x y : List ℕ} {n m : ℕ} (i : Euclid p a b x y n m) (pos : 0 < m) (le : m ≤ n) where
-  pub euclid-room : Modulus p → CrossIn p (getD y (m - 1) 0) x (getD x (n - 1) 0) (n - m) y
-  euclid-room h = record {
-    modulus = h;
-    hs = i .hy .each (m - 1);
-    hx = i .hx;
-    hc = (let l : getD x (n - 1) 0 < p = i .hx .each (n - 1) in omega arith);
-    hy = i .hy;
-    room = λ k s. let e : k ≡ m = size-one s (i .sy) in let f : n ≤ length x = i .sx .fits in let g : length x ≡ 32 = i .hx .size in omega arith;
-  }
+  room : m + (n - m) ≤ n × n ≤ 32
+  room = let f : n ≤ length x = i .sx .fits in let g : length x ≡ 32 = i .hx .size in (omega arith, omega arith)
+
+  pub euclid-room : {mul lim : ℕ} → Modulus p → Ready p mul lim → CrossBy p mul lim (getD y (m - 1) 0) x (getD x (n - 1) 0) (n - m) y n
+  euclid-room h q = cross-by n
+      (record {
+        modulus = h;
+        hs = i .hy .each (m - 1);
+        hx = i .hx;
+        hc = (let l : getD x (n - 1) 0 < p = i .hx .each (n - 1) in omega arith);
+        hy = i .hy;
+        room = λ k s. let e : k ≡ m = size-one s (i .sy) in omega (arith, room .0, room .1);
+      }) q (i .sx) (i .sy) (omega arith) (room .0) (room .1)
 
   module _ (t : List ℕ) (o : Crossed p (getD y (m - 1) 0) x (getD x (n - 1) 0) (n - m) y t) (k : ℕ) (st : Size t k) where
     pub euclid-less : Prime p → k < n
@@ -77,6 +82,13 @@ module _ {p : ℕ} {a b x y : List ℕ} {n m : ℕ} (i : Euclid p a b x y n m) (
       sy = i .sy;
       each = λ pr. let R = reading p pr in span-turn R (R .cast (getD y (m - 1) 0)) (R .cast (getD x (n - 1) 0)) (n - m) (top-not R m (i .hy) (i .sy) pos) (i .each pr) (o .law pr);
     }
+
+  -- the leading terms cancel
+  pub euclid-cut : {t : List ℕ} → Crossed p (getD y (m - 1) 0) x (getD x (n - 1) 0) (n - m) y t → Prime p → Cut t (n - 1)
+  euclid-cut {t} o pr =
+      let (k, s) = sized t in
+      let l : k < n = euclid-less t o k s pr in
+      record { size = o .is-row .size; fits = omega (arith, room .1); above = λ j u. s .above j (omega arith) }
 
 pub euclid-end : (p : ℕ) (a b x y : List ℕ) (n m : ℕ) → Euclid p a b x y n m → m ≤ 0 → Common p a b x
 euclid-end p a b x y n m i z = record {

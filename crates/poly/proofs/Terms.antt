@@ -2,7 +2,7 @@
 use mathlib.Core.Path.{_≡_, sym, ap, _∙_, subst}
 use mathlib.Core.List.{List}
 use Prim.Native.Nat.{ℕ, suc, _+_, _*_, _-_, _%_, _<_, _≤_, min}
-use native.Mathlib.Nat.{mod-lt, mod-add-mod, add-mod-mod, add-assoc, mul-zero, zero-mod}
+use native.Mathlib.Nat.{mod-lt, mod-add-mod, add-mod-mod, add-assoc, mul-zero, zero-mod, mul-le-mul}
 use native.Mathlib.Numerals.{add-one}
 use native.Mathlib.Omega.{arith}
 use lib.ListN.{getD}
@@ -12,6 +12,7 @@ use Rattle.reading.specs.Sum.{sumTo, termAt}
 use Rattle.reading.proofs.Tab.{tab-row, shift-low, shift-high, Begun, begun-end}
 use Rattle.reading.proofs.Product.{mul-law, sum-more, sum-skip, sum-none}
 use Rattle.poly.specs.Leaf.{MulIn, Product}
+use Rattle.poly.specs.Terms.{PartIn}
 
 -- one more term, where s and r are sums up to a multiple of p
 pub part-more : (p : ℕ) (f : ℕ → ℕ) (from i s t r : ℕ) → (sumTo f from + s) % p ≡ sumTo f i % p → r % p ≡ (s + t) % p → t ≡ f i → (sumTo f from + r) % p ≡ sumTo f (i + 1) % p
@@ -55,6 +56,15 @@ product p x y n m k r h sx sy l b =
       is-row = subst (λ u. Row p u) (sym e) (tab-row p _ (omega arith) (λ i. mod-lt (sumTo (termAt x y i) n) (omega arith)));
       law = λ pr. ap (row (reading p pr)) e ∙ mul-law (reading p pr) n m x y sx sy (h .room n m sx sy);
     }
+
+-- each term is at most 2^56 where p is below 2^28
+pub plain-term : {p : ℕ} {x y : List ℕ} {from to k : ℕ} → PartIn p x y from to k → p < 268435456 → (i : ℕ) → getD x i 0 * getD y (k - i) 0 ≤ 72057594037927936
+plain-term {p} {x} {y} {k = k} h l i =
+    let hx : getD x i 0 < p = h .hx .each i in
+    let hy : getD y (k - i) 0 < p = h .hy .each (k - i) in
+    let fx : getD x i 0 ≤ 268435456 = omega arith in
+    let fy : getD y (k - i) 0 ≤ 268435456 = omega arith in
+    mul-le-mul fx fy
 
 -- one more term of a sum that is kept as it is
 pub plain-more : (f : ℕ → ℕ) (from i s t : ℕ) → sumTo f from + s ≡ sumTo f i → t ≡ f i → sumTo f from + (s + t) ≡ sumTo f (i + 1)

@@ -5,6 +5,7 @@
 --   add, sub, minus   Summed, Difference, Opposite: x + y, x − y, − x
 --   scale             Scaled: c x
 --   cross             Crossed: s x − c t^k y
+--   scale_in, cross_in   ScaleOut, CrossOut: the same in place of x, which is Short: 0 from n on, before and after
 --   mul               Product: x y
 --   from_list         Listed: the polynomial of a list
 use mathlib.Core.Path.{_≡_}
@@ -14,7 +15,7 @@ use lib.ListN.{length, getD}
 use Rattle.fp.specs.Fp.{Prime}
 use Rattle.residue.specs.Residue.{Modulus}
 use Rattle.reading.specs.Made.{reading}
-use Rattle.reading.specs.Row.{Row, Size, row}
+use Rattle.reading.specs.Row.{Row, Size, row, shiftAt}
 use Rattle.reading.proofs.Turn.{comb}
 use Rattle.poly.specs.Terms.{Ready}
 
@@ -22,6 +23,11 @@ use Rattle.poly.specs.Terms.{Ready}
 pub record Cut (x : List ℕ) (n : ℕ) : Type 0 where
   pub size : length x ≡ 32
   pub fits : n ≤ 32
+  pub above : (i : ℕ) → n ≤ i → getD x i 0 ≡ 0
+
+-- a row of numbers below p that is 0 from n on
+pub record Short (p : ℕ) (x : List ℕ) (n : ℕ) : Type 0 where
+  pub is-row : Row p x
   pub above : (i : ℕ) → n ≤ i → getD x i 0 ≡ 0
 
 abbrev pub Leading : List ℕ → ℕ → Type 0
@@ -62,15 +68,18 @@ pub record Scaled (p c : ℕ) (x r : List ℕ) : Type 0 where
   pub is-row : Row p r
   pub law : (pr : Prime p) → let ρ = reading p pr in row ρ r ≡ ρ .𝓥 .L .ops .mul (ρ .𝓥 .const (ρ .cast c)) (row ρ x)
 
--- ---- s x − c t^k y
-pub record CrossAt (p mul lim s x d y : ℕ) : Type 0 where
+pub record ScaleBy (p mul lim c : ℕ) (x : List ℕ) (n : ℕ) : Type 0 where
   pub modulus : Modulus p
   pub ready : Ready p mul lim
-  pub hs : s < p
-  pub hx : x < p
-  pub hd : d ≤ p
-  pub hy : y < p
+  pub hc : c < p
+  pub hx : Short p x n
+  pub fits : n ≤ 32
 
+pub record ScaleOut (p c : ℕ) (x : List ℕ) (n : ℕ) (r : List ℕ) : Type 0 where
+  pub short : Short p r n
+  pub scaled : Scaled p c x r
+
+-- ---- s x − c t^k y
 pub record CrossIn (p s : ℕ) (x : List ℕ) (c k : ℕ) (y : List ℕ) : Type 0 where
   pub modulus : Modulus p
   pub hs : s < p
@@ -82,6 +91,21 @@ pub record CrossIn (p s : ℕ) (x : List ℕ) (c k : ℕ) (y : List ℕ) : Type 
 pub record Crossed (p s : ℕ) (x : List ℕ) (c k : ℕ) (y r : List ℕ) : Type 0 where
   pub is-row : Row p r
   pub law : (pr : Prime p) → let ρ = reading p pr in row ρ r ≡ comb ρ (ρ .cast s) (ρ .cast c) k (row ρ x) (row ρ y)
+
+pub record CrossBy (p mul lim s : ℕ) (x : List ℕ) (c k : ℕ) (y : List ℕ) (n : ℕ) : Type 0 where
+  pub modulus : Modulus p
+  pub ready : Ready p mul lim
+  pub hs : s < p
+  pub hx : Short p x n
+  pub hc : c ≤ p
+  pub hy : Row p y
+  pub fits : n ≤ 32
+  pub low : k ≤ 32
+  pub above : (i : ℕ) → n ≤ i → shiftAt y k i ≡ 0
+
+pub record CrossOut (p s : ℕ) (x : List ℕ) (c k : ℕ) (y : List ℕ) (n : ℕ) (r : List ℕ) : Type 0 where
+  pub short : Short p r n
+  pub crossed : Crossed p s x c k y r
 
 -- ---- products
 pub record MulIn (p : ℕ) (x y : List ℕ) : Type 0 where

@@ -2,7 +2,7 @@
 --   rapid_of              Ready: below lim, a remainder is found by one multiplication with m
 --   rest                  the remainder
 --   more                  More: s + x y up to a multiple of p, below 2^63
---   plain, folded, part   Part: a run of the terms of coefficient k, up to a multiple of p
+--   folded, part          Part: a run of the terms of coefficient k, up to a multiple of p
 --   place                 the remainder of the sum of the terms of coefficient k
 use mathlib.Core.Path.{_≡_}
 use mathlib.Core.List.{List}
@@ -37,10 +37,6 @@ pub record PartIn (p : ℕ) (x y : List ℕ) (from to k : ℕ) : Type 0 where
   pub last : to ≤ 32
   pub inside : to ≤ k + 1
   pub reach : k < 32 + from
-
-pub record PlainIn (p : ℕ) (x y : List ℕ) (from to k : ℕ) : Type 0 where
-  pub given : PartIn p x y from to k
-  pub small : p < 268435456
 
 pub record Part (p : ℕ) (x y : List ℕ) (from to k r : ℕ) : Type 0 where
   pub low : r < 9223372036854775808

@@ -1,22 +1,23 @@
-// Polynomials mod p as rows of 32 coefficients, lowest first, each below p, zeros above the degree. Rows are lent and handed out by value.
-// Every contract speaks of the polynomial that a row stands for (`row` of crate reading). Loops stop at the rows' true lengths. Sums are
-// taken in 64 bits with one remainder for each coefficient handed out, for every p below 2^31: from 2^28 on a sum of products that comes
-// near the end of the 64 bits is reduced on the way. Below 2^16 a remainder is a multiplication by what `rapid_of` makes of p.
+// Polynomials mod p as rows of 32 coefficients, lowest first, each below p, zeros above the degree; lent, turned in place or handed out.
+// Every contract speaks of the polynomial that a row stands for (`row` of crate reading). Loops stop at true lengths. Sums are taken in 64
+// bits with one remainder for each coefficient, for every p below 2^31; below 2^16 it is a multiplication by what `rapid_of` makes of p.
+use remainder::remainder;
 ghost use mathlib.Core.Path.{_≡_};
 ghost use Prim.Native.Nat.{_+_, _*_, _-_, _%_, _<_, _≤_};
-ghost use lib.ListN.{length, getD};
-ghost use Rattle.reading.specs.Row.{Row, Size};
-ghost use Rattle.poly.specs.Leaf.{Cut, Leading, Once, Given, Both, Summed, Difference, Opposite, ScaleIn, Scaled};
-ghost use Rattle.poly.specs.Leaf.{CrossIn, Crossed, CrossAt, MulIn, Product, Listed};
-ghost use Rattle.poly.specs.Terms.{Ready, RestIn, MoreIn, More, PartIn, PlainIn, Part, PlaceIn};
+ghost use lib.ListN.{length};
+ghost use Rattle.reading.specs.Row.{Size, shiftAt};
+ghost use Rattle.poly.specs.Leaf.{Cut, Leading, Once, Given, Both, Summed, Difference, Opposite, ScaleIn, Scaled, ScaleBy, ScaleOut};
+ghost use Rattle.poly.specs.Leaf.{CrossIn, Crossed, CrossBy, CrossOut, MulIn, Product, Listed};
+ghost use Rattle.poly.specs.Terms.{Ready, RestIn, MoreIn, More, PartIn, Part, PlaceIn};
 ghost use Rattle.residue.specs.Residue.{Modulus};
 ghost use Rattle.poly.specs.Division.{DivIn, Quotient, Exact, Divided, DigitIn, Digit};
 ghost use Rattle.poly.specs.Factors.{Derived, Over, OverBoth, Common, SquareTest, CoprimeTest};
-ghost use Rattle.reading.specs.Row.{shiftAt};
 ghost use Rattle.reading.specs.Sum.{sumTo, termAt};
 
+type Row = [u64; 32];
+
 // The trimmed length of x, whose coefficients from n on are 0.
-pub fn size_from(x: &[u64; 32], n: usize) -> usize
+pub fn size_from(x: &Row, n: usize) -> usize
     requires { ⌜ Cut (now x) n ⌝ }
     ensures { λ r. ⌜ Size (now (x .entry)) r ⌝ }
 {
@@ -31,7 +32,7 @@ pub fn size_from(x: &[u64; 32], n: usize) -> usize
 }
 
 // One more than the degree; 0 for the zero polynomial.
-pub fn size(x: &[u64; 32]) -> usize
+pub fn size(x: &Row) -> usize
     requires { ⌜ length (now x) ≡ 32 ⌝ }
     ensures { λ r. ⌜ Size (now (x .entry)) r ⌝ }
 {
@@ -39,7 +40,7 @@ pub fn size(x: &[u64; 32]) -> usize
 }
 
 // The leading coefficient; 0 for the zero polynomial.
-pub fn lead(x: &[u64; 32]) -> u64
+pub fn lead(x: &Row) -> u64
     requires { ⌜ length (now x) ≡ 32 ⌝ }
     ensures { λ r. ⌜ Leading (now (x .entry)) r ⌝ }
 {
@@ -59,10 +60,8 @@ pub fn rapid_of(p: u64) -> Rapid
 {
     if p < 65536 {
         let m = remainder::scale_of(p);
-        Rapid {
-            m,
-            lim: 64 * (p * p),
-        }
+        let lim = 64 * (p * p);
+        Rapid { m, lim }
     } else {
         Rapid { m: 0, lim: 0 }
     }
@@ -75,11 +74,7 @@ pub fn rest(p: u64, s: Rapid, x: u64) -> u64
 {
     let m = s.m;
     let lim = s.lim;
-    if x < lim {
-        remainder::remainder(p, m, x)
-    } else {
-        x % p
-    }
+    if x < lim { remainder(p, m, x) } else { x % p }
 }
 
 // v mod p, for v below 2 p
@@ -90,11 +85,11 @@ pub fn once(p: u64, v: u64) -> u64
     if v < p { v } else { v - p }
 }
 
-pub fn add(p: u64, x: &[u64; 32], y: &[u64; 32]) -> [u64; 32]
+pub fn add(p: u64, x: &Row, y: &Row) -> Row
     requires { ⌜ Both p (now x) (now y) ⌝ }
     ensures { λ r. ⌜ Summed p (now (x .entry)) (now (y .entry)) r ⌝ }
 {
-    let mut r: [u64; 32] = [0; 32];
+    let mut r: Row = [0; 32];
     let mut i: usize = 0;
     while i < 32 {
         r[i] = once(p, x[i] + y[i]);
@@ -103,11 +98,11 @@ pub fn add(p: u64, x: &[u64; 32], y: &[u64; 32]) -> [u64; 32]
     r
 }
 
-pub fn sub(p: u64, x: &[u64; 32], y: &[u64; 32]) -> [u64; 32]
+pub fn sub(p: u64, x: &Row, y: &Row) -> Row
     requires { ⌜ Both p (now x) (now y) ⌝ }
     ensures { λ r. ⌜ Difference p (now (x .entry)) (now (y .entry)) r ⌝ }
 {
-    let mut r: [u64; 32] = [0; 32];
+    let mut r: Row = [0; 32];
     let mut i: usize = 0;
     while i < 32 {
         r[i] = once(p, x[i] + (p - y[i]));
@@ -117,48 +112,63 @@ pub fn sub(p: u64, x: &[u64; 32], y: &[u64; 32]) -> [u64; 32]
 }
 
 // 0 - x
-pub fn minus(p: u64, x: &[u64; 32]) -> [u64; 32]
+pub fn minus(p: u64, x: &Row) -> Row
     requires { ⌜ Given p (now x) ⌝ }
     ensures { λ r. ⌜ Opposite p (now (x .entry)) r ⌝ }
 {
-    let z: [u64; 32] = [0; 32];
+    let z: Row = [0; 32];
     sub(p, &z, x)
 }
 
-pub fn scale(p: u64, c: u64, x: &[u64; 32]) -> [u64; 32]
+// c x in place of x, which ends before n.
+pub fn scale_in(p: u64, q: Rapid, c: u64, x: &mut Row, n: usize)
+    requires { ⌜ ScaleBy p (q .m) (q .lim) c (now x) n ⌝ }
+    ensures { λ _. ⌜ ScaleOut p c (now (x .entry)) n (now (x .exit)) ⌝ }
+{
+    let mut i: usize = 0;
+    while i < n {
+        let v = rest(p, q, c * x[i]);
+        x[i] = v;
+        i += 1;
+    }
+}
+
+pub fn scale(p: u64, c: u64, x: &Row) -> Row
     requires { ⌜ ScaleIn p c (now x) ⌝ }
     ensures { λ r. ⌜ Scaled p c (now (x .entry)) r ⌝ }
 {
     let q = rapid_of(p);
     let n = size(x);
-    let mut r: [u64; 32] = [0; 32];
-    let mut i: usize = 0;
-    while i < n {
-        let v = rest(p, q, c * x[i]);
-        r[i] = v;
-        i += 1;
-    }
+    let mut r = *x;
+    scale_in(p, q, c, &mut r, n);
     r
 }
 
 // The coefficient of t^k y at i.
-fn shifted(y: &[u64; 32], k: usize, i: usize) -> u64
+fn shifted(y: &Row, k: usize, i: usize) -> u64
     requires { ⌜ i < 32 ⌝ }
     ensures { λ r. ⌜ r ≡ shiftAt (now (y .entry)) k i ⌝ }
 {
     if i < k { 0 } else { y[i - k] }
 }
 
-// s x + d y mod p
-fn mixed(p: u64, q: Rapid, s: u64, x: u64, d: u64, y: u64) -> u64
-    requires { ⌜ CrossAt p (q .m) (q .lim) s x d y ⌝ }
-    ensures { λ r. ⌜ r ≡ (s * x + d * y) % p ⌝ }
+// s x - c t^k y, of n terms, in place of x.
+pub fn cross_in(p: u64, q: Rapid, s: u64, x: &mut Row, c: u64, k: usize, y: &Row, n: usize)
+    requires { ⌜ CrossBy p (q .m) (q .lim) s (now x) c k (now y) n ⌝ }
+    ensures { λ _. ⌜ CrossOut p s (now (x .entry)) c k (now (y .entry)) n (now (x .exit)) ⌝ }
 {
-    rest(p, q, s * x + d * y)
+    let d = p - c;
+    let mut i: usize = 0;
+    while i < n {
+        let z = shifted(y, k, i);
+        let a = rest(p, q, s * x[i] + d * z);
+        x[i] = a;
+        i += 1;
+    }
 }
 
-// s x - c t^k y, where t^k y fits.
-pub fn cross(p: u64, s: u64, x: &[u64; 32], c: u64, k: usize, y: &[u64; 32]) -> [u64; 32]
+// The same as a row of its own, where t^k y fits.
+pub fn cross(p: u64, s: u64, x: &Row, c: u64, k: usize, y: &Row) -> Row
     requires { ⌜ CrossIn p s (now x) c k (now y) ⌝ }
     ensures { λ r. ⌜ Crossed p s (now (x .entry)) c k (now (y .entry)) r ⌝ }
 {
@@ -166,13 +176,8 @@ pub fn cross(p: u64, s: u64, x: &[u64; 32], c: u64, k: usize, y: &[u64; 32]) -> 
     let n = size(x);
     let m = size(y) + k;
     let top = if n < m { m } else { n };
-    let mut r: [u64; 32] = [0; 32];
-    let mut i: usize = 0;
-    while i < top {
-        let z = shifted(y, k, i);
-        r[i] = mixed(p, q, s, x[i], p - c, z);
-        i += 1;
-    }
+    let mut r = *x;
+    cross_in(p, q, s, &mut r, c, k, y, top);
     r
 }
 
@@ -186,7 +191,7 @@ pub fn more(p: u64, s: u64, x: u64, y: u64) -> u64
 }
 
 // The terms from .. to - 1 of coefficient k of x y, up to a multiple of p.
-fn folded(p: u64, x: &[u64; 32], y: &[u64; 32], from: usize, to: usize, k: usize) -> u64
+fn folded(p: u64, x: &Row, y: &Row, from: usize, to: usize, k: usize) -> u64
     requires { ⌜ PartIn p (now x) (now y) from to k ⌝ }
     ensures { λ r. ⌜ Part p (now (x .entry)) (now (y .entry)) from to k r ⌝ }
 {
@@ -199,34 +204,26 @@ fn folded(p: u64, x: &[u64; 32], y: &[u64; 32], from: usize, to: usize, k: usize
     s
 }
 
-// The same where the sum fits as it is.
-fn plain(p: u64, x: &[u64; 32], y: &[u64; 32], from: usize, to: usize, k: usize) -> u64
-    requires { ⌜ PlainIn p (now x) (now y) from to k ⌝ }
-    ensures { λ r. ⌜ Part p (now (x .entry)) (now (y .entry)) from to k r ⌝ }
-{
-    let mut s: u64 = 0;
-    let mut i = from;
-    while i < to {
-        s += x[i] * y[k - i];
-        i += 1;
-    }
-    s
-}
-
-// The one or the other.
-fn part(p: u64, x: &[u64; 32], y: &[u64; 32], from: usize, to: usize, k: usize) -> u64
+// The same: below 2^28 the sum fits as it is.
+fn part(p: u64, x: &Row, y: &Row, from: usize, to: usize, k: usize) -> u64
     requires { ⌜ PartIn p (now x) (now y) from to k ⌝ }
     ensures { λ r. ⌜ Part p (now (x .entry)) (now (y .entry)) from to k r ⌝ }
 {
     if p < 268435456 {
-        plain(p, x, y, from, to, k)
+        let mut s: u64 = 0;
+        let mut i = from;
+        while i < to {
+            s += x[i] * y[k - i];
+            i += 1;
+        }
+        s
     } else {
         folded(p, x, y, from, to, k)
     }
 }
 
 // Coefficient k of x y, from the trimmed lengths n and m.
-pub fn place(p: u64, q: Rapid, x: &[u64; 32], n: usize, y: &[u64; 32], m: usize, k: usize) -> u64
+pub fn place(p: u64, q: Rapid, x: &Row, n: usize, y: &Row, m: usize, k: usize) -> u64
     requires { ⌜ PlaceIn p (q .m) (q .lim) (now x) n (now y) m k ⌝ }
     ensures { λ r. ⌜ r ≡ sumTo (termAt (now (x .entry)) (now (y .entry)) k) n % p ⌝ }
 {
@@ -237,14 +234,14 @@ pub fn place(p: u64, q: Rapid, x: &[u64; 32], n: usize, y: &[u64; 32], m: usize,
 }
 
 // x y, where the product fits.
-pub fn mul(p: u64, x: &[u64; 32], y: &[u64; 32]) -> [u64; 32]
+pub fn mul(p: u64, x: &Row, y: &Row) -> Row
     requires { ⌜ MulIn p (now x) (now y) ⌝ }
     ensures { λ r. ⌜ Product p (now (x .entry)) (now (y .entry)) r ⌝ }
 {
     let q = rapid_of(p);
     let n = size(x);
     let m = size(y);
-    let mut r: [u64; 32] = [0; 32];
+    let mut r: Row = [0; 32];
     let mut k: usize = 0;
     while k + 1 < n + m {
         r[k] = place(p, q, x, n, y, m, k);
@@ -254,11 +251,11 @@ pub fn mul(p: u64, x: &[u64; 32], y: &[u64; 32]) -> [u64; 32]
 }
 
 // The entries of a list of at most 32.
-pub fn from_list(s: &[u64]) -> [u64; 32]
+pub fn from_list(s: &[u64]) -> Row
     requires { ⌜ length (now s) ≤ 32 ⌝ }
     ensures { λ r. ⌜ Listed (now (s .entry)) r ⌝ }
 {
-    let mut r: [u64; 32] = [0; 32];
+    let mut r: Row = [0; 32];
     let mut i: usize = 0;
     while i < s.len() {
         r[i] = s[i];
@@ -271,9 +268,9 @@ pub fn from_list(s: &[u64]) -> [u64; 32]
 pub fn digit(
     p: u64,
     s: Rapid,
-    a: &[u64; 32],
-    q: &[u64; 32],
-    b: &[u64; 32],
+    a: &Row,
+    q: &Row,
+    b: &Row,
     m: usize,
     il: u64,
     top: usize,
@@ -290,7 +287,7 @@ pub fn digit(
 }
 
 // The quotient of a by b from the top, one coefficient a turn; il is the inverse of b's leading coefficient.
-pub fn quotient(p: u64, a: &[u64; 32], b: &[u64; 32], il: u64) -> [u64; 32]
+pub fn quotient(p: u64, a: &Row, b: &Row, il: u64) -> Row
     requires { ⌜ DivIn p (now a) (now b) il ⌝ }
     ensures { λ q. ⌜ Quotient p (now (a .entry)) (now (b .entry)) q ⌝ }
 {
@@ -298,7 +295,7 @@ pub fn quotient(p: u64, a: &[u64; 32], b: &[u64; 32], il: u64) -> [u64; 32]
     let n = size(a);
     let m = size(b);
     let top = if n < m { 0 } else { n + 1 - m };
-    let mut q: [u64; 32] = [0; 32];
+    let mut q: Row = [0; 32];
     let mut k = top;
     while k > 0 {
         k -= 1;
@@ -309,7 +306,7 @@ pub fn quotient(p: u64, a: &[u64; 32], b: &[u64; 32], il: u64) -> [u64; 32]
 }
 
 // a / b, where b divides a.
-pub fn exact(p: u64, a: &[u64; 32], b: &[u64; 32], il: u64) -> [u64; 32]
+pub fn exact(p: u64, a: &Row, b: &Row, il: u64) -> Row
     requires { ⌜ DivIn p (now a) (now b) il ⌝ }
     ensures { λ q. ⌜ Exact p (now (a .entry)) (now (b .entry)) q ⌝ }
 {
@@ -318,11 +315,11 @@ pub fn exact(p: u64, a: &[u64; 32], b: &[u64; 32], il: u64) -> [u64; 32]
 
 // a = q b + r
 pub struct QuotRem {
-    pub q: [u64; 32],
-    pub r: [u64; 32],
+    pub q: Row,
+    pub r: Row,
 }
 
-pub fn divide(p: u64, a: &[u64; 32], b: &[u64; 32], il: u64) -> QuotRem
+pub fn divide(p: u64, a: &Row, b: &Row, il: u64) -> QuotRem
     requires { ⌜ DivIn p (now a) (now b) il ⌝ }
     ensures { λ d. ⌜ Divided p (now (a .entry)) (now (b .entry)) (d .q) (d .r) ⌝ }
 {
@@ -333,12 +330,12 @@ pub fn divide(p: u64, a: &[u64; 32], b: &[u64; 32], il: u64) -> QuotRem
 }
 
 // d/dt
-pub fn derivative(p: u64, x: &[u64; 32]) -> [u64; 32]
+pub fn derivative(p: u64, x: &Row) -> Row
     requires { ⌜ Given p (now x) ⌝ }
     ensures { λ r. ⌜ Derived p (now (x .entry)) r ⌝ }
 {
     let n = size(x);
-    let mut r: [u64; 32] = [0; 32];
+    let mut r: Row = [0; 32];
     let mut i: usize = 0;
     while i + 1 < n {
         r[i] = ((i + 1) as u64) * x[i + 1] % p;
@@ -348,10 +345,11 @@ pub fn derivative(p: u64, x: &[u64; 32]) -> [u64; 32]
 }
 
 // A greatest common divisor, by Euclid: the longer of the two loses its leading term, until one is 0.
-pub fn gcd(p: u64, a: &[u64; 32], b: &[u64; 32]) -> [u64; 32]
+pub fn gcd(p: u64, a: &Row, b: &Row) -> Row
     requires { ⌜ OverBoth p (now a) (now b) ⌝ }
     ensures { λ r. ⌜ Common p (now (a .entry)) (now (b .entry)) r ⌝ }
 {
+    let q = rapid_of(p);
     let mut x = *a;
     let mut y = *b;
     let mut n = size(a);
@@ -367,17 +365,15 @@ pub fn gcd(p: u64, a: &[u64; 32], b: &[u64; 32]) -> [u64; 32]
         } else {
             let s = y[m - 1];
             let c = x[n - 1];
-            let t = cross(p, s, &x, c, n - m, &y);
-            n = size(&t);
-            x = t;
+            cross_in(p, q, s, &mut x, c, n - m, &y, n);
+            n = size_from(&x, n - 1);
         }
     }
     x
 }
 
-// Whether no square of a polynomial that is not constant divides x: whether x and its derivative have a constant for greatest common
-// divisor. Where the derivative is 0, x is a p-th power and its own greatest common divisor with it.
-pub fn squarefree(p: u64, x: &[u64; 32]) -> bool
+// Whether no square of a polynomial that is not constant divides x: whether x is coprime to its derivative, which is 0 for a p-th power.
+pub fn squarefree(p: u64, x: &Row) -> bool
     requires { ⌜ Over p (now x) ⌝ }
     ensures { λ r. ⌜ SquareTest p (now (x .entry)) r ⌝ }
 {
@@ -394,7 +390,7 @@ pub fn squarefree(p: u64, x: &[u64; 32]) -> bool
 }
 
 // Whether no polynomial that is not constant divides both.
-pub fn coprime(p: u64, x: &[u64; 32], y: &[u64; 32]) -> bool
+pub fn coprime(p: u64, x: &Row, y: &Row) -> bool
     requires { ⌜ OverBoth p (now x) (now y) ⌝ }
     ensures { λ r. ⌜ CoprimeTest p (now (x .entry)) (now (y .entry)) r ⌝ }
 {

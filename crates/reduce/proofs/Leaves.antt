@@ -3,7 +3,7 @@
 --   square-less, less-square  numbers below p p
 --   along-low, along-high     terms that vanish
 --   heap-start, heap-more, heap-end    the loop of `plain`
---   part-floor                the sums `along` are the coefficients of the polynomial part of b r ± c w
+--   part-floor, part-high     the sums `along` are the coefficients of the polynomial part of b r ± c w, which ends before top
 use mathlib.Core.Path.{_≡_, refl, sym, ap, ap₂, _∙_, subst}
 use mathlib.Core.Bool.{Bool, true, false}
 use mathlib.Core.List.{List, [], _∷_}
@@ -28,7 +28,7 @@ use Rattle.reading.proofs.Tab.{shift-high}
 use Rattle.reading.proofs.Floors.{fall-in, fall-out}
 use Rattle.reading.proofs.Turn.{comb, lt-scale}
 use Rattle.residue.specs.Residue.{Modulus}
-use Rattle.reduce.specs.Frame.{Frame, Meaning, Short, rd, pt, side}
+use Rattle.reduce.specs.Frame.{Frame, Meaning, Short, rd, pt, side, Ltμ}
 use Rattle.reduce.specs.Leaves.{CrossIn, Crossed, SumIn, Summed, TermsIn, PlainIn, Terms, along, PartIn, PartAtIn, PartAt, partAt, signed, Parted}
 use Rattle.reduce.proofs.Laid.{Laid, laid-short, laid-row}
 
@@ -170,18 +170,28 @@ signed-zero : (R : CRing) (e : Bool) → signed (R .ops) e (R .ops .𝟎) (R .op
 signed-zero R true = solve R (zer :+ minus zer) zer tt []
 signed-zero R false = R .laws .add-zero (R .ops .𝟎)
 
-pub parted : {F : Frame} {e : Bool} {b c : List ℕ} {top : ℕ} {z : List ℕ} {i : ℕ} → PartIn F b c top → Laid (F .p) top (λ pr j. partAt F pr e b c top j) z i → top ≤ i → Parted F e b c top z
-parted {F} {e} {b} {c} {top} {z} g h l = record {
-  short = laid-short h l;
-  law = λ μ.
+module _ {F : Frame} (e : Bool) {b c : List ℕ} {top : ℕ} (g : PartIn F b c top) (μ : Meaning F) where
+  pub part-floor : Ltμ μ (rd μ .𝓥 .L .ops .add (side μ e (pt μ b c)) (rd μ .𝓥 .L .ops .neg (psum (rd μ) 32 (λ j. partAt F (μ .prime) e b c top j)))) 0
+  part-floor =
       let ρ = rd μ in
       let lr : F .dr ≤ top = g .low-r in
       let lw : F .dw ≤ top = g .low-w in
       let f : top ≤ 32 = g .fits in
       lt-eq (ρ .𝓥) (signed-floor ρ e (ρ .𝓥 .L .ops .mul (row ρ b) (μ .r)) (ρ .𝓥 .L .ops .mul (row ρ c) (μ .w)) (λ j. along ρ b (F .r) (F .dr) j (N._-_ top (F .dr))) (λ j. along ρ c (F .w) (F .dw) j (N._-_ top (F .dw)))
       (along-floor ρ b (F .r) (F .dr) (N._-_ top (F .dr)) (μ .r) (μ .r-reads) (omega arith) (g .hb .above)) (along-floor ρ c (F .w) (F .dw) (N._-_ top (F .dw)) (μ .w) (μ .w-reads) (omega arith) (g .hc .above)))
-      (ap₂ (λ x y. ρ .𝓥 .L .ops .add x (ρ .𝓥 .L .ops .neg y)) (sym (side-signed μ e b c)) (sym (laid-row h l (μ .prime) (λ j u.
-      ap₂ (signed (ρ .𝓥 .K .ops) e) (along-low ρ b (F .r) (F .dr) j (N._-_ top (F .dr)) (omega arith)) (along-low ρ c (F .w) (F .dw) j (N._-_ top (F .dw)) (omega arith)) ∙ signed-zero (ρ .𝓥 .K) e))));
+      (ap (λ x. ρ .𝓥 .L .ops .add x (ρ .𝓥 .L .ops .neg (psum ρ 32 (λ j. partAt F (μ .prime) e b c top j)))) (sym (side-signed μ e b c)))
+
+  pub part-high : (j : ℕ) → top ≤ j → partAt F (μ .prime) e b c top j ≡ rd μ .𝓥 .K .ops .𝟎
+  part-high j u =
+      let ρ = rd μ in
+      let lr : F .dr ≤ top = g .low-r in
+      let lw : F .dw ≤ top = g .low-w in
+      ap₂ (signed (ρ .𝓥 .K .ops) e) (along-low ρ b (F .r) (F .dr) j (N._-_ top (F .dr)) (omega arith)) (along-low ρ c (F .w) (F .dw) j (N._-_ top (F .dw)) (omega arith)) ∙ signed-zero (ρ .𝓥 .K) e
+
+pub parted : {F : Frame} {e : Bool} {b c : List ℕ} {top : ℕ} {z : List ℕ} {i : ℕ} → PartIn F b c top → Laid (F .p) top (λ pr j. partAt F pr e b c top j) z i → top ≤ i → Parted F e b c top z
+parted {F} {e} {b} {c} {top} {z} g h l = record {
+  short = laid-short h l;
+  law = λ μ. lt-eq (rd μ .𝓥) (part-floor e g μ) (ap (λ y. rd μ .𝓥 .L .ops .add (side μ e (pt μ b c)) (rd μ .𝓥 .L .ops .neg y)) (sym (laid-row h l (μ .prime) (part-high e g μ))));
 }
 
 -- the invariant of `terms`: i terms are summed

@@ -1,5 +1,6 @@
 pub mod Laid
 pub mod Leaves
+pub mod Tops
 pub mod Cancel
 pub mod Clearing
 pub mod Shearing

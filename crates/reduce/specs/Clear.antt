@@ -1,5 +1,5 @@
 -- The reduction: contracts of a turn, of the two loops, and of the whole.
---   CancelIn, CancelOut    s a − c t^k b, where the sizes before and after lie below top
+--   CancelIn, CancelOut    s a − c t^k b cancels the leading term of a size of a, where the sizes before and after lie below top
 --   ClearIn F q top lu     two elements whose sizes X, Y lie below top = S′ + 1, X(m) + Y(n) and X(n) + Y(m) at most S′ + u′ and the
 --                          determinant of degree S′ + u′; lu = u′ + 1. All numbers are lengths: degrees + 1, and 0 below degree 0
 --   Clearing               the state of the first loop
@@ -14,10 +14,11 @@ use mathlib.Core.Bool.{Bool, true, false}
 use mathlib.Core.List.{List}
 use Prim.Native.Nat.{ℕ, suc, _+_, _-_, _<_, _≤_}
 use Rattle.reading.specs.Row.{Size}
-use Rattle.reading.proofs.Turn.{comb}
 use Rattle.turn.specs.Points.{Turned, Moved}
 use Rattle.poly.specs.Terms.{Ready}
-use Rattle.reduce.specs.Frame.{Frame, Fine, Meaning, Point, point, Short, Held, rd, pt, X, Y, side, D, Ltμ, Hasμ, shift}
+use Rattle.reduce.specs.Frame.{Frame, Fine, Meaning, point, Short, Held, rd, pt, X, Y, D, Ltμ, Hasμ, shift}
+use Rattle.reduce.specs.Leaves.{Topped}
+use Rattle.reduce.specs.declared.Top.{Top}
 use Rattle.reduce.specs.declared.Pair.{Pair}
 use Rattle.reduce.specs.declared.Ends.{Ends}
 
@@ -43,38 +44,27 @@ pub record RoomAt {F : Frame} (μ : Meaning F) (ab ac bb bc : List ℕ) (k top :
   pub xb : Ltμ μ (shift μ k (X μ (pt μ bb bc))) top
   pub yb : Ltμ μ (shift μ k (Y μ (pt μ bb bc))) top
 
-pub record CancelIn (F : Frame) (e : Bool) (ab ac bb bc : List ℕ) (s c k top l : ℕ) : Type 0 where
+-- a and b have lengths past low, and b is no longer than a
+pub record CancelIn (F : Frame) (e : Bool) (ab ac : List ℕ) (a : Top) (bb bc : List ℕ) (b : Top) (top low : ℕ) : Type 0 where
   pub room : Room F top
   pub ha : Rows F top ab ac
   pub hb : Rows F top bb bc
-  pub hs : s < F .p
-  pub hc : c < F .p
-  pub low : k ≤ 32
+  pub ta : Topped F e ab ac low top a
+  pub tb : Topped F e bb bc low top b
+  pub past : low < b .n
+  pub over : b .n ≤ a .n
   pub some : Meaning F
-  pub at : RoomAt some ab ac bb bc k top
-  pub less : l ≤ 32
-  pub drop : Ltμ some (comb (rd some) (rd some .cast s) (rd some .cast c) k (side some e (pt some ab ac)) (side some e (pt some bb bc))) l
+  pub at : RoomAt some ab ac bb bc (a .n - b .n) top
 
 -- the same with what a quick remainder needs
-pub record CancelBy (F : Frame) (mul lim : ℕ) (e : Bool) (ab ac az bb bc : List ℕ) (s c k top l : ℕ) : Type 0 where
-  pub inp : CancelIn F e ab ac bb bc s c k top l
+pub record CancelBy (F : Frame) (mul lim : ℕ) (e : Bool) (ab ac : List ℕ) (a : Top) (bb bc : List ℕ) (b : Top) (top low : ℕ) : Type 0 where
+  pub inp : CancelIn F e ab ac a bb bc b top low
   pub ready : Ready (F .p) mul lim
-  pub hz : Short (F .p) az top
 
--- an element with the polynomial part z of one of its sizes, and the length of z
-pub record Turn : Type 0 where
-  pub b : List ℕ
-  pub c : List ℕ
-  pub z : List ℕ
-  pub l : ℕ
-
-abbrev pub turn : List ℕ → List ℕ → List ℕ → ℕ → Turn
-turn b c z l = record { b = b; c = c; z = z; l = l }
-
-pub record CancelOut (F : Frame) (e : Bool) (ab ac bb bc : List ℕ) (s c k top : ℕ) (o : Turn) : Type 0 where
-  pub held : Held F e top (point (o .b) (o .c) (o .z))
-  pub size : Size (o .z) (o .l)
-  pub each : (μ : Meaning F) → Turned (rd μ) (rd μ .cast s) (rd μ .cast c) k (pt μ ab ac) (pt μ bb bc) (pt μ (o .b) (o .c))
+pub record CancelOut (F : Frame) (e : Bool) (ab ac : List ℕ) (a : Top) (bb bc : List ℕ) (b : Top) (top low : ℕ) (nb nc : List ℕ) (t : Top) : Type 0 where
+  pub rows : Rows F top nb nc
+  pub is : Topped F e nb nc low (a .n - 1) t
+  pub each : (μ : Meaning F) → Turned (rd μ) (rd μ .cast (b .c)) (rd μ .cast (a .c)) (a .n - b .n) (pt μ ab ac) (pt μ bb bc) (pt μ nb nc)
 
 -- ---- the first loop
 pub record ClearIn (F : Frame) (q : Pair) (top lu : ℕ) : Type 0 where
@@ -116,40 +106,36 @@ abbrev pub swapIf : Bool → Pair → Pair
 swapIf true q = pair (q .nb) (q .nc) (q .mb) (q .mc)
 swapIf false q = q
 
--- y1 and y2 are the lengths of Y(m), Y(n); x1 and x2 bound those of X
-pub record Clearing (F : Frame) (q : Pair) (top lu : ℕ) (m n : Point) (y1 y2 : ℕ) : Type 0 where
+-- y1 and y2 are the tops of Y(m), Y(n) past u′; x1 and x2 bound the lengths of X
+pub record Clearing (F : Frame) (q : Pair) (top lu : ℕ) (o : Pair) (y1 y2 : Top) : Type 0 where
   pub room : Room F top
-  pub hm : Held F true top m
-  pub hn : Held F true top n
+  pub hm : Rows F top (o .mb) (o .mc)
+  pub hn : Rows F top (o .nb) (o .nc)
   pub s : ℕ
   pub u : ℕ
   pub top-is : top ≡ suc s
   pub lu-is : lu ≡ suc u
-  pub sy1 : Size (m .z) y1
-  pub sy2 : Size (n .z) y2
+  pub ty1 : Topped F true (o .mb) (o .mc) (lu - 1) top y1
+  pub ty2 : Topped F true (o .nb) (o .nc) (lu - 1) top y2
   pub x1 : ℕ
   pub x2 : ℕ
   pub bx1 : x1 ≤ top
   pub bx2 : x2 ≤ top
-  pub by1 : y1 ≤ top
-  pub by2 : y2 ≤ top
-  pub k1 : x1 + y2 ≤ s + u + 2
-  pub k2 : x2 + y1 ≤ s + u + 2
+  pub k1 : x1 + y2 .n ≤ s + u + 2
+  pub k2 : x2 + y1 .n ≤ s + u + 2
   pub some : Meaning F
-  pub lx1 : Ltμ some (X some (pt some (m .b) (m .c))) x1
-  pub lx2 : Ltμ some (X some (pt some (n .b) (n .c))) x2
+  pub lx1 : Ltμ some (X some (pt some (o .mb) (o .mc))) x1
+  pub lx2 : Ltμ some (X some (pt some (o .nb) (o .nc))) x2
   pub det : Hasμ some (D some (pt some (q .mb) (q .mc)) (pt some (q .nb) (q .nc))) (s + u)
-  pub moved : (μ : Meaning F) → Movedμ μ q (m .b) (m .c) (n .b) (n .c)
+  pub moved : (μ : Meaning F) → Movedμ μ q (o .mb) (o .mc) (o .nb) (o .nc)
 
 pub record Cleared (F : Frame) (q : Pair) (top lu : ℕ) (o : Pair) : Type 0 where
-  pub my : List ℕ
-  pub ny : List ℕ
-  pub y1 : ℕ
-  pub y2 : ℕ
-  pub state : Clearing F q top lu (point (o .mb) (o .mc) my) (point (o .nb) (o .nc) ny) y1 y2
-  pub low : y1 < lu
-  pub high : lu ≤ y2
-  pub all : state .x1 + y2 ≡ state .s + state .u + 2
+  pub y1 : Top
+  pub y2 : Top
+  pub state : Clearing F q top lu o y1 y2
+  pub low : y1 .n < lu
+  pub high : lu ≤ y2 .n
+  pub all : state .x1 + y2 .n ≡ state .s + state .u + 2
 
 -- ---- the second loop: X(m) has the degree x, Y(n) the length y2, Y(m) at most y1
 pub record ShearIn (F : Frame) (q : Pair) (top : ℕ) : Type 0 where
@@ -178,23 +164,22 @@ pub record ShearBy (F : Frame) (mul lim : ℕ) (q : Pair) (top : ℕ) (mx nx : L
 abbrev pub ends : List ℕ → List ℕ → List ℕ → List ℕ → List ℕ → List ℕ → ℕ → Ends
 ends mb mc mx nb nc nx lx = record { mb = mb; mc = mc; mx = mx; nb = nb; nc = nc; nx = nx; lx = lx }
 
-pub record Shearing (F : Frame) (q : Pair) (top : ℕ) (m n : Point) (x1 x2 : ℕ) : Type 0 where
+-- x1 is the top of X(m), and x2 that of X(n) from there on
+pub record Shearing (F : Frame) (q : Pair) (top : ℕ) (nb nc : List ℕ) (x1 x2 : Top) : Type 0 where
   pub room : Room F top
-  pub hm : Held F false top m
-  pub hn : Held F false top n
+  pub hm : Rows F top (q .mb) (q .mc)
+  pub hn : Rows F top nb nc
+  pub tx1 : Topped F false (q .mb) (q .mc) (x1 .n - 1) top x1
+  pub tx2 : Topped F false nb nc (x1 .n - 1) top x2
   pub y1 : ℕ
   pub y2 : ℕ
-  pub sx1 : Size (m .z) x1
-  pub sx2 : Size (n .z) x2
-  pub bx1 : x1 ≤ top
-  pub bx2 : x2 ≤ top
   pub by2 : y2 ≤ top
-  pub gap : y1 + top < x1 + y2
-  pub ym : (μ : Meaning F) → Ltμ μ (Y μ (pt μ (m .b) (m .c))) y1
-  pub yn : (μ : Meaning F) → Hasμ μ (Y μ (pt μ (n .b) (n .c))) (y2 - 1)
+  pub gap : y1 + top < x1 .n + y2
+  pub ym : (μ : Meaning F) → Ltμ μ (Y μ (pt μ (q .mb) (q .mc))) y1
+  pub yn : (μ : Meaning F) → Hasμ μ (Y μ (pt μ nb nc)) (y2 - 1)
   pub was : (μ : Meaning F) → Hasμ μ (Y μ (pt μ (q .nb) (q .nc))) (y2 - 1)
   pub some : Meaning F
-  pub moved : (μ : Meaning F) → Movedμ μ q (m .b) (m .c) (n .b) (n .c)
+  pub moved : (μ : Meaning F) → Movedμ μ q (q .mb) (q .mc) nb nc
 
 pub record Sheared (F : Frame) (q : Pair) (top : ℕ) (o : Ends) : Type 0 where
   pub same-b : o .mb ≡ q .mb

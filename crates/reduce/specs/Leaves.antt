@@ -2,8 +2,9 @@
 --   Crossed p s x c k y n z  z is the row of s x − c t^k y, which ends before n
 --   Terms .. r               r is the coefficient at t^j of b times the series that s holds, up to multiples of p
 --   PartAt .. v              v is the coefficient at t^j of b r ± c w, below p
---   Led F e b c r            r is the leading coefficient of the same
 --   Parted F e b c top z     z is the polynomial part of b r + c w (e false) or b r − c w (e true)
+--   Topped F e b c low l t   t is the length and the leading coefficient of the same, or low and 0 where it ends at or before low
+--   Led F e b c r            r is the leading coefficient
 use mathlib.Core.Path.{_≡_}
 use mathlib.Core.Bool.{Bool, true, false}
 use mathlib.Core.List.{List}
@@ -19,7 +20,8 @@ use Rattle.reading.specs.Row.{Row, Size, row, shiftAt, fallAt, Floor}
 use Rattle.reading.proofs.Turn.{comb}
 use Rattle.residue.specs.Residue.{Modulus}
 use Rattle.poly.specs.Terms.{Ready}
-use Rattle.reduce.specs.Frame.{Frame, Fine, Meaning, Short, rd, pt, side}
+use Rattle.reduce.specs.Frame.{Frame, Fine, Meaning, Short, rd, pt, side, Ltμ}
+use Rattle.reduce.specs.declared.Top.{Top}
 
 -- ---- s x − c t^k y
 pub record CrossIn (p s : ℕ) (x : List ℕ) (c k : ℕ) (y : List ℕ) (n : ℕ) : Type 0 where
@@ -119,6 +121,23 @@ pub record PartAt (F : Frame) (e : Bool) (b c : List ℕ) (top j v : ℕ) : Type
 pub record Parted (F : Frame) (e : Bool) (b c : List ℕ) (top : ℕ) (z : List ℕ) : Type 0 where
   pub short : Short (F .p) z top
   pub law : (μ : Meaning F) → Floor (rd μ) (side μ e (pt μ b c)) z
+
+-- ---- leading terms: the size ends before l
+pub record TopIn (F : Frame) (m lim : ℕ) (e : Bool) (b c : List ℕ) (top l low : ℕ) : Type 0 where
+  pub inp : PartIn F b c top
+  pub ready : Ready (F .p) m lim
+  pub fits : l ≤ top
+  pub room : low ≤ l
+  pub ends : (μ : Meaning F) → Ltμ μ (side μ e (pt μ b c)) l
+
+pub record Topped (F : Frame) (e : Bool) (b c : List ℕ) (low l : ℕ) (t : Top) : Type 0 where
+  pub from : low ≤ t .n
+  pub upto : t .n ≤ l
+  pub below : t .c < F .p
+  pub ends : (μ : Meaning F) → Ltμ μ (side μ e (pt μ b c)) (t .n)
+  pub none : t .n ≡ low → t .c ≡ 0
+  pub some : low < t .n → 0 < t .c
+  pub lead : low < t .n → (μ : Meaning F) → rd μ .𝓥 .Lead (side μ e (pt μ b c)) (t .n - 1) 0 (rd μ .cast (t .c))
 
 -- r is the leading coefficient of the size, where the size has a degree that is not below 0
 pub record Led (F : Frame) (e : Bool) (b c : List ℕ) (r : ℕ) : Type 0 where

@@ -10,8 +10,8 @@ ghost use mathlib.Core.Path.{_≡_};
 ghost use Prim.Native.Nat.{_+_, _*_, _-_, _%_, _<_, _≤_};
 ghost use Rattle.reading.specs.Row.{shiftAt};
 ghost use Rattle.reduce.specs.Given.{given};
-ghost use Rattle.reduce.specs.Clear.{CancelBy, CancelOut, ClearIn, ClearBy, Cleared, ShearBy, Sheared, Reduced, turn, pair, ends, swapIf};
-ghost use Rattle.reduce.specs.Leaves.{CrossBy, Crossed, SumIn, Summed, TermsIn, Terms, PlainIn, PartIn, PartBy, PartAtIn, PartAtBy, QuickAtIn, PartAt, Parted, Led};
+ghost use Rattle.reduce.specs.Clear.{CancelBy, CancelOut, ClearIn, ClearBy, Cleared, ShearBy, Sheared, Reduced, pair, ends, swapIf};
+ghost use Rattle.reduce.specs.Leaves.{CrossBy, Crossed, SumIn, Summed, TermsIn, Terms, PlainIn, PartIn, PartBy, PartAtIn, PartAtBy, QuickAtIn, PartAt, Parted, TopIn, Topped, Led};
 
 // A modulus, the degrees of two series, and the bound of sizes: one more than the largest degree that may occur
 pub struct Bounds {
@@ -187,6 +187,42 @@ pub fn part(
     z
 }
 
+// A length and a leading coefficient
+struct Top {
+    n: usize,
+    c: u64,
+}
+
+// The length and the leading coefficient of the polynomial part of b r + c w, or of b r - c w, which ends before l;
+// where it ends at or before low, low and 0.
+fn top_of(
+    f: Bounds,
+    fast: Rapid,
+    minus: bool,
+    b: &[u64; 32],
+    c: &[u64; 32],
+    r: &[u64; 32],
+    w: &[u64; 32],
+    l: usize,
+    low: usize,
+) -> Top
+    requires { ⌜ TopIn (given f (now r) (now w)) (fast .m) (fast .lim) minus (now b) (now c) (f .top) l low ⌝ }
+    ensures { λ t. ⌜ Topped (given f (now (r .entry)) (now (w .entry))) minus (now (b .entry)) (now (c .entry)) low l t ⌝ }
+{
+    let p = f.p;
+    let q = p * p;
+    let mut j = l;
+    while low < j {
+        let v = digit(f, fast, q, minus, b, c, r, w, j - 1);
+        if 0 < v {
+            return Top { n: j, c: v };
+        } else {
+            j -= 1;
+        }
+    }
+    Top { n: low, c: 0 }
+}
+
 // The leading coefficient of b r + c w, or of b r - c w, where its degree is not below 0
 pub fn lead_of(
     f: Bounds,
@@ -199,10 +235,9 @@ pub fn lead_of(
     requires { ⌜ PartIn (given f (now r) (now w)) (now b) (now c) (f .top) ⌝ }
     ensures { λ v. ⌜ Led (given f (now (r .entry)) (now (w .entry))) minus (now (b .entry)) (now (c .entry)) v ⌝ }
 {
-    let top = f.top;
-    let z = part(f, minus, b, c, r, w);
-    let n = size_from(&z, top);
-    if n == 0 { 0 } else { z[n - 1] }
+    let fast = rapid_of(f.p);
+    let t = top_of(f, fast, minus, b, c, r, w, f.top, 0);
+    t.c
 }
 
 // The coefficient of t^k y at i
@@ -247,34 +282,34 @@ pub struct Ends {
     pub lx: usize,
 }
 
-// s a - c t^k b in place of a, with the polynomial part az of a size, which ends before l; its length
+// The element a with its leading term canceled by b, which is no longer: s a - c t^k b in place of a, and the top of its size
 fn canceled(
     f: Bounds,
     fast: Rapid,
     minus: bool,
     r: &[u64; 32],
     w: &[u64; 32],
-    s: u64,
     ab: &mut [u64; 32],
     ac: &mut [u64; 32],
-    az: &mut [u64; 32],
-    c: u64,
-    k: usize,
+    a: Top,
     bb: &[u64; 32],
     bc: &[u64; 32],
-    l: usize,
-) -> usize
-    requires { ⌜ CancelBy (given f (now r) (now w)) (fast .m) (fast .lim) minus (now ab) (now ac) (now az) (now bb) (now bc) s c k (f .top) l ⌝ }
-    ensures { λ m. ⌜ CancelOut (given f (now (r .entry)) (now (w .entry))) minus (now (ab .entry)) (now (ac .entry)) (now (bb .entry)) (now (bc .entry)) s c k (f .top) (turn (now (ab .exit)) (now (ac .exit)) (now (az .exit)) m) ⌝ }
+    b: Top,
+    low: usize,
+) -> Top
+    requires { ⌜ CancelBy (given f (now r) (now w)) (fast .m) (fast .lim) minus (now ab) (now ac) a (now bb) (now bc) b (f .top) low ⌝ }
+    ensures { λ t. ⌜ CancelOut (given f (now (r .entry)) (now (w .entry))) minus (now (ab .entry)) (now (ac .entry)) a (now (bb .entry)) (now (bc .entry)) b (f .top) low (now (ab .exit)) (now (ac .exit)) t ⌝ }
 {
     let p = f.p;
     let dr = f.dr;
     let dw = f.dw;
     let top = f.top;
+    let s = b.c;
+    let c = a.c;
+    let k = a.n - b.n;
     cross(p, fast, s, ab, c, k, bb, top - dr);
     cross(p, fast, s, ac, c, k, bc, top - dw);
-    part_in(f, fast, minus, ab, ac, r, w, az);
-    size_from(az, l)
+    top_of(f, fast, minus, ab, ac, r, w, a.n - 1, low)
 }
 
 // Leading terms of Y are canceled until one Y lies below the denominator's degree, lu - 1: that of n where the answer is yes.
@@ -293,53 +328,18 @@ fn clear_y(
     ensures { λ o. ⌜ Cleared (given f (now (r .entry)) (now (w .entry))) (pair (now (mb .entry)) (now (mc .entry)) (now (nb .entry)) (now (nc .entry))) (f .top) lu (swapIf o (pair (now (mb .exit)) (now (mc .exit)) (now (nb .exit)) (now (nc .exit)))) ⌝ }
 {
     let top = f.top;
-    let mut my: [u64; 32] = [0; 32];
-    let mut ny: [u64; 32] = [0; 32];
-    part_in(f, fast, true, mb, mc, r, w, &mut my);
-    part_in(f, fast, true, nb, nc, r, w, &mut ny);
-    let mut y1 = size_from(&my, top);
-    let mut y2 = size_from(&ny, top);
-    while lu <= y1 {
-        if y2 < lu {
+    let low = lu - 1;
+    let mut y1 = top_of(f, fast, true, mb, mc, r, w, top, low);
+    let mut y2 = top_of(f, fast, true, nb, nc, r, w, top, low);
+    while lu <= y1.n {
+        if y2.n < lu {
             return true;
         } else {
-            let s = my[y1 - 1];
-            let c = ny[y2 - 1];
-            if y1 < y2 {
-                let t = canceled(
-                    f,
-                    fast,
-                    true,
-                    r,
-                    w,
-                    s,
-                    nb,
-                    nc,
-                    &mut ny,
-                    c,
-                    y2 - y1,
-                    mb,
-                    mc,
-                    y2 - 1,
-                );
+            if y1.n < y2.n {
+                let t = canceled(f, fast, true, r, w, nb, nc, y2, mb, mc, y1, low);
                 y2 = t;
             } else {
-                let t = canceled(
-                    f,
-                    fast,
-                    true,
-                    r,
-                    w,
-                    c,
-                    mb,
-                    mc,
-                    &mut my,
-                    s,
-                    y1 - y2,
-                    nb,
-                    nc,
-                    y1 - 1,
-                );
+                let t = canceled(f, fast, true, r, w, mb, mc, y1, nb, nc, y2, low);
                 y1 = t;
             }
         }
@@ -347,7 +347,7 @@ fn clear_y(
     false
 }
 
-// Then leading terms of n's X, until it lies below m's; the length of m's.
+// Then leading terms of n's X, until it lies below m's; the length of m's. The polynomial parts of X go into mx and nx.
 fn clear_x(
     f: Bounds,
     fast: Rapid,
@@ -365,31 +365,16 @@ fn clear_x(
 {
     let top = f.top;
     part_in(f, fast, false, mb, mc, r, w, mx);
-    part_in(f, fast, false, nb, nc, r, w, nx);
-    let x1 = size_from(mx, top);
-    let mut x2 = size_from(nx, top);
-    while x1 <= x2 {
-        let s = mx[x1 - 1];
-        let c = nx[x2 - 1];
-        let t = canceled(
-            f,
-            fast,
-            false,
-            r,
-            w,
-            s,
-            nb,
-            nc,
-            nx,
-            c,
-            x2 - x1,
-            mb,
-            mc,
-            x2 - 1,
-        );
+    let l = size_from(mx, top);
+    let low = l - 1;
+    let x1 = Top { n: l, c: mx[low] };
+    let mut x2 = top_of(f, fast, false, nb, nc, r, w, top, low);
+    while l <= x2.n {
+        let t = canceled(f, fast, false, r, w, nb, nc, x2, mb, mc, x1, low);
         x2 = t;
     }
-    x1
+    part_in(f, fast, false, nb, nc, r, w, nx);
+    l
 }
 
 // A pair with the span of q, deg X(n) < deg X(m) and deg Y(m) < lu - 1 <= deg Y(n)

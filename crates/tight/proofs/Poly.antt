@@ -3,7 +3,7 @@ use mathlib.Core.Path.{_≡_, refl, sym, ap, _∙_}
 use mathlib.Core.Logic.{_⊎_, inl, inr}
 use mathlib.Core.Bool.{Bool, true, false}
 use mathlib.Core.List.{List, [], _∷_}
-use Prim.Native.Nat.{ℕ, _+_, _-_}
+use Prim.Native.Nat.{ℕ, _+_, _-_, _%_}
 use native.Mathlib.Omega.{arith}
 use lib.Seq.{ext-getD}
 use Rattle.ring.proofs.Solve.{var, minus, _:+_, solve}
@@ -22,7 +22,8 @@ use Rattle.reading.proofs.Floors.{sized}
 use Rattle.reading.proofs.Quotient.{division-unique}
 use Rattle.reading.proofs.Unique.{row-unique}
 use Rattle.prime.specs.Table.{PrimeTest}
-use Rattle.poly.specs.Leaf.{Leading, Summed, Difference, Opposite, Scaled, Crossed, Product, Listed}
+use Rattle.poly.specs.Leaf.{Leading, Summed, Difference, Opposite, Scaled, ScaleOut, Crossed, CrossOut, Product, Listed}
+use Rattle.poly.specs.Terms.{More}
 use Rattle.poly.specs.Division.{DivIn, Quotient, Exact, Divided}
 use Rattle.poly.specs.Factors.{polynomial, Derived, Over, OverBoth, Common, SquareTest, CoprimeTest}
 use Rattle.poly.specs.declared.QuotRem.{QuotRem}
@@ -46,6 +47,10 @@ lead-one {x} h k = let (n, e) = sized x in h n e ∙ sym (k n e)
 pub from-list-one : {l r s : List ℕ} → Listed l r → Listed l s → r ≡ s
 from-list-one {l} {r} {s} h k = ext-getD 0 r s (h .size ∙ sym (k .size)) (λ i _. h .each i ∙ sym (k .each i))
 
+-- one class mod p
+pub more-one : {p s x y r r′ : ℕ} → More p s x y r → More p s x y r′ → r % p ≡ r′ % p
+more-one h k = h .law ∙ sym (k .law)
+
 -- ---- for a prime
 module _ {p : ℕ} (pr : Prime p) where
   pub add-one : {x y r s : List ℕ} → Summed p x y r → Summed p x y s → r ≡ s
@@ -62,6 +67,12 @@ module _ {p : ℕ} (pr : Prime p) where
 
   pub cross-one : {a : ℕ} {x : List ℕ} {c k : ℕ} {y r s : List ℕ} → Crossed p a x c k y r → Crossed p a x c k y s → r ≡ s
   cross-one h k = by-row (reading p pr) (h .is-row) (k .is-row) (h .law pr) (k .law pr)
+
+  pub scale-in-one : {c : ℕ} {x : List ℕ} {n : ℕ} {r s : List ℕ} → ScaleOut p c x n r → ScaleOut p c x n s → r ≡ s
+  scale-in-one h k = scale-one (h .scaled) (k .scaled)
+
+  pub cross-in-one : {a : ℕ} {x : List ℕ} {c k : ℕ} {y : List ℕ} {n : ℕ} {r s : List ℕ} → CrossOut p a x c k y n r → CrossOut p a x c k y n s → r ≡ s
+  cross-in-one h k = cross-one (h .crossed) (k .crossed)
 
   pub mul-one : {x y r s : List ℕ} → Product p x y r → Product p x y s → r ≡ s
   mul-one h k = by-row (reading p pr) (h .is-row) (k .is-row) (h .law pr) (k .law pr)

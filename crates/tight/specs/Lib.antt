@@ -4,8 +4,9 @@
 --   prime         is_prime: is-prime-one (Poly)
 --   poly          size_from, size: size-one; lead: lead-one; from_list: from-list-one; squarefree, coprime: squarefree-one, coprime-one;
 --                 for a prime p: add, sub, minus, scale, cross, mul, derivative, quotient, divide: add-one, sub-one, minus-one, scale-one,
---                 cross-one, mul-one, derivative-one, quotient-one, divide-one; exact, where b divides a: exact-one;
---                 gcd, up to a constant: gcd-one (Poly); rapid_of settles nothing: its numbers only serve a remainder, which is settled
+--                 cross-one, mul-one, derivative-one, quotient-one, divide-one; scale_in, cross_in: scale-in-one, cross-in-one;
+--                 exact, where b divides a: exact-one; gcd, up to a constant: gcd-one; more, mod p: more-one (Poly); rapid_of settles nothing:
+--                 its numbers only serve a remainder, which is settled
 --   sized         for a prime p: mix_in, both_in, times_in, det_in, quotient_in: mix-in-one, both-in-one, times-in-one, det-in-one,
 --                 quotient-in-one (Sized)
 --   field         list_length: list-one (field/proofs/Parts); refusal: refusal-one; open: opens-one (field/proofs)

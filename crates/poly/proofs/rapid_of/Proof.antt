@@ -9,11 +9,11 @@ use Rattle.poly.proofs.rapid_of.Tie as tie
 scale-of-requires : tie.Need-scale-of-requires
 scale-of-requires c κs = search needs
 
-mul-t5 : tie.Need-mul-t5
-mul-t5 c = let p = c .before .before .args .p in let l : p ≤ 65535 = omega arith in let m : p * p ≤ 65535 * 65535 = mul-le-mul l l in omega arith
+mul-lim : tie.Need-mul-lim
+mul-lim c = let p = c .before .before .args .p in let l : p ≤ 65535 = omega arith in let m : p * p ≤ 65535 * 65535 = mul-le-mul l l in omega arith
 
-mul-t6 : tie.Need-mul-t6
-mul-t6 c = let p = c .before .before .args .p in let l : p ≤ 65535 = omega arith in let m : p * p ≤ 65535 * 65535 = mul-le-mul l l in omega arith
+mul-lim-2 : tie.Need-mul-lim-2
+mul-lim-2 c = let p = c .before .before .args .p in let l : p ≤ 65535 = omega arith in let m : p * p ≤ 65535 * 65535 = mul-le-mul l l in omega arith
 
 returns : tie.Need-returns
 returns c = search needs
@@ -22,4 +22,4 @@ returns-2 : tie.Need-returns-2
 returns-2 c = search needs
 
 pub rapid-of-spec : {M : Type 1} → statement M
-rapid-of-spec = tie.close (tie.spec scale-of-requires mul-t5 mul-t6 returns returns-2)
+rapid-of-spec = tie.close (tie.spec scale-of-requires mul-lim mul-lim-2 returns returns-2)

@@ -1,116 +1,54 @@
 -- `reduce::clear_x` meets its contract: each turn is `shear-turn`; the length of X(n) falls.
-use Prim.Native.Nat.{ℕ, _≤_, _<_}
+use Prim.Native.Nat.{_-_, _<_}
 use native.Mathlib.Omega.{arith}
-use Rattle.reduce.specs.Frame.{point}
 use Rattle.reduce.specs.Given.{given}
 use Rattle.reduce.specs.Clear.{Shearing, pair}
 use Rattle.reduce.proofs.Clearing.{part-in, part-below}
-use Rattle.reduce.proofs.Shearing.{shear-start, shear-pos, shear-turn-in, shear-less, shear-turn, shear-end}
+use Rattle.reduce.proofs.Shearing.{shear-pos, shear-low, shear-top, shear-start, shear-turn-in, shear-less, shear-turn, shear-end}
 use Rattle.reduce.proofs.clear_x.Statement.{statement}
 use Rattle.reduce.proofs.clear_x.Tie as tie
 
 abbrev Inv-loop : tie.InvT-loop
-Inv-loop f fast r w mb mc mx nb₀ nc₀ nx₀ top x1 x2₀ nb nc nx x2 = Shearing (given f r w) (pair mb mc nb₀ nc₀) (f .top) (point mb mc mx) (point nb nc nx) x1 x2
+Inv-loop f fast r w mb mc mx nb₀ nc₀ nx top l low x1 x2₀ nb nc x2 = Shearing (given f r w) (pair mb mc nb₀ nc₀) (f .top) nb nc x1 x2
 
 abbrev μ-loop : tie.MeasureT-loop
-μ-loop f fast r w mb mc mx nb₀ nc₀ nx₀ top x1 x2₀ nb nc nx x2 = x2
+μ-loop f fast r w mb mc mx nb₀ nc₀ nx top l low x1 x2₀ nb nc x2 = x2 .n
 
 part-in-requires : tie.Need-part-in-requires Inv-loop μ-loop
-part-in-requires c κs = record { inp = part-in (c .before .pre .inp .room) (c .before .pre .inp .hm); ready = c .before .pre .ready; hz = c .before .pre .hmx }
-
-part-in-requires-2 : tie.Need-part-in-requires-2 Inv-loop μ-loop
-part-in-requires-2 c κs = record { inp = part-in (c .before .before .before .before .before .pre .inp .room) (c .before .before .before .before .before .pre .inp .hn); ready = c .before .before .before .before .before .pre .ready; hz = c .before .before .before .before .before .pre .hnx }
+part-in-requires c κs = let g = c .before .pre in record { inp = part-in (g .inp .room) (g .inp .hm); ready = g .ready; hz = g .hmx }
 
 size-from-requires : tie.Need-size-from-requires Inv-loop μ-loop
-size-from-requires c κs = part-below (c .before .before .before .before .before .before .before .pre .inp .room) (c .before .before .before .before .before .part-in .ensures)
+size-from-requires c κs = part-below (c .before .before .before .pre .inp .room) (c .before .part-in .ensures)
 
-size-from-requires-2 : tie.Need-size-from-requires-2 Inv-loop μ-loop
-size-from-requires-2 c κs = part-below (c .before .before .before .before .before .before .before .before .before .pre .inp .room) (c .before .before .before .part-in2 .ensures)
+sub-low : tie.Need-sub-low Inv-loop μ-loop
+sub-low c = shear-pos (c .before .before .before .before .pre .inp) (c .before .before .part-in .ensures) _ (c .size-from .ensures)
+
+mul-t20 : tie.Need-mul-t20 Inv-loop μ-loop
+mul-t20 c = let l : c .size-from .result - 1 < 32 = shear-low (c .before .before .before .before .pre .inp) (c .before .before .part-in .ensures) _ (c .size-from .ensures) in record { fits = omega arith }
+
+element-copy-out-t23 : tie.Need-element-copy-out-t23 Inv-loop μ-loop
+element-copy-out-t23 c = shear-low (c .before .before .before .before .pre .inp) (c .before .before .part-in .ensures) _ (c .size-from .ensures)
+
+top-of-requires : tie.Need-top-of-requires Inv-loop μ-loop
+top-of-requires c κs = shear-top (c .before .before .before .before .before .before .before .pre .inp) (c .before .before .before .before .before .part-in .ensures) _ (c .before .before .before .size-from .ensures) (c .before .before .before .before .before .before .before .pre .ready)
 
 loop-holds : tie.Need-loop-holds Inv-loop μ-loop
-loop-holds c = shear-start (c .before .before .before .before .before .before .before .before .before .before .pre .inp) (c .before .before .before .before .before .before .before .before .part-in .ensures) (c .before .before .before .before .part-in2 .ensures) (c .before .before .size-from .ensures) (c .size-from2 .ensures)
-
-sub-s : tie.Need-sub-s Inv-loop μ-loop
-sub-s c =
-    let l = c .before .loop in
-    let x1 = c .before .before .before .before .size-from .result in
-    let z : 0 < x1 = shear-pos (l .inv) (c .loop-test .taken) in
-    let a : x1 ≤ c .before .before .before .before .before .before .before .before .before .before .before .before .args .f .top = l .inv .bx1 in
-    let b : l .x2 ≤ c .before .before .before .before .before .before .before .before .before .before .before .before .args .f .top = l .inv .bx2 in
-    let f : c .before .before .before .before .before .before .before .before .before .before .before .before .args .f .top ≤ 32 = l .inv .room .fits in
-    omega arith
-
-mul-s : tie.Need-mul-s Inv-loop μ-loop
-mul-s c =
-    let l = c .before .loop in
-    let x1 = c .before .before .before .before .size-from .result in
-    let z : 0 < x1 = shear-pos (l .inv) (c .loop-test .taken) in
-    let a : x1 ≤ c .before .before .before .before .before .before .before .before .before .before .before .before .args .f .top = l .inv .bx1 in
-    let b : l .x2 ≤ c .before .before .before .before .before .before .before .before .before .before .before .before .args .f .top = l .inv .bx2 in
-    let f : c .before .before .before .before .before .before .before .before .before .before .before .before .args .f .top ≤ 32 = l .inv .room .fits in
-    record { fits = omega arith }
-
-element-copy-out-s : tie.Need-element-copy-out-s Inv-loop μ-loop
-element-copy-out-s c =
-    let l = c .before .loop in
-    let x1 = c .before .before .before .before .size-from .result in
-    let z : 0 < x1 = shear-pos (l .inv) (c .loop-test .taken) in
-    let a : x1 ≤ c .before .before .before .before .before .before .before .before .before .before .before .before .args .f .top = l .inv .bx1 in
-    let b : l .x2 ≤ c .before .before .before .before .before .before .before .before .before .before .before .before .args .f .top = l .inv .bx2 in
-    let f : c .before .before .before .before .before .before .before .before .before .before .before .before .args .f .top ≤ 32 = l .inv .room .fits in
-    omega arith
-
-sub-c : tie.Need-sub-c Inv-loop μ-loop
-sub-c c =
-    let l = c .before .before .loop in
-    let x1 = c .before .before .before .before .before .size-from .result in
-    let z : 0 < x1 = shear-pos (l .inv) (c .before .loop-test .taken) in
-    let a : x1 ≤ c .before .before .before .before .before .before .before .before .before .before .before .before .before .args .f .top = l .inv .bx1 in
-    let b : l .x2 ≤ c .before .before .before .before .before .before .before .before .before .before .before .before .before .args .f .top = l .inv .bx2 in
-    let f : c .before .before .before .before .before .before .before .before .before .before .before .before .before .args .f .top ≤ 32 = l .inv .room .fits in
-    omega arith
-
-mul-c : tie.Need-mul-c Inv-loop μ-loop
-mul-c c =
-    let l = c .before .before .loop in
-    let x1 = c .before .before .before .before .before .size-from .result in
-    let z : 0 < x1 = shear-pos (l .inv) (c .before .loop-test .taken) in
-    let a : x1 ≤ c .before .before .before .before .before .before .before .before .before .before .before .before .before .args .f .top = l .inv .bx1 in
-    let b : l .x2 ≤ c .before .before .before .before .before .before .before .before .before .before .before .before .before .args .f .top = l .inv .bx2 in
-    let f : c .before .before .before .before .before .before .before .before .before .before .before .before .before .args .f .top ≤ 32 = l .inv .room .fits in
-    record { fits = omega arith }
-
-element-copy-out-c : tie.Need-element-copy-out-c Inv-loop μ-loop
-element-copy-out-c c =
-    let l = c .before .before .loop in
-    let x1 = c .before .before .before .before .before .size-from .result in
-    let z : 0 < x1 = shear-pos (l .inv) (c .before .loop-test .taken) in
-    let a : x1 ≤ c .before .before .before .before .before .before .before .before .before .before .before .before .before .args .f .top = l .inv .bx1 in
-    let b : l .x2 ≤ c .before .before .before .before .before .before .before .before .before .before .before .before .before .args .f .top = l .inv .bx2 in
-    let f : c .before .before .before .before .before .before .before .before .before .before .before .before .before .args .f .top ≤ 32 = l .inv .room .fits in
-    omega arith
-
-sub-canceled : tie.Need-sub-canceled Inv-loop μ-loop
-sub-canceled c =
-    let l = c .before .before .before .before .before .before .loop in
-    let x1 = c .before .before .before .before .before .before .before .before .before .size-from .result in
-    let z : 0 < x1 = shear-pos (l .inv) (c .before .before .before .before .before .loop-test .taken) in
-    let a : x1 ≤ c .before .before .before .before .before .before .before .before .before .before .before .before .before .before .before .before .before .args .f .top = l .inv .bx1 in
-    let b : l .x2 ≤ c .before .before .before .before .before .before .before .before .before .before .before .before .before .before .before .before .before .args .f .top = l .inv .bx2 in
-    let f : c .before .before .before .before .before .before .before .before .before .before .before .before .before .before .before .before .before .args .f .top ≤ 32 = l .inv .room .fits in
-    omega arith
+loop-holds c = shear-start (c .before .before .before .before .before .before .before .before .pre .inp) (c .before .before .before .before .before .before .part-in .ensures) _ (c .before .before .before .before .size-from .ensures) (c .top-of .ensures)
 
 canceled-requires : tie.Need-canceled-requires Inv-loop μ-loop
-canceled-requires c κs = record { inp = shear-turn-in (c .before .before .before .before .before .before .loop .inv) (c .before .before .before .before .before .loop-test .taken); ready = c .before .before .before .before .before .before .before .before .before .before .before .before .before .before .before .before .before .pre .ready; hz = c .before .before .before .before .before .before .loop .inv .hn .hz }
+canceled-requires c κs = record { inp = shear-turn-in (c .before .before .before .before .loop .inv) (c .before .before .if1 .taken); ready = c .before .before .before .before .before .before .before .before .before .before .before .before .before .pre .ready }
 
 loop-less : tie.Need-loop-less Inv-loop μ-loop
-loop-less c = shear-less (c .before .before .before .before .before .before .before .loop .inv) (c .before .before .before .before .before .before .loop-test .taken) _ (c .canceled .ensures)
+loop-less c = shear-less (c .before .before .before .before .before .loop .inv) (c .before .before .before .if1 .taken) (c .canceled .ensures)
 
 loop-again : tie.Need-loop-again Inv-loop μ-loop
-loop-again c = shear-turn (c .before .before .before .before .before .before .before .loop .inv) (c .before .before .before .before .before .before .loop-test .taken) _ (c .canceled .ensures)
+loop-again c = shear-turn (c .before .before .before .before .before .loop .inv) (c .before .before .before .if1 .taken) (c .canceled .ensures)
+
+part-in-requires-2 : tie.Need-part-in-requires-2 Inv-loop μ-loop
+part-in-requires-2 c κs = record { inp = part-in (c .before .before .before .before .before .loop .inv .room) (c .before .before .before .before .before .loop .inv .hn); ready = c .before .before .before .before .before .before .before .before .before .before .before .before .before .before .pre .ready; hz = c .before .before .before .before .before .before .before .before .before .before .before .before .before .before .pre .hnx }
 
 returns : tie.Need-returns Inv-loop μ-loop
-returns c = shear-end (c .before .loop .inv) (omega arith)
+returns c = shear-end (c .before .before .before .before .before .before .loop .inv) (omega arith) (c .before .before .before .before .before .before .before .before .before .before .before .before .before .part-in .ensures) (c .before .before .before .before .before .before .before .before .before .before .before .size-from .ensures) (c .part-in2 .ensures)
 
 pub clear-x-spec : {M : Type 1} → statement M
 clear-x-spec =
@@ -119,18 +57,14 @@ clear-x-spec =
     Inv-loop
     μ-loop
     part-in-requires
-    part-in-requires-2
     size-from-requires
-    size-from-requires-2
+    sub-low
+    mul-t20
+    element-copy-out-t23
+    top-of-requires
     loop-holds
-    sub-s
-    mul-s
-    element-copy-out-s
-    sub-c
-    mul-c
-    element-copy-out-c
-    sub-canceled
     canceled-requires
     loop-less
     loop-again
+    part-in-requires-2
     returns)
