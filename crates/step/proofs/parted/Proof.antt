@@ -3,7 +3,7 @@ use mathlib.Core.Path.{refl}
 use native.Mathlib.Omega.{arith}
 use borrow.Author.Needs.{needs}
 use Rattle.generators.specs.Rows.{seven}
-use Rattle.generators.proofs.Products.{m0-ends, u-ends}
+use Rattle.generators.proofs.Products.{m0-ends, n0-ends, u-ends}
 use Rattle.basis.specs.Store.{SevenLoaded}
 use Rattle.step.proofs.Made.{lead-low, divided-in, n-small, shorter}
 use Rattle.step.proofs.parted.Statement.{statement}
@@ -38,7 +38,7 @@ add-size-from : tie.Need-add-size-from
 add-size-from c = omega (arith, n-small (c .before .before .before .before .before .before .before .before .pre .inp) (seven-loaded (c .before)))
 
 size-from-requires : tie.Need-size-from-requires
-size-from-requires c κs = m0-ends (divided-in (c .before .before .before .before .before .before .before .before .pre .inp) (seven-loaded (c .before)))
+size-from-requires c κs = let i = divided-in (c .before .before .before .before .before .before .before .before .pre .inp) (seven-loaded (c .before)) in search (m0-ends i, n0-ends i)
 
 add-size-from-2 : tie.Need-add-size-from-2
 add-size-from-2 c = omega (arith, n-small (c .before .before .before .before .before .before .before .before .before .before .pre .inp) (seven-loaded (c .before .before .before)))
