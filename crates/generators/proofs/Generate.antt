@@ -4,16 +4,15 @@
 --   y-in, turned-w     w m
 --   take-in, divided   the four that lose their common factor, and the generators
 use mathlib.Core.Path.{_≡_, refl, sym, ap, ap₂, _∙_, subst}
-use mathlib.Core.Logic.{_≢_}
 use mathlib.Core.List.{List, [], _∷_}
-use Prim.Native.Nat.{ℕ, suc, _+_, _<_, _≤_}
+use Prim.Native.Nat.{ℕ, suc, _+_, _≤_}
 use native.Mathlib.Omega.{arith}
 use lib.ListN.{replicate}
 use Rattle.ring.specs.Ring.{Ops, CRing}
 use Rattle.ring.proofs.Solve.{var, minus, one, hyp, _:+_, _:*_, solve, solve-by}
 use Rattle.fp.specs.Fp.{Prime}
 use Rattle.valued.specs.Val.{Valued}
-use Rattle.valued.specs.Degree.{Has, Lt}
+use Rattle.valued.specs.Degree.{Lt}
 use Rattle.valued.specs.Polynomial.{polys, Poly, Divides}
 use Rattle.valued.proofs.Degree as d
 use Rattle.valued.proofs.Compare.{lt-mul-sharp}
@@ -21,11 +20,10 @@ use Rattle.valued.proofs.Divide.{p-cancel}
 use Rattle.valued.proofs.Polynomial.{P-path}
 use Rattle.reading.specs.Reading.{Reading}
 use Rattle.reading.specs.Made.{reading}
-use Rattle.reading.specs.Row.{Row, Size, row}
+use Rattle.reading.specs.Row.{Size, row}
 use Rattle.reading.proofs.Rows.{size-le}
 use Rattle.poly.specs.Leaf.{Product}
 use Rattle.poly.specs.Terms.{Ready}
-use Rattle.ideals.specs.Setting.{dGH}
 use Rattle.ideals.specs.Basis.{Good}
 use Rattle.ideals.proofs.Degrees.{small}
 use Rattle.chain.proofs.Parts.{Parts, parts, Cut, base, base-d}
@@ -33,11 +31,11 @@ use Rattle.chain.proofs.Room.{d-not-zero}
 use Rattle.field.specs.Refusal.{Accepted}
 use Rattle.record.specs.Record.{setting, polyOf}
 use Rattle.generators.specs.Rows.{Seven, rowsOf, Holds}
-use Rattle.generators.specs.Quotients.{Three, Det, CoordsIn, Coordinates}
+use Rattle.generators.specs.Quotients.{Three, Det, CoordsIn}
 use Rattle.generators.specs.Known.{Blank, CoordsOut}
 use Rattle.generators.specs.Common.{Negated, four, fourDet, CutIn, TakeIn, Taken}
 use Rattle.generators.specs.Turns.{Measured, TurnIn, TurnedR, TurnedW}
-use Rattle.generators.specs.Generated.{GeneratorsIn, Generators, generators, Generated, AreGenerators, Divided}
+use Rattle.generators.specs.Generated.{GeneratorsIn, Generators, generators, Generated, Divided}
 use Rattle.generators.specs.declared.Spans.{Spans}
 use Rattle.generators.specs.declared.Lengths.{Lengths}
 use Rattle.generators.specs.declared.Cuts.{Cuts}

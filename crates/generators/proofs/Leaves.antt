@@ -1,5 +1,5 @@
 -- Determinants, coordinates and the common factor: from what the calls hand out to the contracts.
-use mathlib.Core.Path.{_≡_, refl, sym, ap, ap₂, _∙_, subst}
+use mathlib.Core.Path.{_≡_, sym, ap, ap₂, _∙_, subst}
 use mathlib.Core.Logic.{_≢_}
 use mathlib.Core.Bool.{true}
 use mathlib.Core.List.{List, [], _∷_}
@@ -12,7 +12,7 @@ use Rattle.ring.specs.Ring.{Ops, CRing}
 use Rattle.ring.proofs.Solve.{var, hyp, one, minus, _:+_, _:*_, solve, solve-by}
 use Rattle.fp.specs.Fp.{Prime}
 use Rattle.valued.specs.Val.{Valued}
-use Rattle.valued.specs.Degree.{Has, Lt}
+use Rattle.valued.specs.Degree.{Has}
 use Rattle.valued.specs.Polynomial.{polys, Poly, Divides, IsUnit}
 use Rattle.valued.specs.Gcd.{IsGcd}
 use Rattle.valued.proofs.Degree as d
@@ -26,15 +26,15 @@ use Rattle.reading.specs.Made.{reading}
 use Rattle.reading.specs.Row.{Row, Size, row}
 use Rattle.reading.proofs.Rows.{size-le, size-has}
 use Rattle.reading.proofs.Floors.{zero-row}
-use Rattle.poly.specs.Leaf.{MulIn, Product, Summed, Difference}
+use Rattle.poly.specs.Leaf.{MulIn, Product, Difference}
 use Rattle.poly.specs.Division.{DivIn, Exact}
 use Rattle.poly.specs.Factors.{polynomial, Common}
 use Rattle.poly.specs.Terms.{Ready}
 use Rattle.sized.specs.Sized.{BothOut, TimesBy, DetOut}
 use Rattle.poly.proofs.Leaf.{size-one}
-use Rattle.generators.specs.Rows.{Seven, AreRows}
-use Rattle.generators.specs.Quotients.{three, Fits, Inverts, DetIn, Det, Quotients, CoordsIn, Coordinates}
-use Rattle.generators.specs.Common.{FourRows, Content, Four, fourDet, CutIn, Without, CutOff}
+use Rattle.generators.specs.Rows.{Seven}
+use Rattle.generators.specs.Quotients.{three, Det, Quotients, CoordsIn, Coordinates}
+use Rattle.generators.specs.Common.{Content, Four, fourDet, CutIn, CutOff}
 
 -- ---- determinants
 pub det-of : (p : ℕ) (x y z v a b r : List ℕ) → Product p x y a → Product p z v b → Difference p a b r → Det p x y z v r

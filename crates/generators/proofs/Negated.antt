@@ -1,6 +1,5 @@
 -- A row negated in place.
 use mathlib.Core.Path.{_≡_, sym, ap, _∙_}
-use mathlib.Core.Logic.{_≢_}
 use mathlib.Core.List.{List}
 use Prim.Native.Nat.{ℕ, _+_, _-_, _%_, _<_, _≤_}
 use native.Mathlib.Nat.{mod-self, mod-eq-of-lt}
@@ -8,7 +7,7 @@ use native.Mathlib.Omega.{arith}
 use native.Mathlib.Decide.{decLt}
 use lib.ListN.{length, getD, replicate}
 use lib.Seq.{ext-getD}
-use Rattle.reading.specs.Row.{tab, Row, Size}
+use Rattle.reading.specs.Row.{tab}
 use Rattle.reading.proofs.Tab.{zeros-at, at-tab, length-tab}
 use Rattle.poly.proofs.Leaf.{zeros-row, difference, opposite}
 use Rattle.sized.proofs.Sums.{Over}

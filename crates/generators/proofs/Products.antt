@@ -1,21 +1,18 @@
 -- From a good basis to the generators of the next ideal: sizes of all products on the way, the exact quotients, and `AreGenerators`.
-use mathlib.Core.Path.{_≡_, refl, sym, ap, ap₂, _∙_, subst}
+use mathlib.Core.Path.{_≡_, refl, sym, ap, ap₂, _∙_}
 use mathlib.Core.Logic.{_≢_}
 use mathlib.Core.List.{List, [], _∷_}
 use Prim.Native.Nat.{ℕ, zero, suc, _+_, _*_, _-_, _%_, _<_, _≤_}
-use native.Mathlib.Nat.{mod-lt, mod-eq-of-lt}
+use native.Mathlib.Nat.{mod-lt}
 use native.Mathlib.Omega.{arith}
-use lib.ListN.{length, getD}
-use Rattle.ring.proofs.Laws as rg
+use lib.ListN.{getD}
 use Rattle.ring.specs.Ring.{Ops, CRing}
-use Rattle.ring.proofs.Solve.{var, hyp, one as one₁, minus, _:+_, _:*_, solve-by}
+use Rattle.ring.proofs.Solve.{var, hyp, one as one₁, minus, _:*_, solve-by}
 use Rattle.fp.specs.Fp.{Prime}
 use Rattle.valued.specs.Val.{Valued}
 use Rattle.valued.specs.Degree.{Has, Lt, Leads}
-use Rattle.valued.specs.Polynomial.{polys, Poly, Divides, IsUnit}
 use Rattle.valued.proofs.Degree as d
-use Rattle.valued.proofs.Compare.{lt-mul-sharp, leads-at, leads-unique}
-use Rattle.valued.proofs.Divide.{p-cancel}
+use Rattle.valued.proofs.Compare.{leads-unique}
 use Rattle.valued.proofs.Polynomial.{P-path, not-zero}
 use Rattle.residue.specs.Residue.{Modulus}
 use Rattle.reading.specs.Reading.{Reading}
@@ -25,20 +22,18 @@ use Rattle.reading.proofs.Rows.{size-le, size-lead, size-top, size-has, cast-su
 use Rattle.reading.proofs.Floors.{sized, zero-row}
 use Rattle.reading.proofs.Unique.{cast-inj}
 use Rattle.poly.specs.Leaf.{Cut, MulIn, Product}
-use Rattle.ideals.specs.Setting.{Setting, dGH}
+use Rattle.ideals.specs.Setting.{dGH}
 use Rattle.ideals.specs.Element.{O}
-use Rattle.ideals.specs.Ideal.{Basis, det}
 use Rattle.ideals.specs.Basis.{Good}
 use Rattle.ideals.proofs.Values.{dr-dw, dr-eq, dr-pos, dw-pos}
 use Rattle.ideals.proofs.Check.{Coords}
 use Rattle.ideals.proofs.Tests.{times-r, times-w}
-use Rattle.ideals.proofs.Degrees.{Small, small, det-lead}
+use Rattle.ideals.proofs.Degrees.{small, det-lead}
 use Rattle.field.specs.Refusal.{Accepted}
 use Rattle.record.specs.Record.{setting, polyOf}
-use Rattle.generators.specs.Rows.{Seven, AreRows, rowsOf, Holds}
+use Rattle.generators.specs.Rows.{Seven, rowsOf, Holds}
 use Rattle.generators.specs.Quotients.{Fits, Inverts, DetIn, Det, Quotients}
 use Rattle.generators.specs.Generated.{GeneratorsIn}
-use Rattle.generators.proofs.Coordinates.{Narrow, r-narrow, w-narrow}
 
 -- a number whose class is 1
 pub one-mod : {p : ℕ} (ρ : Reading p) (a : ℕ) → 1 < p → ρ .cast a ≡ ρ .𝓥 .K .ops .𝟏 → a % p ≡ 1

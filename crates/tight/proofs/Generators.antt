@@ -16,7 +16,6 @@ use Rattle.valued.proofs.Degree.{has-move, lt-eq}
 use Rattle.valued.proofs.Compare.{lt-scale}
 use Rattle.valued.proofs.Polynomial.{factor, const-unit, unit-const}
 use Rattle.valued.proofs.Divide.{p-cancel}
-use Rattle.reading.specs.Reading.{Reading}
 use Rattle.reading.specs.Made.{reading}
 use Rattle.reading.specs.Row.{Row, Size}
 use Rattle.reading.proofs.Rows.{size-lt, size-le}

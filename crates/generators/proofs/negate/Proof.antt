@@ -3,7 +3,7 @@ use Prim.Native.Nat.{_-_, _%_, _<_, _≤_}
 use mathlib.Core.Path.{_≡_, ap, _∙_}
 use native.Mathlib.Omega.{arith}
 use borrow.Author.Needs.{needs}
-use lib.ListN.{length, getD}
+use lib.ListN.{getD}
 use Rattle.sized.proofs.Sums.{Over, over-start, over-more}
 use Rattle.generators.proofs.Negated.{negated}
 use Rattle.generators.proofs.negate.Statement.{statement}
