@@ -2,11 +2,86 @@
 use basis::load;
 use basis::reduced_basis;
 use generators::divided;
-use poly::lead;
-use poly::size;
+use poly::Rapid;
+use poly::rapid_of;
+use poly::size_from;
 use reduce::Bounds;
 use reduce::Pair;
+ghost use Rattle.generators.specs.Quotients.{three};
+ghost use Rattle.generators.specs.Generated.{generators};
 ghost use Rattle.step.specs.Steps.{AdvanceIn, Advanced};
+ghost use Rattle.step.specs.Parting.{PartIn, Parting};
+
+// The degree of m, the degree of what the generators had in common, and the lengths of x1, y1 and of the denominator.
+pub struct Measures {
+    pub degree: usize,
+    pub cut: usize,
+    pub x: usize,
+    pub y: usize,
+    pub d: usize,
+}
+
+// The generators of the ideal divided by m, into seven zero rows: the rows of the record end before n + 1.
+fn parted(
+    p: u64,
+    q: Rapid,
+    g: &[u64; 32],
+    h: &[u64; 32],
+    gh: &[u64; 32],
+    n: usize,
+    b: &[u16; 119],
+    nc: &mut [u64; 32],
+    x: &mut [u64; 32],
+    mc: &mut [u64; 32],
+    nb: &mut [u64; 32],
+    y: &mut [u64; 32],
+    mb: &mut [u64; 32],
+    d: &mut [u64; 32],
+) -> Measures
+    requires { ⌜ PartIn p (q .m) (q .lim) (now g) (now h) (now gh) n (now b) (three (now nc) (now x) (now mc)) (three (now nb) (now y) (now mb)) (now d) ⌝ }
+    ensures { λ o. ⌜ Parting p (now (g .entry)) (now (h .entry)) (now (gh .entry)) (now (b .entry)) (generators (now (x .exit)) (now (y .exit)) (now (mb .exit)) (now (mc .exit)) (now (nb .exit)) (now (nc .exit)) (now (d .exit)) (o .cut)) o ⌝ }
+{
+    let m0 = load(b, 0);
+    let m1 = load(b, 1);
+    let m2 = load(b, 2);
+    let n0 = load(b, 3);
+    let n1 = load(b, 4);
+    let n2 = load(b, 5);
+    let u = load(b, 6);
+    let lm = size_from(&m0, n + 1);
+    let lu = size_from(&u, n + 1);
+    let l = gh[n];
+    let k = divided(
+        p,
+        q,
+        n + 1,
+        g,
+        h,
+        gh,
+        p - l,
+        &m0,
+        &m1,
+        &m2,
+        &n0,
+        &n1,
+        &n2,
+        &u,
+        nc,
+        x,
+        mc,
+        nb,
+        y,
+        mb,
+        d,
+    );
+    Measures {
+        degree: lm - lu,
+        cut: k.cut,
+        x: k.x,
+        y: k.y,
+        d: k.d,
+    }
+}
 
 // The degree of the m divided by, and the next record.
 pub struct Advance {
@@ -30,35 +105,40 @@ pub fn advanced(
     requires { ⌜ AdvanceIn p (now g) (now h) (now gh) n dr dw (now r) (now w) (now b) ⌝ }
     ensures { λ o. ⌜ Advanced p (now (g .entry)) (now (h .entry)) (now (gh .entry)) n dr dw (now (r .entry)) (now (w .entry)) (now (b .entry)) o ⌝ }
 {
-    let m0 = load(b, 0);
-    let m1 = load(b, 1);
-    let m2 = load(b, 2);
-    let n0 = load(b, 3);
-    let n1 = load(b, 4);
-    let n2 = load(b, 5);
-    let u = load(b, 6);
-    let lm = size(&m0);
-    let lu = size(&u);
-    let l = lead(gh);
-    let d = divided(p, g, h, gh, p - l, &m0, &m1, &m2, &n0, &n1, &n2, &u);
-    let x = d.x;
-    let y = d.y;
-    let mb = d.mb;
-    let mc = d.mc;
-    let nb = d.nb;
-    let nc = d.nc;
-    let v = d.u;
-    let cut = d.cut;
+    let q = rapid_of(p);
+    let mut x: [u64; 32] = [0; 32];
+    let mut y: [u64; 32] = [0; 32];
+    let mut mb: [u64; 32] = [0; 32];
+    let mut mc: [u64; 32] = [0; 32];
+    let mut nb: [u64; 32] = [0; 32];
+    let mut nc: [u64; 32] = [0; 32];
+    let mut d: [u64; 32] = [0; 32];
+    let k = parted(
+        p,
+        q,
+        g,
+        h,
+        gh,
+        n,
+        b,
+        &mut nc,
+        &mut x,
+        &mut mc,
+        &mut nb,
+        &mut y,
+        &mut mb,
+        &mut d,
+    );
     let f = Bounds {
         p,
         dr,
         dw,
-        top: n + 1 - cut,
+        top: n + 1 - k.cut,
     };
-    let q = Pair { mb, mc, nb, nc };
-    let o = reduced_basis(f, r, w, q, &v, &x, &y);
+    let v = Pair { mb, mc, nb, nc };
+    let o = reduced_basis(f, r, w, v, &d, &x, &y);
     Advance {
-        degree: (lm - lu) as u64,
+        degree: k.degree as u64,
         basis: o,
     }
 }
