@@ -3,7 +3,7 @@ use mathlib.Core.Path.{_≡_, refl, sym, ap, ap₂, _∙_, subst}
 use mathlib.Core.Logic.{_≢_, inl}
 use mathlib.Core.Bool.{true, false}
 use mathlib.Core.List.{List, [], _∷_}
-use Prim.Native.Nat.{ℕ, zero, suc, _+_, _-_, _<_, _≤_}
+use Prim.Native.Nat.{ℕ, zero, suc, _+_, _*_, _-_, _/_, _%_, _<_, _≤_}
 use native.Mathlib.Omega.{arith}
 use lib.ListN.{getD, replicate}
 use Rattle.ring.proofs.Laws as rg
@@ -11,19 +11,21 @@ use Rattle.ring.specs.Ring.{Ops, CRing}
 use Rattle.ring.proofs.Solve.{var, one, minus, _:+_, _:*_, hyp, solve, solve-by}
 use Rattle.fp.specs.Fp.{Prime}
 use Rattle.valued.specs.Val.{Valued}
-use Rattle.valued.specs.Degree.{Has, Lt}
-use Rattle.valued.proofs.Degree.{lead-eq, lt-eq, lt-add, lt-neg, lt-up, above, has-up}
+use Rattle.valued.proofs.Degree.{lead-eq, lt-eq, lt-add, lt-neg, lt-up}
 use Rattle.reading.specs.Reading.{Reading}
 use Rattle.reading.specs.Made.{reading}
 use Rattle.reading.specs.Row.{Row, Size, row}
-use Rattle.reading.proofs.Rows.{size-lt, size-le, size-lead}
-use Rattle.reading.proofs.Floors.{sized, floor-lt, floor-top}
+use Rattle.reading.proofs.Rows.{size-lead, size-lead-at}
+use Rattle.reading.proofs.Floors.{floor-lt, floor-top}
 use Rattle.reading.proofs.Turn.{lead-scale, lt-scale}
 use Rattle.turn.specs.Points.{Pt, Moved}
 use Rattle.turn.proofs.Turn.{moved-scale, moved-then}
 use Rattle.reading.proofs.Unique.{cast-inj}
-use Rattle.poly.specs.Leaf.{ScaleIn, Scaled}
+use Rattle.residue.specs.Residue.{Modulus}
+use Rattle.poly.specs.Leaf.{Cut, Scaled, ScaleBy, ScaleOut}
+use Rattle.poly.specs.Terms.{Ready}
 use Rattle.poly.proofs.Leaf.{size-one}
+use Rattle.sized.proofs.Mixing.{size-cut}
 use Rattle.record.specs.Record.{part}
 use Rattle.reduce.specs.Frame.{Frame, Meaning, Short, Held, point, rd, Ser, rowμ, pt, X, Y, Ltμ, Hasμ}
 use Rattle.reduce.specs.Leaves.{PartIn, Led}
@@ -33,20 +35,41 @@ use Rattle.reduce.specs.declared.Ends.{Ends}
 use Rattle.basis.specs.declared.Factors.{Factors}
 use Rattle.reduce.proofs.Laid.{zeros-at}
 use Rattle.reduce.proofs.Clearing.{part-in, rows-of}
-use Rattle.basis.specs.Store.{StoreIn, Stored}
 use Rattle.basis.specs.Levels.{Monic}
-use Rattle.basis.specs.Place.{PlaceIn, PlacedAt, Placed}
+use Rattle.basis.specs.Place.{off, ElementIn, PlacedAt, FillIn, Filled}
 use Rattle.basis.specs.Scales.{ScalesIn, Scaling}
 use Rattle.basis.specs.Based.{BasisIn, BasedAt, Based, Z, at, Mpt, Npt}
-use Rattle.basis.proofs.Store.{stored-part, stored-other, stored-each}
-use Rattle.basis.proofs.Place.{scaled-short}
-
-pub short-up : {p : ℕ} {l : List ℕ} {m n : ℕ} → Short p l m → m ≤ n → Short p l n
-short-up h u = record { is-row = h .is-row; above = λ i w. h .above i (omega arith) }
+use Rattle.basis.proofs.Store.{stored-part, stored-other, stored-each, part-same}
+use Rattle.basis.proofs.Place.{size-below, short-up, short-cut, scaled-size}
+use Rattle.basis.proofs.Two.{const-two, half}
 
 positive : (v : ℕ) → v ≢ 0 → 0 < v
 positive zero h = absurd (h refl)
 positive (suc v) h = omega arith
+
+-- what `scale_in` asks, where the length is known
+by-size : {p mul lim c : ℕ} {x : List ℕ} {n : ℕ} → Modulus p → Ready p mul lim → c < p → Row p x → Size x n → ScaleBy p mul lim c x n
+by-size m w l h s = record { modulus = m; ready = w; hc = l; hx = record { is-row = h; above = s .above }; fits = size-cut h s .fits }
+
+module _ {F : Frame} {q : Pair} {top : ℕ} {d x1 y1 : List ℕ} (g : BasisIn F q top d x1 y1) where
+  two-low : 2 < F .p
+  two-low = let b : 1 < F .p = g .clear .room .fine .modulus .big in let o : F .p % 2 ≡ 1 = g .odd in omega arith
+
+  pub based-d : Cut d 17
+  based-d = short-cut (g .hd) (omega arith)
+
+  pub based-x : Cut x1 (F .dr + 1)
+  based-x = let t : top ≤ 17 = g .fits in let r : F .dr ≤ top = g .clear .room .low-r in short-cut (short-up (g .h1) (omega arith)) (omega arith)
+
+  pub based-y : Cut y1 (F .dw + 1)
+  based-y = let t : top ≤ 17 = g .fits in let r : F .dw ≤ top = g .clear .room .low-w in short-cut (short-up (g .h2) (omega arith)) (omega arith)
+
+  -- the doubles of x1 and y1
+  pub double-x : {mul lim n : ℕ} → Ready (F .p) mul lim → Size x1 n → ScaleBy (F .p) mul lim 2 x1 n
+  double-x w s = by-size (g .clear .room .fine .modulus) w two-low (g .h1 .is-row) s
+
+  pub double-y : {mul lim n : ℕ} → Ready (F .p) mul lim → Size y1 n → ScaleBy (F .p) mul lim 2 y1 n
+  double-y w s = by-size (g .clear .room .fine .modulus) w two-low (g .h2 .is-row) s
 
 module _ {F : Frame} {q : Pair} {top : ℕ} {d x1 y1 : List ℕ} (g : BasisIn F q top d x1 y1) {lu : ℕ} (sd : Size d lu) where
   lu-is : lu ≡ suc (g .u)
@@ -58,8 +81,8 @@ module _ {F : Frame} {q : Pair} {top : ℕ} {d x1 y1 : List ℕ} (g : BasisIn F 
   pub based-clear : ClearIn F q top lu
   based-clear = subst (λ n. ClearIn F q top n) (sym lu-is) (g .clear)
 
-  pub based-u : {s : ℕ} → s < F .p → ScaleIn (F .p) s d
-  based-u l = record { modulus = g .clear .room .fine .modulus; hc = l; hx = g .hd .is-row }
+  pub based-u : {mul lim s : ℕ} → Ready (F .p) mul lim → s < F .p → ScaleBy (F .p) mul lim s d lu
+  based-u w l = by-size (g .clear .room .fine .modulus) w l (g .hd .is-row) sd
 
   module _ {o : Ends} (h : Reduced F q top lu o) where
     pub based-part : PartIn F (o .nb) (o .nc) top
@@ -86,7 +109,9 @@ module _ {F : Frame} {q : Pair} {top : ℕ} {d x1 y1 : List ℕ} (g : BasisIn F 
           }
 
       module _ {k : Factors} (hk : Scaling (F .p) (getD d (lu - 1) 0) (getD (o .mx) (o .lx - 1) 0) y k) where
-        module _ {u : List ℕ} (su : Scaled (F .p) (k .u) d u) where
+        module _ {u : List ℕ} (so : ScaleOut (F .p) (k .u) d lu u) where
+          open ScaleOut so using (scaled as su)
+
           -- U leads with 1
           u-lead : (pr : Prime (F .p)) → reading (F .p) pr .𝓥 .Lead (row (reading (F .p) pr) u) (g .u) 0 (reading (F .p) pr .𝓥 .K .ops .𝟏)
           u-lead pr =
@@ -95,159 +120,172 @@ module _ {F : Frame} {q : Pair} {top : ℕ} {d x1 y1 : List ℕ} (g : BasisIn F 
               let q : lu - 1 ≡ g .u = omega arith in
               lead-eq (ρ .𝓥) (lead-scale ρ (ρ .cast (k .u)) (size-lead ρ (g .d-size))) (sym (su .law pr)) (ap (λ n. ρ .𝓥 .K .ops .mul (ρ .cast (k .u)) (ρ .cast (getD d n 0))) (sym q) ∙ hk .u-law pr)
 
-          u-short : Short (F .p) u 17
-          u-short = scaled-short {c = k .u} (rd (g .clear .some)) (g .hd) (su .is-row) (su .law (g .clear .some .prime))
+          not-zero : (μ : Meaning F) (s : ℕ) (v w : rd μ .𝓥 .K .El) → w ≢ rd μ .𝓥 .K .ops .𝟎 → rd μ .𝓥 .K .ops .mul (rd μ .cast s) v ≡ w → rd μ .cast s ≢ rd μ .𝓥 .K .ops .𝟎
+          not-zero μ s v w hw e z = hw (sym e ∙ ap (λ y. rd μ .𝓥 .K .ops .mul y v) z ∙ rg.zero-mul′ (rd μ .𝓥 .K) v)
 
-          u-size : Size u (suc (g .u))
-          u-size =
-              let ρ = rd (g .clear .some) in
-              let hu : Has (ρ .𝓥) (row ρ u) (g .u) = (ρ .𝓥 .K .ops .𝟏, ρ .𝓥 .one≢zero, u-lead (g .clear .some .prime)) in
-              let (n, s) = sized u in
-              let lo : g .u < n = above (ρ .𝓥) hu (size-lt ρ s) in
-              let hi : n ≤ suc (g .u) = size-le ρ (suc (g .u)) (su .is-row) s (has-up (ρ .𝓥) (suc (g .u)) hu (omega arith)) in
-              let e : n ≡ suc (g .u) = omega arith in
-              subst (λ m. Size u m) e s
-
-          u-monic : Monic u
-          u-monic n s =
-              let ρ = rd (g .clear .some) in
-              let e : n ≡ suc (g .u) = size-one s u-size in
-              let q : n - 1 ≡ g .u = omega arith in
-              ap (λ m. getD u m 0) q ∙ cast-inj ρ (getD u (g .u) 0) 1 (su .is-row .each (g .u)) (g .clear .room .fine .modulus .big) (ρ .𝓥 .lead-unique (size-lead ρ u-size) (u-lead (g .clear .some .prime)) ∙ sym (ρ .cast-one))
-
-          -- an element with its polynomial part, over U
-          place : {b c x : List ℕ} (i s : ℕ) → i + 2 < 7 → s < F .p → Held F false top (point b c x) → PlaceIn (F .p) i s b c x x1 y1 u
-          place i s l ls t =
-              let f : top ≤ 17 = g .fits in
-              let r : F .dr ≤ top = g .clear .room .low-r in
-              let w : F .dw ≤ top = g .clear .room .low-w in record {
-                modulus = g .clear .room .fine .modulus;
-                prime = g .clear .some .prime;
-                small = g .small;
-                odd = g .odd;
-                at = l;
-                hs = ls;
-                lb = top - F .dr;
-                lc = top - F .dw;
-                l1 = suc (F .dr);
-                l2 = suc (F .dw);
-                hb = t .hb;
-                hc = t .hc;
-                hx = short-up (t .hz) f;
-                h1 = g .h1;
-                h2 = g .h2;
-                fits-b = omega arith;
-                fits-c = omega arith;
-                room-b = omega arith;
-                room-c = omega arith;
-                hu = u-short;
-                monic = u-monic;
-                n = g .u;
-                u-size = u-size;
+          u-monic : Monic (F .p) u lu
+          u-monic =
+              let μ = g .clear .some in
+              let ρ = rd μ in
+              let e : lu ≡ suc (g .u) = lu-is in
+              let w : lu - 1 ≡ g .u = omega arith in
+              let s : Size u lu = scaled-size {c = k .u} ρ (not-zero μ (k .u) _ _ (ρ .𝓥 .one≢zero) (hk .u-law (μ .prime))) (g .hd .is-row) (su .is-row) (su .law (μ .prime)) sd in record {
+                is-row = su .is-row;
+                size = s;
+                pos = based-lu;
+                lead = cast-inj ρ (getD u (lu - 1) 0) 1 (su .is-row .each (lu - 1)) (g .clear .room .fine .modulus .big)
+                    (ρ .𝓥 .lead-unique (size-lead-at ρ lu s based-lu) (subst (λ m. ρ .𝓥 .Lead (row ρ u) m 0 (ρ .𝓥 .K .ops .𝟏)) (sym w) (u-lead (μ .prime))) ∙ sym (ρ .cast-one));
               }
 
-          pub place-m : {s : ℕ} → s < F .p → PlaceIn (F .p) 0 s (o .mb) (o .mc) (o .mx) x1 y1 u
-          place-m {s} l = place 0 s (omega arith) l (h .hm)
+          module _ {mul lim : ℕ} (rdy : Ready (F .p) mul lim) {n1 n2 : ℕ} (s1 : Size x1 n1) (s2 : Size y1 n2) {x2 y2 : List ℕ} (e1 : ScaleOut (F .p) 2 x1 n1 x2) (e2 : ScaleOut (F .p) 2 y1 n2 y2) where
+            -- an element with its polynomial part, over U
+            element : {b c x : List ℕ} {s : ℕ} → s < F .p → Held F false top (point b c x) → ElementIn (F .p) mul lim top s b c x x2 n1 y2 n2 u lu
+            element ls t =
+                let f : top ≤ 17 = g .fits in
+                let r : F .dr ≤ top = g .clear .room .low-r in
+                let w : F .dw ≤ top = g .clear .room .low-w in
+                let v : n1 ≤ suc (F .dr) = size-below (g .h1) s1 in
+                let v′ : n2 ≤ suc (F .dw) = size-below (g .h2) s2 in
+                let y : lu ≤ suc (h .y) = h .y-high in
+                let y′ : h .y < top = h .y-fits in record {
+                  modulus = g .clear .room .fine .modulus;
+                  ready = rdy;
+                  prime = g .clear .some .prime;
+                  small = g .small;
+                  odd = g .odd;
+                  hs = ls;
+                  fits = f;
+                  lb = top - F .dr;
+                  lc = top - F .dw;
+                  hb = t .hb;
+                  hc = t .hc;
+                  hx = t .hz;
+                  low-b = omega arith;
+                  low-c = omega arith;
+                  h1 = e1 .short;
+                  h2 = e2 .short;
+                  fits-1 = omega arith;
+                  fits-2 = omega arith;
+                  room-b = omega arith;
+                  room-c = omega arith;
+                  monic = u-monic;
+                  low-u = omega arith;
+                }
 
-          pub place-n : {s : ℕ} → s < F .p → PlaceIn (F .p) 3 s (o .nb) (o .nc) (o .nx) x1 y1 u
-          place-n {s} l = place 3 s (omega arith) l (h .hn)
+            pub based-fill : FillIn (F .p) mul lim top k (o .mb) (o .mc) (o .mx) (o .nb) (o .nc) (o .nx) x2 n1 y2 n2 u lu
+            based-fill = record { m = element (hk .m-low) (h .hm); n = element (hk .n-low) (h .hn) }
 
-          pub place-u : StoreIn 6 u
-          place-u = record { row = omega arith; each = λ j. let w : getD u j 0 < F .p = su .is-row .each j in let s : F .p ≤ 65535 = g .small in omega arith }
+            module _ {B₃ : List ℕ} (fl : Filled (F .p) k (o .mb) (o .mc) (o .mx) (o .nb) (o .nc) (o .nx) x2 y2 u B₃) where
+              open Filled fl using (B₁, B₂, at-m as pm, at-n as pn, at-u as st)
 
-          module _ {B₁ B₂ B₃ : List ℕ} (pm : Placed (F .p) 0 (k .m) (o .mb) (o .mc) (o .mx) x1 y1 u (replicate 119 0) B₁)
-              (pn : Placed (F .p) 3 (k .n) (o .nb) (o .nc) (o .nx) x1 y1 u B₁ B₂) (st : Stored B₂ 6 u B₃) where
-            part-M : (j : ℕ) → j < 3 → part j B₁ ≡ part j B₃
-            part-M j l = sym (stored-other B₂ 6 u B₃ st j (inl (omega arith)) ∙ pn .other j (inl l))
+              part-M : (j : ℕ) → j < 3 → part j B₁ ≡ part j B₃
+              part-M j l = sym (stored-other B₂ 6 u B₃ st j (inl (omega arith)) ∙ part-same B₁ B₂ j (λ m w. pn .there (17 * j + m) (inl (omega arith))))
 
-            part-N : (j : ℕ) → j < 6 → part j B₂ ≡ part j B₃
-            part-N j l = sym (stored-other B₂ 6 u B₃ st j (inl l))
+              part-N : (j : ℕ) → j < 6 → part j B₂ ≡ part j B₃
+              part-N j l = sym (stored-other B₂ 6 u B₃ st j (inl l))
 
-            at-M : (pr : Prime (F .p)) → PlacedAt (reading (F .p) pr) (k .m) (o .mb) (o .mc) (o .mx) x1 y1 u (part 0 B₃) (part 1 B₃) (part 2 B₃)
-            at-M pr = subst (λ z. PlacedAt (reading (F .p) pr) (k .m) (o .mb) (o .mc) (o .mx) x1 y1 u (part 0 B₃) (part 1 B₃) z) (part-M 2 (omega arith))
-                (subst (λ z. PlacedAt (reading (F .p) pr) (k .m) (o .mb) (o .mc) (o .mx) x1 y1 u (part 0 B₃) z (part 2 B₁)) (part-M 1 (omega arith))
-                (subst (λ z. PlacedAt (reading (F .p) pr) (k .m) (o .mb) (o .mc) (o .mx) x1 y1 u z (part 1 B₁) (part 2 B₁)) (part-M 0 (omega arith)) (pm .at pr)))
+              at-M : (pr : Prime (F .p)) → PlacedAt (reading (F .p) pr) (k .m) (o .mb) (o .mc) (o .mx) x2 y2 u (part 0 B₃) (part 1 B₃) (part 2 B₃)
+              at-M pr = subst (λ z. PlacedAt (reading (F .p) pr) (k .m) (o .mb) (o .mc) (o .mx) x2 y2 u (part 0 B₃) (part 1 B₃) z) (part-M 2 (omega arith))
+                  (subst (λ z. PlacedAt (reading (F .p) pr) (k .m) (o .mb) (o .mc) (o .mx) x2 y2 u (part 0 B₃) z (part 2 B₁)) (part-M 1 (omega arith))
+                  (subst (λ z. PlacedAt (reading (F .p) pr) (k .m) (o .mb) (o .mc) (o .mx) x2 y2 u z (part 1 B₁) (part 2 B₁)) (part-M 0 (omega arith)) (pm .at pr)))
 
-            at-N : (pr : Prime (F .p)) → PlacedAt (reading (F .p) pr) (k .n) (o .nb) (o .nc) (o .nx) x1 y1 u (part 3 B₃) (part 4 B₃) (part 5 B₃)
-            at-N pr = subst (λ z. PlacedAt (reading (F .p) pr) (k .n) (o .nb) (o .nc) (o .nx) x1 y1 u (part 3 B₃) (part 4 B₃) z) (part-N 5 (omega arith))
-                (subst (λ z. PlacedAt (reading (F .p) pr) (k .n) (o .nb) (o .nc) (o .nx) x1 y1 u (part 3 B₃) z (part 5 B₂)) (part-N 4 (omega arith))
-                (subst (λ z. PlacedAt (reading (F .p) pr) (k .n) (o .nb) (o .nc) (o .nx) x1 y1 u z (part 4 B₂) (part 5 B₂)) (part-N 3 (omega arith)) (pn .at pr)))
+              at-N : (pr : Prime (F .p)) → PlacedAt (reading (F .p) pr) (k .n) (o .nb) (o .nc) (o .nx) x2 y2 u (part 3 B₃) (part 4 B₃) (part 5 B₃)
+              at-N pr = subst (λ z. PlacedAt (reading (F .p) pr) (k .n) (o .nb) (o .nc) (o .nx) x2 y2 u (part 3 B₃) (part 4 B₃) z) (part-N 5 (omega arith))
+                  (subst (λ z. PlacedAt (reading (F .p) pr) (k .n) (o .nb) (o .nc) (o .nx) x2 y2 u (part 3 B₃) z (part 5 B₂)) (part-N 4 (omega arith))
+                  (subst (λ z. PlacedAt (reading (F .p) pr) (k .n) (o .nb) (o .nc) (o .nx) x2 y2 u z (part 4 B₂) (part 5 B₂)) (part-N 3 (omega arith)) (pn .at pr)))
 
-            module _ (μ : Meaning F) where
-              is-U : at μ 6 B₃ ≡ rowμ μ u
-              is-U = stored-part B₂ 6 u B₃ st (u-short .above) (rd μ)
+              module _ (μ : Meaning F) where
+                is-U : at μ 6 B₃ ≡ rowμ μ u
+                is-U = stored-part B₂ 6 u B₃ st (λ j l. let w : lu ≤ 17 = size-below (g .hd) sd in u-monic .size .above j (omega arith)) (rd μ)
 
-              -- the pairs are those of the reduction, scaled
-              times : ℕ → List ℕ → List ℕ → Pt (Ser μ)
-              times s b c = record { b = rd μ .𝓥 .L .ops .mul (rd μ .𝓥 .const (rd μ .cast s)) (rowμ μ b); c = rd μ .𝓥 .L .ops .mul (rd μ .𝓥 .const (rd μ .cast s)) (rowμ μ c) }
+                -- the pairs are those of the reduction, scaled
+                times : ℕ → List ℕ → List ℕ → Pt (Ser μ)
+                times s b c = record { b = rd μ .𝓥 .L .ops .mul (rd μ .𝓥 .const (rd μ .cast s)) (rowμ μ b); c = rd μ .𝓥 .L .ops .mul (rd μ .𝓥 .const (rd μ .cast s)) (rowμ μ c) }
 
-              is-M : times (k .m) (o .mb) (o .mc) ≡ Mpt μ B₃
-              unfolding times
-              is-M = ap₂ (λ y z. record { b = y; c = z }) (sym (at-M (μ .prime) .is-b)) (sym (at-M (μ .prime) .is-c))
+                is-M : times (k .m) (o .mb) (o .mc) ≡ Mpt μ B₃
+                unfolding times
+                is-M = ap₂ (λ y z. record { b = y; c = z }) (sym (at-M (μ .prime) .is-b)) (sym (at-M (μ .prime) .is-c))
 
-              is-N : times (k .n) (o .nb) (o .nc) ≡ Npt μ B₃
-              unfolding times
-              is-N = ap₂ (λ y z. record { b = y; c = z }) (sym (at-N (μ .prime) .is-b)) (sym (at-N (μ .prime) .is-c))
+                is-N : times (k .n) (o .nb) (o .nc) ≡ Npt μ B₃
+                unfolding times
+                is-N = ap₂ (λ y z. record { b = y; c = z }) (sym (at-N (μ .prime) .is-b)) (sym (at-N (μ .prime) .is-c))
 
-              times-X : (s : ℕ) (b c : List ℕ) → rd μ .𝓥 .L .ops .mul (rd μ .𝓥 .const (rd μ .cast s)) (X μ (pt μ b c)) ≡ X μ (times s b c)
-              unfolding times
-              times-X s b c = solve (rd μ .𝓥 .L) (var 0 :* (var 1 :* var 3 :+ var 2 :* var 4)) (var 0 :* var 1 :* var 3 :+ var 0 :* var 2 :* var 4) tt (rd μ .𝓥 .const (rd μ .cast s) ∷ rowμ μ b ∷ rowμ μ c ∷ μ .r ∷ μ .w ∷ [])
+                times-X : (s : ℕ) (b c : List ℕ) → rd μ .𝓥 .L .ops .mul (rd μ .𝓥 .const (rd μ .cast s)) (X μ (pt μ b c)) ≡ X μ (times s b c)
+                unfolding times
+                times-X s b c = solve (rd μ .𝓥 .L) (var 0 :* (var 1 :* var 3 :+ var 2 :* var 4)) (var 0 :* var 1 :* var 3 :+ var 0 :* var 2 :* var 4) tt (rd μ .𝓥 .const (rd μ .cast s) ∷ rowμ μ b ∷ rowμ μ c ∷ μ .r ∷ μ .w ∷ [])
 
-              times-Y : (s : ℕ) (b c : List ℕ) → rd μ .𝓥 .L .ops .mul (rd μ .𝓥 .const (rd μ .cast s)) (Y μ (pt μ b c)) ≡ Y μ (times s b c)
-              unfolding times
-              times-Y s b c = solve (rd μ .𝓥 .L) (var 0 :* (var 1 :* var 3 :+ minus (var 2 :* var 4))) (var 0 :* var 1 :* var 3 :+ minus (var 0 :* var 2 :* var 4)) tt (rd μ .𝓥 .const (rd μ .cast s) ∷ rowμ μ b ∷ rowμ μ c ∷ μ .r ∷ μ .w ∷ [])
+                times-Y : (s : ℕ) (b c : List ℕ) → rd μ .𝓥 .L .ops .mul (rd μ .𝓥 .const (rd μ .cast s)) (Y μ (pt μ b c)) ≡ Y μ (times s b c)
+                unfolding times
+                times-Y s b c = solve (rd μ .𝓥 .L) (var 0 :* (var 1 :* var 3 :+ minus (var 2 :* var 4))) (var 0 :* var 1 :* var 3 :+ minus (var 0 :* var 2 :* var 4)) tt (rd μ .𝓥 .const (rd μ .cast s) ∷ rowμ μ b ∷ rowμ μ c ∷ μ .r ∷ μ .w ∷ [])
 
-              -- Z = (2a − s x) − s (X − x)
-              low : {s : ℕ} {b c x a₀ b₀ c₀ : List ℕ} → Held F false top (point b c x) → PlacedAt (rd μ) s b c x x1 y1 u a₀ b₀ c₀ → Ltμ μ (Z μ (rowμ μ a₀) (rowμ μ b₀) (rowμ μ c₀)) (g .u)
-              low {s} {b} {c} {x} {a₀} {b₀} {c₀} t e =
-                  let ρ = rd μ in
-                  lt-eq (ρ .𝓥) (lt-add (ρ .𝓥) (e .low (g .u) (ρ .𝓥 .K .ops .𝟏, ρ .𝓥 .one≢zero, u-lead (μ .prime))) (lt-neg (ρ .𝓥) (lt-up (ρ .𝓥) (g .u) (lt-scale ρ (ρ .cast s) (t .floor μ)) (omega arith))))
-                  (solve-by (ρ .𝓥 .L) ((one :+ one) :* var 0 :+ minus (var 4 :* var 9) :+ minus (var 4 :* (var 5 :* var 7 :+ var 6 :* var 8 :+ minus (var 9)))) ((one :+ one) :* var 0 :+ minus (var 2 :* var 7) :+ minus (var 3 :* var 8))
-                  (hyp (var 7) (var 2) (var 4 :* var 5) ∷ hyp (var 8) (var 3) (var 4 :* var 6) ∷ []) tt
-                  (rowμ μ a₀ ∷ rowμ μ a₀ ∷ rowμ μ b₀ ∷ rowμ μ c₀ ∷ ρ .𝓥 .const (ρ .cast s) ∷ rowμ μ b ∷ rowμ μ c ∷ μ .r ∷ μ .w ∷ rowμ μ x ∷ []) (e .is-b, (e .is-c, tt)))
+                -- Z = (2a − s x) − s (X − x)
+                low : {s : ℕ} {b c x a₀ b₀ c₀ : List ℕ} → Held F false top (point b c x) → PlacedAt (rd μ) s b c x x2 y2 u a₀ b₀ c₀ → Ltμ μ (Z μ (rowμ μ a₀) (rowμ μ b₀) (rowμ μ c₀)) (g .u)
+                low {s} {b} {c} {x} {a₀} {b₀} {c₀} t e =
+                    let ρ = rd μ in
+                    lt-eq (ρ .𝓥) (lt-add (ρ .𝓥) (e .low (g .u) (ρ .𝓥 .K .ops .𝟏, ρ .𝓥 .one≢zero, u-lead (μ .prime))) (lt-neg (ρ .𝓥) (lt-up (ρ .𝓥) (g .u) (lt-scale ρ (ρ .cast s) (t .floor μ)) (omega arith))))
+                    (solve-by (ρ .𝓥 .L) ((one :+ one) :* var 0 :+ minus (var 4 :* var 9) :+ minus (var 4 :* (var 5 :* var 7 :+ var 6 :* var 8 :+ minus (var 9)))) ((one :+ one) :* var 0 :+ minus (var 2 :* var 7) :+ minus (var 3 :* var 8))
+                    (hyp (var 7) (var 2) (var 4 :* var 5) ∷ hyp (var 8) (var 3) (var 4 :* var 6) ∷ []) tt
+                    (rowμ μ a₀ ∷ rowμ μ a₀ ∷ rowμ μ b₀ ∷ rowμ μ c₀ ∷ ρ .𝓥 .const (ρ .cast s) ∷ rowμ μ b ∷ rowμ μ c ∷ μ .r ∷ μ .w ∷ rowμ μ x ∷ []) (e .is-b, (e .is-c, tt)))
 
-              not-zero : (s : ℕ) (v w : rd μ .𝓥 .K .El) → w ≢ rd μ .𝓥 .K .ops .𝟎 → rd μ .𝓥 .K .ops .mul (rd μ .cast s) v ≡ w → rd μ .cast s ≢ rd μ .𝓥 .K .ops .𝟎
-              not-zero s v w hw e z = hw (sym e ∙ ap (λ y. rd μ .𝓥 .K .ops .mul y v) z ∙ rg.zero-mul′ (rd μ .𝓥 .K) v)
+                abbrev h₂ : Ser μ
+                h₂ = rd μ .𝓥 .const (rd μ .cast ((F .p + 1) / 2))
 
-              pub based-at : BasedAt μ q d x1 y1 B₃
-              unfolding times
-              based-at =
-                  let ρ = rd μ in
-                  let v = ρ .𝓥 in
-                  let e : lu ≡ suc (g .u) = lu-is in
-                  let w : lu - 1 ≡ g .u = omega arith in
-                  let z : 0 < o .lx = lx-pos in
-                  let l : h .x2 < o .lx = h .x-less in
-                  let hi : lu ≤ suc (h .y) = h .y-high in record {
-                    u = g .u;
-                    x = o .lx - 1;
-                    y = h .y;
-                    U-lead = lead-eq v (u-lead (μ .prime)) (sym is-U) refl;
-                    X-M = lead-eq v (lead-scale ρ (ρ .cast (k .m)) (floor-top ρ (o .lx) (h .hm .floor μ) (h .sx1) z)) (times-X (k .m) (o .mb) (o .mc) ∙ ap (X μ) is-M) (hk .m-law (μ .prime));
-                    Y-N = lead-eq v (lead-scale ρ (ρ .cast (k .n)) (ly .law μ (h .y) (h .y-has μ) .2)) (times-Y (k .n) (o .nb) (o .nc) ∙ ap (Y μ) is-N) (hk .n-law (μ .prime));
-                    u≤y = omega arith;
-                    X-N = lt-eq v (lt-scale ρ (ρ .cast (k .n)) (lt-up v (o .lx - 1) (floor-lt ρ (h .hn .floor μ) (h .sx2)) (omega arith))) (times-X (k .n) (o .nb) (o .nc) ∙ ap (X μ) is-N);
-                    Y-M = lt-eq v (lt-scale ρ (ρ .cast (k .m)) (lt-up v (g .u) (h .y-low μ) (omega arith))) (times-Y (k .m) (o .mb) (o .mc) ∙ ap (Y μ) is-M);
-                    Z-M = low (h .hm) (at-M (μ .prime));
-                    Z-N = low (h .hn) (at-N (μ .prime));
-                    kM = at-M (μ .prime) .k;
-                    kN = at-N (μ .prime) .k;
-                    kM-poly = at-M (μ .prime) .k-poly;
-                    kN-poly = at-N (μ .prime) .k-poly;
-                    M-a = at-M (μ .prime) .framed ∙ ap (λ y. ρ .𝓥 .L .ops .mul y (at-M (μ .prime) .k)) (sym is-U);
-                    N-a = at-N (μ .prime) .framed ∙ ap (λ y. ρ .𝓥 .L .ops .mul y (at-N (μ .prime) .k)) (sym is-U);
-                    ν = ρ .cast (k .u);
-                    ν-unit = not-zero (k .u) _ _ (v .one≢zero) (hk .u-law (μ .prime));
-                    U-eq = is-U ∙ su .law (μ .prime);
-                    moved = subst (λ y. Moved ρ (pt μ (q .mb) (q .mc)) (pt μ (q .nb) (q .nc)) (Mpt μ B₃) y) is-N
-                        (subst (λ y. Moved ρ (pt μ (q .mb) (q .mc)) (pt μ (q .nb) (q .nc)) y (times (k .n) (o .nb) (o .nc))) is-M
-                        (moved-then ρ (h .moved μ)
-                        (moved-scale ρ (ρ .cast (k .m)) (ρ .cast (k .n)) (not-zero (k .m) _ _ (μ .two) (hk .m-law (μ .prime))) (not-zero (k .n) _ _ (v .one≢zero) (hk .n-law (μ .prime))) (pt μ (o .mb) (o .mc)) (pt μ (o .nb) (o .nc)))));
-                  }
+                twice : {x z : List ℕ} → Scaled (F .p) 2 x z → rowμ μ z ≡ rd μ .𝓥 .L .ops .mul (rd μ .𝓥 .L .ops .add (rd μ .𝓥 .L .ops .𝟏) (rd μ .𝓥 .L .ops .𝟏)) (rowμ μ x)
+                twice {x} e = e .law (μ .prime) ∙ ap (λ y. rd μ .𝓥 .L .ops .mul y (rowμ μ x)) (const-two (rd μ))
 
-            pub based : Based F q d x1 y1 B₃
-            based = record {
-              size = st .size;
-              each = stored-each (F .p) B₂ 6 u B₃ st (pn .each (pm .each (λ j. let w : _≡_ {A = ℕ} (getD (replicate 119 0) j 0) 0 = zeros-at 119 j in let b : 1 < F .p = g .clear .room .fine .modulus .big in omega arith))) (su .is-row .each);
-              meant = based-at;
-            }
+                -- row 0 is half of what is placed
+                row-0 : {s : ℕ} {b c x a₀ b₀ c₀ : List ℕ} (e : PlacedAt (rd μ) s b c x x2 y2 u a₀ b₀ c₀)
+                    → off (rd μ .𝓥 .L .ops) (rowμ μ x1) (rowμ μ y1) (rowμ μ a₀) (rowμ μ b₀) (rowμ μ c₀) ≡ rd μ .𝓥 .L .ops .mul (at μ 6 B₃) (rd μ .𝓥 .L .ops .mul h₂ (e .k))
+                row-0 {a₀ = a₀} {b₀} {c₀} e =
+                    let ρ = rd μ in
+                    solve-by (ρ .𝓥 .L) (var 0 :+ (var 1 :* var 3 :+ var 2 :* var 4)) (var 7 :* (var 8 :* var 9))
+                    (hyp (var 8) ((one :+ one) :* var 0 :+ (var 1 :* var 5 :+ var 2 :* var 6)) (var 7 :* var 9) ∷ hyp (minus (var 8 :* var 1)) (var 5) ((one :+ one) :* var 3) ∷ hyp (minus (var 8 :* var 2)) (var 6) ((one :+ one) :* var 4)
+                    ∷ hyp (minus (var 0 :+ (var 1 :* var 3 :+ var 2 :* var 4))) (var 8 :+ var 8) one ∷ []) tt
+                    (rowμ μ a₀ ∷ rowμ μ b₀ ∷ rowμ μ c₀ ∷ rowμ μ x1 ∷ rowμ μ y1 ∷ rowμ μ x2 ∷ rowμ μ y2 ∷ rowμ μ u ∷ h₂ ∷ e .k ∷ []) (e .framed, (twice (e1 .scaled), (twice (e2 .scaled), (half ρ (g .odd), tt))))
+                    ∙ ap (λ y. ρ .𝓥 .L .ops .mul y (ρ .𝓥 .L .ops .mul h₂ (e .k))) (sym is-U)
+
+                half-poly : (z : Ser μ) → rd μ .𝓥 .IsPoly z → rd μ .𝓥 .IsPoly (rd μ .𝓥 .L .ops .mul h₂ z)
+                half-poly z hz = rd μ .𝓥 .closed .mul _ _ (rd μ .𝓥 .const-poly _) hz
+
+                pub based-at : BasedAt μ q d x1 y1 B₃
+                unfolding times
+                based-at =
+                    let ρ = rd μ in
+                    let v = ρ .𝓥 in
+                    let e : lu ≡ suc (g .u) = lu-is in
+                    let w : lu - 1 ≡ g .u = omega arith in
+                    let z : 0 < o .lx = lx-pos in
+                    let l : h .x2 < o .lx = h .x-less in
+                    let hi : lu ≤ suc (h .y) = h .y-high in record {
+                      u = g .u;
+                      x = o .lx - 1;
+                      y = h .y;
+                      U-lead = lead-eq v (u-lead (μ .prime)) (sym is-U) refl;
+                      X-M = lead-eq v (lead-scale ρ (ρ .cast (k .m)) (floor-top ρ (o .lx) (h .hm .floor μ) (h .sx1) z)) (times-X (k .m) (o .mb) (o .mc) ∙ ap (X μ) is-M) (hk .m-law (μ .prime));
+                      Y-N = lead-eq v (lead-scale ρ (ρ .cast (k .n)) (ly .law μ (h .y) (h .y-has μ) .2)) (times-Y (k .n) (o .nb) (o .nc) ∙ ap (Y μ) is-N) (hk .n-law (μ .prime));
+                      u≤y = omega arith;
+                      X-N = lt-eq v (lt-scale ρ (ρ .cast (k .n)) (lt-up v (o .lx - 1) (floor-lt ρ (h .hn .floor μ) (h .sx2)) (omega arith))) (times-X (k .n) (o .nb) (o .nc) ∙ ap (X μ) is-N);
+                      Y-M = lt-eq v (lt-scale ρ (ρ .cast (k .m)) (lt-up v (g .u) (h .y-low μ) (omega arith))) (times-Y (k .m) (o .mb) (o .mc) ∙ ap (Y μ) is-M);
+                      Z-M = low (h .hm) (at-M (μ .prime));
+                      Z-N = low (h .hn) (at-N (μ .prime));
+                      kM = ρ .𝓥 .L .ops .mul h₂ (at-M (μ .prime) .k);
+                      kN = ρ .𝓥 .L .ops .mul h₂ (at-N (μ .prime) .k);
+                      kM-poly = half-poly _ (at-M (μ .prime) .k-poly);
+                      kN-poly = half-poly _ (at-N (μ .prime) .k-poly);
+                      M-a = row-0 (at-M (μ .prime));
+                      N-a = row-0 (at-N (μ .prime));
+                      ν = ρ .cast (k .u);
+                      ν-unit = not-zero μ (k .u) _ _ (v .one≢zero) (hk .u-law (μ .prime));
+                      U-eq = is-U ∙ su .law (μ .prime);
+                      moved = subst (λ y. Moved ρ (pt μ (q .mb) (q .mc)) (pt μ (q .nb) (q .nc)) (Mpt μ B₃) y) is-N
+                          (subst (λ y. Moved ρ (pt μ (q .mb) (q .mc)) (pt μ (q .nb) (q .nc)) y (times (k .n) (o .nb) (o .nc))) is-M
+                          (moved-then ρ (h .moved μ)
+                          (moved-scale ρ (ρ .cast (k .m)) (ρ .cast (k .n)) (not-zero μ (k .m) _ _ (μ .two) (hk .m-law (μ .prime))) (not-zero μ (k .n) _ _ (v .one≢zero) (hk .n-law (μ .prime))) (pt μ (o .mb) (o .mc)) (pt μ (o .nb) (o .nc)))));
+                    }
+
+              pub based : Based F q d x1 y1 B₃
+              based = record {
+                size = st .size;
+                each = stored-each (F .p) B₂ 6 u B₃ st (pn .each (pm .each (λ j. let w : _≡_ {A = ℕ} (getD (replicate 119 0) j 0) 0 = zeros-at 119 j in let b : 1 < F .p = g .clear .room .fine .modulus .big in omega arith))) (su .is-row .each);
+                meant = based-at;
+              }

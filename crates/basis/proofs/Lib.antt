@@ -1,7 +1,8 @@
 pub mod Store
 pub mod Loads
-pub mod Levels
+pub mod Two
 pub mod Place
+pub mod Levels
 pub mod Scales
 pub mod Based
 pub mod First

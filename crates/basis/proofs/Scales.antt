@@ -15,7 +15,7 @@ use Rattle.reading.specs.Reading.{Reading}
 use Rattle.reading.specs.Made.{reading}
 use Rattle.reduce.proofs.Leaves.{less-square}
 use Rattle.basis.specs.Scales.{ScalesIn, Scaling}
-use Rattle.basis.proofs.Levels.{cast-two}
+use Rattle.basis.proofs.Two.{cast-two}
 use Rattle.basis.specs.declared.Factors.{Factors}
 
 module _ {p : ℕ} (ρ : Reading p) where

@@ -1,5 +1,5 @@
 -- Storing and loading rows.
---   stored-part, stored-other   the row that was stored, and the others
+--   stored-part, stored-other, stored-blank   the row that was stored, and the others
 --   Storing, Loading            the invariants of the two loops
 use mathlib.Core.Path.{_≡_, refl, sym, ap, _∙_}
 use mathlib.Core.Logic.{_⊎_, inl, inr}
@@ -23,15 +23,23 @@ use Rattle.basis.specs.Store.{StoreIn, Stored, LoadIn, Loaded}
 pub stored-part : (B : List ℕ) (i : ℕ) (a B′ : List ℕ) → Stored B i a B′ → ((j : ℕ) → 17 ≤ j → getD a j 0 ≡ 0) → {p : ℕ} (ρ : Reading p) → row ρ (part i B′) ≡ row ρ a
 stored-part B i a B′ h z ρ = row-tab ρ 17 (λ j. getD B′ (17 * i + j) 0) ∙ psum-ext ρ 17 (λ j. ρ .cast (getD B′ (17 * i + j) 0)) (coefs ρ a) (λ j l. ap (ρ .cast) (h .here j l)) ∙ sym (row-upto ρ a 17 z)
 
-pub stored-other : (B : List ℕ) (i : ℕ) (a B′ : List ℕ) → Stored B i a B′ → (k : ℕ) → (k < i) ⊎ (i < k) → part k B′ ≡ part k B
-stored-other B i a B′ h k o =
+-- a row of the record is settled by its 17 numbers
+pub part-same : (B B′ : List ℕ) (k : ℕ) → ((j : ℕ) → j < 17 → getD B′ (17 * k + j) 0 ≡ getD B (17 * k + j) 0) → part k B′ ≡ part k B
+part-same B B′ k h =
     ext-getD 0 (part k B′) (part k B) (length-tab 17 (λ j. getD B′ (17 * k + j) 0) ∙ sym (length-tab 17 (λ j. getD B (17 * k + j) 0)))
     (λ j l. let e : length (part k B′) ≡ 17 = length-tab 17 (λ j. getD B′ (17 * k + j) 0) in let u : j < 17 = omega arith in
-    at-tab 17 (λ j. getD B′ (17 * k + j) 0) j u ∙ h .there (17 * k + j) (away o j u) ∙ sym (at-tab 17 (λ j. getD B (17 * k + j) 0) j u))
+    at-tab 17 (λ j. getD B′ (17 * k + j) 0) j u ∙ h j u ∙ sym (at-tab 17 (λ j. getD B (17 * k + j) 0) j u))
+
+pub stored-other : (B : List ℕ) (i : ℕ) (a B′ : List ℕ) → Stored B i a B′ → (k : ℕ) → (k < i) ⊎ (i < k) → part k B′ ≡ part k B
+stored-other B i a B′ h k o = part-same B B′ k (λ j u. h .there (17 * k + j) (away o j u))
   where
     away : (k < i) ⊎ (i < k) → (j : ℕ) → j < 17 → (17 * k + j < 17 * i) ⊎ (17 * i + 17 ≤ 17 * k + j)
     away (inl l) j u = inl (omega arith)
     away (inr l) j u = inr (omega arith)
+
+-- the rows after it are still 0
+pub stored-blank : (B : List ℕ) (i : ℕ) (a B′ : List ℕ) → Stored B i a B′ → ((k : ℕ) → 17 * i ≤ k → getD B k 0 ≡ 0) → (k : ℕ) → 17 * (i + 1) ≤ k → getD B′ k 0 ≡ 0
+stored-blank B i a B′ h z k l = h .there k (inr (omega arith)) ∙ z k (omega arith)
 
 -- every number stays below p
 pub stored-each : (p : ℕ) (B : List ℕ) (i : ℕ) (a B′ : List ℕ) → Stored B i a B′ → ((k : ℕ) → getD B k 0 < p) → ((j : ℕ) → getD a j 0 < p) → (k : ℕ) → getD B′ k 0 < p
@@ -78,9 +86,13 @@ storing-more B i a b j li lj h = record {
     more k (inl l) = inl l
     more k (inr l) = inr (omega arith)
 
-pub storing-end : (B : List ℕ) (i : ℕ) (a b : List ℕ) (j : ℕ) → 17 ≤ j → Storing B i a b j → Stored B i a b
-storing-end B i a b j l h = let u : j ≤ 17 = h .upto in record { size = h .size; here = λ k w. h .here k (omega arith); there = λ k o. h .there k (same k o) }
+pub storing-end : (B : List ℕ) (i : ℕ) (a b : List ℕ) (n j : ℕ) → StoreIn B i a n → n ≤ j → Storing B i a b j → Stored B i a b
+storing-end B i a b n j g l h = record { size = h .size; here = λ k w. at k (decLt k j); there = λ k o. h .there k (same k o) }
   where
+    at : (k : ℕ) → Dec (k < j) → getD b (17 * i + k) 0 ≡ getD a k 0
+    at k (yes w) = h .here k w
+    at k (no w) = h .there (17 * i + k) (inr (omega arith)) ∙ g .blank (17 * i + k) (omega arith) ∙ sym (g .above k (omega arith))
+
     same : (k : ℕ) → (k < 17 * i) ⊎ (17 * i + 17 ≤ k) → (k < 17 * i) ⊎ (17 * i + j ≤ k)
     same k (inl w) = inl w
     same k (inr w) = inr (let u : j ≤ 17 = h .upto in omega arith)

@@ -1,9 +1,9 @@
 -- Row 0 of an element b r + c w of a lattice, so that its size Z = 2a − X lies below the denominator u.
---   Leveled p t e u a   a = −e modulo u, and 2a − t lies below u. With t the polynomial part of X, and with −e the first coordinate of
---                       any element of the lattice over b r + c w, that is row 0
+--   Leveled p u k x top a   2a = x − k modulo u, and 2a − x lies below u; a ends before top. With x the polynomial part of X, and with
+--                           (x − k)/2 the first coordinate of any element of the lattice over b r + c w, that is row 0
 use mathlib.Core.Path.{_≡_}
 use mathlib.Core.List.{List}
-use Prim.Native.Nat.{ℕ, _-_, _%_, _≤_}
+use Prim.Native.Nat.{ℕ, _-_, _%_, _<_, _≤_}
 use lib.ListN.{getD}
 use Rattle.ring.specs.Ring.{Ops, CRing}
 use Rattle.fp.specs.Fp.{Prime}
@@ -13,22 +13,31 @@ use Rattle.residue.specs.Residue.{Modulus}
 use Rattle.reading.specs.Reading.{Reading}
 use Rattle.reading.specs.Made.{reading}
 use Rattle.reading.specs.Row.{Row, Size, row}
+use Rattle.poly.specs.Terms.{Ready}
+use Rattle.reduce.specs.Frame.{Short}
 
--- u leads with 1
-abbrev pub Monic : List ℕ → Type 0
-Monic u = (n : ℕ) → Size u n → getD u (n - 1) 0 ≡ 1
+-- u, of length n, leads with 1
+pub record Monic (p : ℕ) (u : List ℕ) (n : ℕ) : Type 0 where
+  pub is-row : Row p u
+  pub size : Size u n
+  pub pos : 0 < n
+  pub lead : getD u (n - 1) 0 ≡ 1
 
-pub record LevelIn (p : ℕ) (t e u : List ℕ) : Type 0 where
+pub record LevelIn (p mul lim : ℕ) (u : List ℕ) (lu : ℕ) (k : List ℕ) (n : ℕ) (x : List ℕ) (top : ℕ) : Type 0 where
   pub modulus : Modulus p
+  pub prime : Prime p
   pub odd : p % 2 ≡ 1
-  pub ht : Row p t
-  pub he : Row p e
-  pub hu : Row p u
-  pub monic : Monic u
+  pub ready : Ready p mul lim
+  pub monic : Monic p u lu
+  pub hk : Row p k
+  pub sk : Size k n
+  pub hx : Short p x top
+  pub low : lu ≤ top
+  pub fits : top ≤ 32
 
-pub record Leveled (p : ℕ) (t e u a : List ℕ) : Type 0 where
-  pub is-row : Row p a
-  pub law : (pr : Prime p) → let ρ = reading p pr in (k : ρ .𝓥 .L .El) × ρ .𝓥 .IsPoly k × (ρ .𝓥 .L .ops .add (row ρ a) (row ρ e) ≡ ρ .𝓥 .L .ops .mul (row ρ u) k)
+pub record Leveled (p : ℕ) (u k x : List ℕ) (top : ℕ) (a : List ℕ) : Type 0 where
+  pub short : Short p a top
+  pub law : (pr : Prime p) → let ρ = reading p pr in let o = ρ .𝓥 .L .ops in
+      (j : ρ .𝓥 .L .El) × ρ .𝓥 .IsPoly j × (o .add (o .mul (o .add (o .𝟏) (o .𝟏)) (row ρ a)) (o .add (row ρ k) (o .neg (row ρ x))) ≡ o .mul (row ρ u) j)
   pub low : (pr : Prime p) (n : ℕ) → let ρ = reading p pr in let o = ρ .𝓥 .L .ops in
-      Has (ρ .𝓥) (row ρ u) n → Lt (ρ .𝓥) (o .add (o .mul (o .add (o .𝟏) (o .𝟏)) (row ρ a)) (o .neg (row ρ t))) n
-  pub short : (pr : Prime p) (n b : ℕ) → let ρ = reading p pr in Has (ρ .𝓥) (row ρ u) n → n ≤ b → Lt (ρ .𝓥) (row ρ t) b → Lt (ρ .𝓥) (row ρ a) b
+      Has (ρ .𝓥) (row ρ u) n → Lt (ρ .𝓥) (o .add (o .mul (o .add (o .𝟏) (o .𝟏)) (row ρ a)) (o .neg (row ρ x))) n

@@ -1,4 +1,5 @@
 -- Rows in the record of 119 numbers.
+--   StoreIn B i a n   B is 0 from row i on, and a ends before n, which is at most 17
 --   Stored B i a B′   B′ is B with row i taken from a
 --   Loaded B i r      r is row i of B, with zeros up to 32
 --   SevenLoaded B b   b is the seven rows of B, so loaded
@@ -14,9 +15,13 @@ use Rattle.reading.specs.Row.{row, Row}
 use Rattle.record.specs.Record.{part}
 use Rattle.generators.specs.Rows.{Seven}
 
-pub record StoreIn (i : ℕ) (a : List ℕ) : Type 0 where
+pub record StoreIn (B : List ℕ) (i : ℕ) (a : List ℕ) (n : ℕ) : Type 0 where
+  pub size : length B ≡ 119
+  pub blank : (k : ℕ) → 17 * i ≤ k → getD B k 0 ≡ 0
   pub row : i < 7
   pub each : (j : ℕ) → getD a j 0 < 65536
+  pub fits : n ≤ 17
+  pub above : (j : ℕ) → n ≤ j → getD a j 0 ≡ 0
 
 pub record Stored (B : List ℕ) (i : ℕ) (a B′ : List ℕ) : Type 0 where
   pub size : length B′ ≡ 119

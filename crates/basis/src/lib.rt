@@ -1,14 +1,15 @@
 // The basis record: seven rows of 17 coefficients, M0, M1, M2, N0, N1, N2, U. It starts as zeros and is filled row by row.
-use poly::cross;
+use poly::Rapid;
+use poly::cross_in;
 use poly::rapid_of;
-use poly::scale;
-use poly::size;
-use poly::sub;
+use poly::scale_in;
+use poly::size_from;
 use reduce::Bounds;
 use reduce::Pair;
 use reduce::lead_of;
 use reduce::reduced;
 use residue::inverse;
+use sized::both_in;
 use sized::mix_in;
 use sized::quotient_in;
 ghost use mathlib.Core.Path.{_≡_};
@@ -17,7 +18,7 @@ ghost use Rattle.reduce.specs.Given.{given};
 ghost use Rattle.basis.specs.Based.{BasisIn, Based};
 ghost use Rattle.basis.specs.First.{OrderIn, units, unit, nothing};
 ghost use Rattle.basis.specs.Levels.{LevelIn, Leveled};
-ghost use Rattle.basis.specs.Place.{PlaceIn, Placed};
+ghost use Rattle.basis.specs.Place.{PlaceIn, Placed, FillIn, Filled};
 ghost use Rattle.basis.specs.Scales.{ScalesIn, Scaling};
 ghost use Rattle.basis.specs.Store.{StoreIn, Stored, LoadIn, Loaded};
 
@@ -27,19 +28,17 @@ fn wide(x: u16) -> u64
     x as u64
 }
 
-// The record with row i taken from a row of 32, whose coefficients from 17 on are left out.
-pub fn stored(rows: [u16; 119], i: usize, a: &[u64; 32]) -> [u16; 119]
-    requires { ⌜ StoreIn i (now a) ⌝ }
-    ensures { λ b. ⌜ Stored rows i (now (a .entry)) b ⌝ }
+// Row i of the record from a, which ends before n; the record is 0 from that row on.
+fn stored(rows: &mut [u16; 119], i: usize, a: &[u64; 32], n: usize)
+    requires { ⌜ StoreIn (now rows) i (now a) n ⌝ }
+    ensures { λ _. ⌜ Stored (now (rows .entry)) i (now (a .entry)) (now (rows .exit)) ⌝ }
 {
     let at = 17 * i;
-    let mut b = rows;
     let mut j: usize = 0;
-    while j < 17 {
-        b[at + j] = a[j] as u16;
+    while j < n {
+        rows[at + j] = a[j] as u16;
         j += 1;
     }
-    b
 }
 
 // Row i of the record, as a row of 32
@@ -58,20 +57,25 @@ pub fn load(rows: &[u16; 119], i: usize) -> [u64; 32]
     r
 }
 
-// Row 0 of an element over the denominator u, which leads with 1: half of t - ((t + 2 e) mod u)
-pub fn level(p: u64, t: &[u64; 32], e: &[u64; 32], u: &[u64; 32]) -> [u64; 32]
-    requires { ⌜ LevelIn p (now t) (now e) (now u) ⌝ }
-    ensures { λ a. ⌜ Leveled p (now (t .entry)) (now (e .entry)) (now (u .entry)) a ⌝ }
+// Row 0 of an element over the denominator u, which leads with 1: half of x - (k mod u), in place of x
+fn level(
+    p: u64,
+    q: Rapid,
+    u: &[u64; 32],
+    lu: usize,
+    k: &mut [u64; 32],
+    n: usize,
+    x: &mut [u64; 32],
+    top: usize,
+)
+    requires { ⌜ LevelIn p (q .m) (q .lim) (now u) lu (now k) n (now x) top ⌝ }
+    ensures { λ _. ⌜ Leveled p (now (u .entry)) (now (k .entry)) (now (x .entry)) top (now (x .exit)) ⌝ }
 {
-    let q = rapid_of(p);
-    let mut k = cross(p, 1, t, p - 2, 0, e);
-    let n = size(&k);
-    let m = size(u);
     let mut d: [u64; 32] = [0; 32];
-    let l = quotient_in(p, q, &k, n, u, m, 1, &mut d);
-    mix_in(p, q, true, &d, l, u, m, &mut k);
-    let h = sub(p, t, &k);
-    scale(p, (p + 1) / 2, &h)
+    let l = quotient_in(p, q, k, n, u, lu, 1, &mut d);
+    mix_in(p, q, true, &d, l, u, lu, k);
+    let h = (p + 1) / 2;
+    cross_in(p, q, h, x, h, 0, k, top);
 }
 
 // The factors by which U, m and n are scaled
@@ -96,37 +100,115 @@ fn factors_of(p: u64, a: u64, b: u64, c: u64) -> Factors
     }
 }
 
-// Rows i, i + 1, i + 2 of the record: the element s (b r + c w) over u, x the polynomial part of b r + c w
+// Rows i, i + 1, i + 2 of the record: the element s (b r + c w) over u, x the polynomial part of b r + c w. The rows are scaled in
+// place, and x1 and y1 are twice what settles row 0.
 fn placed(
-    rows: [u16; 119],
+    rows: &mut [u16; 119],
     i: usize,
     p: u64,
+    q: Rapid,
+    top: usize,
     s: u64,
-    b: &[u64; 32],
-    c: &[u64; 32],
-    x: &[u64; 32],
+    b: &mut [u64; 32],
+    c: &mut [u64; 32],
+    x: &mut [u64; 32],
     x1: &[u64; 32],
+    n1: usize,
     y1: &[u64; 32],
+    n2: usize,
     u: &[u64; 32],
-) -> [u16; 119]
-    requires { ⌜ PlaceIn p i s (now b) (now c) (now x) (now x1) (now y1) (now u) ⌝ }
-    ensures { λ o. ⌜ Placed p i s (now (b .entry)) (now (c .entry)) (now (x .entry)) (now (x1 .entry)) (now (y1 .entry)) (now (u .entry)) rows o ⌝ }
+    lu: usize,
+)
+    requires { ⌜ PlaceIn p (q .m) (q .lim) i top s (now b) (now c) (now x) (now x1) n1 (now y1) n2 (now u) lu (now rows) ⌝ }
+    ensures { λ _. ⌜ Placed p i s (now (b .entry)) (now (c .entry)) (now (x .entry)) (now (x1 .entry)) (now (y1 .entry)) (now (u .entry)) (now (rows .entry)) (now (rows .exit)) ⌝ }
 {
-    let q = rapid_of(p);
-    let mb = scale(p, s, b);
-    let mc = scale(p, s, c);
-    let t = scale(p, s, x);
-    let nb = size(&mb);
-    let nc = size(&mc);
-    let n1 = size(x1);
-    let n2 = size(y1);
-    let mut e: [u64; 32] = [0; 32];
-    mix_in(p, q, false, &mb, nb, x1, n1, &mut e);
-    mix_in(p, q, false, &mc, nc, y1, n2, &mut e);
-    let a = level(p, &t, &e, u);
-    let r0 = stored(rows, i, &a);
-    let r1 = stored(r0, i + 1, &mb);
-    stored(r1, i + 2, &mc)
+    scale_in(p, q, s, b, top);
+    scale_in(p, q, s, c, top);
+    scale_in(p, q, s, x, top);
+    let nb = size_from(b, top);
+    let nc = size_from(c, top);
+    let mut k = *x;
+    let n = both_in(
+        p,
+        q,
+        false,
+        b,
+        nb,
+        x1,
+        n1,
+        false,
+        c,
+        nc,
+        y1,
+        n2,
+        &mut k,
+        top,
+    );
+    level(p, q, u, lu, &mut k, n, x, top);
+    stored(rows, i, x, top);
+    stored(rows, i + 1, b, top);
+    stored(rows, i + 2, c, top);
+}
+
+// The record of the elements m and n, scaled by the factors of k, over u
+fn filled(
+    p: u64,
+    q: Rapid,
+    top: usize,
+    k: Factors,
+    mb: &mut [u64; 32],
+    mc: &mut [u64; 32],
+    mx: &mut [u64; 32],
+    nb: &mut [u64; 32],
+    nc: &mut [u64; 32],
+    nx: &mut [u64; 32],
+    x1: &[u64; 32],
+    n1: usize,
+    y1: &[u64; 32],
+    n2: usize,
+    u: &[u64; 32],
+    lu: usize,
+) -> [u16; 119]
+    requires { ⌜ FillIn p (q .m) (q .lim) top k (now mb) (now mc) (now mx) (now nb) (now nc) (now nx) (now x1) n1 (now y1) n2 (now u) lu ⌝ }
+    ensures { λ o. ⌜ Filled p k (now (mb .entry)) (now (mc .entry)) (now (mx .entry)) (now (nb .entry)) (now (nc .entry)) (now (nx .entry)) (now (x1 .entry)) (now (y1 .entry)) (now (u .entry)) o ⌝ }
+{
+    let mut rows: [u16; 119] = [0; 119];
+    placed(
+        &mut rows,
+        0,
+        p,
+        q,
+        top,
+        k.m,
+        mb,
+        mc,
+        mx,
+        x1,
+        n1,
+        y1,
+        n2,
+        u,
+        lu,
+    );
+    placed(
+        &mut rows,
+        3,
+        p,
+        q,
+        top,
+        k.n,
+        nb,
+        nc,
+        nx,
+        x1,
+        n1,
+        y1,
+        n2,
+        u,
+        lu,
+    );
+    stored(&mut rows, 6, u, lu);
+    rows
 }
 
 // The scaled basis of the lattice of 1 and of the elements over q by the denominator d
@@ -143,22 +225,44 @@ pub fn reduced_basis(
     ensures { λ o. ⌜ Based (given f (now (r .entry)) (now (w .entry))) q (now (d .entry)) (now (x1 .entry)) (now (y1 .entry)) o ⌝ }
 {
     let p = f.p;
-    let lu = size(d);
+    let fast = rapid_of(p);
+    let lu = size_from(d, 17);
     let o = reduced(f, r, w, q, lu);
-    let mb = o.mb;
-    let mc = o.mc;
-    let mx = o.mx;
-    let nb = o.nb;
-    let nc = o.nc;
-    let nx = o.nx;
+    let mut mb = o.mb;
+    let mut mc = o.mc;
+    let mut mx = o.mx;
+    let mut nb = o.nb;
+    let mut nc = o.nc;
+    let mut nx = o.nx;
     let lx = o.lx;
     let y = lead_of(f, true, &nb, &nc, r, w);
     let k = factors_of(p, d[lu - 1], mx[lx - 1], y);
-    let u = scale(p, k.u, d);
-    let b0: [u16; 119] = [0; 119];
-    let b1 = placed(b0, 0, p, k.m, &mb, &mc, &mx, x1, y1, &u);
-    let b2 = placed(b1, 3, p, k.n, &nb, &nc, &nx, x1, y1, &u);
-    stored(b2, 6, &u)
+    let mut u = *d;
+    let mut x2 = *x1;
+    let mut y2 = *y1;
+    let n1 = size_from(x1, f.dr + 1);
+    let n2 = size_from(y1, f.dw + 1);
+    scale_in(p, fast, k.u, &mut u, lu);
+    scale_in(p, fast, 2, &mut x2, n1);
+    scale_in(p, fast, 2, &mut y2, n2);
+    filled(
+        p,
+        fast,
+        f.top,
+        k,
+        &mut mb,
+        &mut mc,
+        &mut mx,
+        &mut nb,
+        &mut nc,
+        &mut nx,
+        &x2,
+        n1,
+        &y2,
+        n2,
+        &u,
+        lu,
+    )
 }
 
 // The basis of the order: from the elements r and w, with the denominator 1

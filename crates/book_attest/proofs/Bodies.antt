@@ -1,13 +1,11 @@
 -- From the body's bytes to the lists that the norm is made of, and from the norm's size to the answer.
 use mathlib.Core.Path.{_≡_, refl, sym, ap, ap₂, _∙_, subst}
 use mathlib.Core.Logic.{_≢_}
-use mathlib.Core.List.{List, [], _∷_, _++_}
+use mathlib.Core.List.{List, [], _∷_}
 use Prim.Native.Nat.{ℕ, zero, suc, _+_, _-_, _<_, _≤_}
 use native.Mathlib.Omega.{arith}
 use native.Mathlib.Decide.{decLt}
-use lib.ListN.{length, getD, drop, replicate, length-append, length-drop, length-replicate, List·getD-append, List·getD-eq-default}
-use lib.Seq.{getD-append-add, getD-drop}
-use Rattle.ring.specs.Ring.{Ops, CRing}
+use lib.ListN.{length, getD, replicate, List·getD-eq-default}
 use Rattle.ring.proofs.Solve.{var, one, zer, _:+_, _:*_, solve}
 use Rattle.cubic.specs.Tri.{normT}
 use Rattle.fp.specs.Fp.{Prime}
@@ -15,115 +13,86 @@ use Rattle.valued.specs.Val.{Valued}
 use Rattle.reading.specs.Reading.{Reading}
 use Rattle.reading.specs.Made.{reading}
 use Rattle.reading.specs.Row.{Size, tpow, psum, coefs, row}
-use Rattle.reading.proofs.Rows.{const-zero, psum-ext, psum-cut, row-cut}
-use Rattle.reading.proofs.Tab.{zeros-at}
+use Rattle.reading.proofs.Rows.{const-zero, psum-ext, psum-cut, row-upto, row-cut}
+use Rattle.reading.proofs.Tab.{Filled}
 use Rattle.reading.proofs.Unique.{const-inj, psum-unique}
-use Rattle.slice_poly.specs.Slice.{Small}
-use Rattle.slice_poly.proofs.Law.{row-by}
 use Rattle.field.specs.Refusal as field
 use Rattle.field.proofs.Accept.{accepted}
-use Rattle.book_bytes.specs.Decides.{Decides}
-use Rattle.book_bytes.proofs.Tests.{answer-yes, answer-no}
-use Rattle.book_body.specs.Said.{Said}
 use Rattle.book_body.specs.Body.{listAt, bodyOf, Finished}
-use Rattle.book_body.specs.Code.{ListTells, read, none, short}
-use Rattle.book_attest.specs.Attest.{NonZeroConstant, norm, Attested}
-use Rattle.book_attest.specs.Code.{Long, LoadIn, Loaded, NormIn, Norm, BodyNormIn, BodyNorm}
+use Rattle.book_attest.specs.Attest.{NonZeroConstant, Attested}
+use Rattle.book_attest.specs.Code.{LoadIn, Loaded, NormIn, Norm, BodyNorm}
 
 -- ---- one list
--- zeros after a list do not show
-front : (q d : List ℕ) → ((i : ℕ) → getD d i 0 ≡ 0) → (i : ℕ) → getD (q ++ drop (length q) d) i 0 ≡ getD q i 0
-front q d z i = at (decLt i (length q))
+past : (l : List ℕ) (i : ℕ) → length l ≤ i → getD l i 0 ≡ 0
+past l i h = List·getD-eq-default l 0 {n = i} h
+
+pub loaded : (s : List ℕ) (k : ℕ) (d r : List ℕ) (i : ℕ) → LoadIn s k d → Filled (length d) (λ j. getD (listAt s k) j 0) r i → length d ≤ i → Loaded s k d r
+loaded s k d r i w f h = record { size = f .size; places = λ j. at j (decLt j (length d)) }
   where
-    at : Dec (i < length q) → getD (q ++ drop (length q) d) i 0 ≡ getD q i 0
-    at (yes u) = List·getD-append q (drop (length q) d) 0 i u
-    at (no u) =
-        let j : i ≡ length q + (i - length q) = omega arith in
-        ap (λ (m : ℕ). getD (q ++ drop (length q) d) m 0) j ∙ getD-append-add q (drop (length q) d) (i - length q) 0
-        ∙ getD-drop (length q) d (i - length q) 0 ∙ z (length q + (i - length q)) ∙ sym (List·getD-eq-default q 0 {n = i} (omega arith))
-
-front-long : (q d : List ℕ) → length q ≤ length d → length (q ++ drop (length q) d) ≡ length d
-front-long q d h =
-    let u : length (drop (length q) d) ≡ length d - length q = length-drop (length q) d in
-    let v : length (q ++ drop (length q) d) ≡ length q + length (drop (length q) d) = length-append q (drop (length q) d) in
-    omega arith
-
-pub loaded : (s : List ℕ) (k : ℕ) (d : List ℕ) (x : Said) (r : List ℕ) → LoadIn s k d → ListTells s k d x r → Loaded s k d r
-loaded s k d x r w (none h e f) = let l = w .list in absurd (omega arith)
-loaded s k d x r w (short h l e f) = let m = w .fits in absurd (omega arith)
-loaded s k d x r w (read h l e f) = record {
-  size = ap length f ∙ front-long (listAt s k) d l;
-  places = λ i. ap (λ (z : List ℕ). getD z i 0) f ∙ front (listAt s k) d (w .blank) i;
-}
-
-module _ (s : List ℕ) (w : Finished s) where
-  lists : field.Accepted (bodyOf s .p) (bodyOf s .G) (bodyOf s .H)
-  lists = accepted (bodyOf s .p) (bodyOf s .G) (bodyOf s .H) (w .field)
-
-  pub g-in : LoadIn s 0 (replicate 13 0)
-  unfolding bodyOf
-  g-in = record { list = omega arith; fits = lists .listG .short; blank = zeros-at 13 }
-
-  pub h-in : LoadIn s 1 (replicate 13 0)
-  unfolding bodyOf
-  h-in = record { list = omega arith; fits = lists .listH .short; blank = zeros-at 13 }
-
-  pub a-in : LoadIn s 2 (replicate 4096 0)
-  unfolding bodyOf
-  a-in = record { list = omega arith; fits = w .formed .rule .row0 .short; blank = zeros-at 4096 }
-
-  pub b-in : LoadIn s 3 (replicate 4096 0)
-  unfolding bodyOf
-  b-in = record { list = omega arith; fits = w .formed .rule .row1 .short; blank = zeros-at 4096 }
-
-  pub c-in : LoadIn s 4 (replicate 4096 0)
-  unfolding bodyOf
-  c-in = record { list = omega arith; fits = w .formed .rule .row2 .short; blank = zeros-at 4096 }
-
--- ---- the norm
-same-row : {p : ℕ} (ρ : Reading p) (a b : List ℕ) → ((i : ℕ) → getD a i 0 ≡ getD b i 0) → row ρ a ≡ row ρ b
-same-row ρ a b h =
-    let n = length a + length b in
-    row-by ρ a n (omega arith) ∙ psum-ext ρ n (coefs ρ a) (coefs ρ b) (λ i u. ap (ρ .cast) (h i)) ∙ sym (row-by ρ b n (omega arith))
+    at : (j : ℕ) → Dec (j < length d) → getD r j 0 ≡ getD (listAt s k) j 0
+    at j (yes u) = f .done j (omega arith)
+    at j (no u) = past r j (omega (arith, f .size)) ∙ sym (past (listAt s k) j (omega (arith, w .fits)))
 
 below : (p : ℕ) (l : List ℕ) → 0 < p → ((i : ℕ) → i < length l → getD l i 0 < p) → (i : ℕ) → getD l i 0 < p
 below p l z h i = at (decLt i (length l))
   where
     at : Dec (i < length l) → getD l i 0 < p
     at (yes u) = h i u
-    at (no u) = let e : getD l i 0 ≡ 0 = List·getD-eq-default l 0 {n = i} (omega arith) in omega arith
+    at (no u) = omega (arith, past l i (omega arith))
+
+module _ (s : List ℕ) (w : Finished s) where
+  lists : field.Accepted (bodyOf s .p) (bodyOf s .G) (bodyOf s .H)
+  lists = accepted (bodyOf s .p) (bodyOf s .G) (bodyOf s .H) (w .field)
+
+  load-in : (k : ℕ) (d : List ℕ) → k < 5 → length (listAt s k) ≤ length d → ((i : ℕ) → i < length (listAt s k) → getD (listAt s k) i 0 < bodyOf s .p) → LoadIn s k d
+  load-in k d h f g =
+      let low : 5 ≤ bodyOf s .p = lists .low in
+      let high : bodyOf s .p ≤ 65535 = lists .high in
+      record { list = h; fits = f; small = λ i. omega (arith, below (bodyOf s .p) (listAt s k) (omega arith) g i) }
+
+  pub g-in : LoadIn s 0 (replicate 13 0)
+  unfolding bodyOf
+  g-in = load-in 0 (replicate 13 0) (omega arith) (lists .listG .short) (lists .listG .each)
+
+  pub h-in : LoadIn s 1 (replicate 13 0)
+  unfolding bodyOf
+  h-in = load-in 1 (replicate 13 0) (omega arith) (lists .listH .short) (lists .listH .each)
+
+  pub a-in : LoadIn s 2 (replicate 4096 0)
+  unfolding bodyOf
+  a-in = load-in 2 (replicate 4096 0) (omega arith) (w .formed .rule .row0 .short) (w .formed .rule .row0 .each)
+
+  pub b-in : LoadIn s 3 (replicate 4096 0)
+  unfolding bodyOf
+  b-in = load-in 3 (replicate 4096 0) (omega arith) (w .formed .rule .row1 .short) (w .formed .rule .row1 .each)
+
+  pub c-in : LoadIn s 4 (replicate 4096 0)
+  unfolding bodyOf
+  c-in = load-in 4 (replicate 4096 0) (omega arith) (w .formed .rule .row2 .short) (w .formed .rule .row2 .each)
+
+-- ---- the norm
+same-row : {p : ℕ} (ρ : Reading p) (a b : List ℕ) → ((i : ℕ) → getD a i 0 ≡ getD b i 0) → row ρ a ≡ row ρ b
+same-row ρ a b h =
+    let n = length a + length b in
+    row-upto ρ a n (λ i u. past a i (omega arith)) ∙ psum-ext ρ n (coefs ρ a) (coefs ρ b) (λ i u. ap (ρ .cast) (h i)) ∙ sym (row-upto ρ b n (λ i u. past b i (omega arith)))
 
 module _ (s : List ℕ) (w : Finished s) (p : ℕ) (e : p ≡ bodyOf s .p) where
-  long-of : (k n : ℕ) (d r l : List ℕ) → l ≡ listAt s k → ((i : ℕ) → i < length l → getD l i 0 < bodyOf s .p) → length d ≡ n → Loaded s k d r → Long p n r
-  long-of k n d r l f h m q =
-      let a : field.Accepted (bodyOf s .p) (bodyOf s .G) (bodyOf s .H) = lists s w in
-      let low : 5 ≤ bodyOf s .p = a .low in
-      let high : bodyOf s .p ≤ 65535 = a .high in
-      record {
-        small = record {
-          pos = omega arith;
-          top = omega arith;
-          each = λ i.
-              (let u : getD r i 0 ≡ getD l i 0 = q .places i ∙ ap (λ (z : List ℕ). getD z i 0) (sym f) in
-              let v : getD l i 0 < bodyOf s .p = below (bodyOf s .p) l (omega arith) h i in
-              omega arith);
-        };
-        size = q .size ∙ m;
-      }
-
   pub norm-in : (g h a b c out zg zh za zb zc : List ℕ) → length out ≡ 12327
       → length zg ≡ 13 → length zh ≡ 13 → length za ≡ 4096 → length zb ≡ 4096 → length zc ≡ 4096
       → Loaded s 0 zg g → Loaded s 1 zh h → Loaded s 2 za a → Loaded s 3 zb b → Loaded s 4 zc c → NormIn p g h a b c out
-  unfolding bodyOf
-  norm-in g h a b c out zg zh za zb zc m eg eh ea eb ec qg qh qa qb qc = record {
-    big = (let low : 5 ≤ bodyOf s .p = lists s w .low in omega arith);
-    is-g = long-of 0 13 zg g (bodyOf s .G) refl (lists s w .listG .each) eg qg;
-    is-h = long-of 1 13 zh h (bodyOf s .H) refl (lists s w .listH .each) eh qh;
-    is-a = long-of 2 4096 za a (bodyOf s .E0) refl (w .formed .rule .row0 .each) ea qa;
-    is-b = long-of 3 4096 zb b (bodyOf s .E1) refl (w .formed .rule .row1 .each) eb qb;
-    is-c = long-of 4 4096 zc c (bodyOf s .E2) refl (w .formed .rule .row2 .each) ec qc;
-    room = m;
-  }
+  norm-in g h a b c out zg zh za zb zc m eg eh ea eb ec qg qh qa qb qc =
+      let low : 5 ≤ bodyOf s .p = lists s w .low in
+      let high : bodyOf s .p ≤ 65535 = lists s w .high in
+      record {
+        modulus = record { big = omega arith; small = omega arith };
+        three = omega arith;
+        size-g = qg .size ∙ eg;
+        size-h = qh .size ∙ eh;
+        size-a = qa .size ∙ ea;
+        size-b = qb .size ∙ eb;
+        size-c = qc .size ∙ ec;
+        room = m;
+      }
 
   pub body-norm : (g h a b c out r zg zh za zb zc : List ℕ)
       → Loaded s 0 zg g → Loaded s 1 zh h → Loaded s 2 za a → Loaded s 3 zb b → Loaded s 4 zc c → Norm p g h a b c out r → BodyNorm s out r

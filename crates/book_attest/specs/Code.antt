@@ -1,22 +1,19 @@
 -- What the code's own functions ask of and promise each other. Polynomials are `row` of lists (crate reading).
---   Long p n l                  n numbers below p
 --   load        Loaded          the slice holds list k of the body, zeros above it
---   product4    Product4        the product of f, z, x and y
---   terms       Terms           a³ + ghh b³ + ggh c³ − 3 gh a b c
+--   square      Square          a² − 3 gh b c
+--   cubes       Cubes           h b³ + g c³
 --   norm        Norm            the norm of a + b r + c w
 --   body_norm   BodyNorm        the norm of the body's E
--- Each made list is as long as the slice it was made in, and has numbers below p.
+-- Each made list is as long as the slice it was made in.
 use mathlib.Core.Path.{_≡_}
 use mathlib.Core.List.{List}
 use Prim.Native.Nat.{ℕ, _<_, _≤_}
 use lib.ListN.{length, getD}
-use Rattle.ring.specs.Ring.{Ops, CRing}
+use Rattle.ring.specs.Ring.{Ops}
 use Rattle.fp.specs.Fp.{Prime}
-use Rattle.valued.specs.Val.{Valued}
-use Rattle.reading.specs.Reading.{Reading}
 use Rattle.reading.specs.Made.{reading}
 use Rattle.reading.specs.Row.{row}
-use Rattle.slice_poly.specs.Slice.{Small}
+use Rattle.long.specs.Long.{Storable}
 use Rattle.book_body.specs.Body.{listAt, bodyOf, Finished}
 use Rattle.book_attest.specs.Attest.{norm}
 
@@ -24,26 +21,14 @@ use Rattle.book_attest.specs.Attest.{norm}
 abbrev pub places : ℕ
 places = 12327
 
-pub record Long (p n : ℕ) (l : List ℕ) : Type 0 where
-  pub small : Small p l
-  pub size : length l ≡ n
-
 pub record LoadIn (s : List ℕ) (k : ℕ) (d : List ℕ) : Type 0 where
   pub list : k < 5
   pub fits : length (listAt s k) ≤ length d
-  pub blank : (i : ℕ) → getD d i 0 ≡ 0
+  pub small : (i : ℕ) → getD (listAt s k) i 0 < 65536
 
 pub record Loaded (s : List ℕ) (k : ℕ) (d r : List ℕ) : Type 0 where
   pub size : length r ≡ length d
   pub places : (i : ℕ) → getD r i 0 ≡ getD (listAt s k) i 0
-
-pub record FactorsIn (p : ℕ) (x y z f d : List ℕ) : Type 0 where
-  pub is-x : Long p 4096 x
-  pub is-y : Long p 4096 y
-  pub is-z : Long p 4096 z
-  pub is-f : Small p f
-  pub short : length f ≤ 39
-  pub room : length d ≡ places
 
 module _ (p : ℕ) (pr : Prime p) where
   open Ops (reading p pr .𝓥 .L .ops) using (add as _⊕_, mul as _⊗_, neg as ⊖_)
@@ -51,44 +36,50 @@ module _ (p : ℕ) (pr : Prime p) where
   infixl 60 _⊕_
   infixl 70 _⊗_
   infix 80 ⊖_
-  abbrev pub productOf : List ℕ → List ℕ → List ℕ → List ℕ → reading p pr .𝓥 .L .El
-  productOf x y z f =
+  abbrev pub squareOf : List ℕ → List ℕ → List ℕ → List ℕ → reading p pr .𝓥 .L .El
+  squareOf gh a b c =
       let ρ = reading p pr in
-      row ρ f ⊗ (row ρ z ⊗ (row ρ x ⊗ row ρ y))
+      let w = row ρ gh ⊗ (row ρ b ⊗ row ρ c) in
+      row ρ a ⊗ row ρ a ⊕ ⊖ (w ⊕ w ⊕ w)
 
-  abbrev pub termsOf : List ℕ → List ℕ → List ℕ → List ℕ → List ℕ → List ℕ → reading p pr .𝓥 .L .El
-  termsOf gh ghh ggh a b c =
+  abbrev pub cubesOf : List ℕ → List ℕ → List ℕ → List ℕ → reading p pr .𝓥 .L .El
+  cubesOf g h b c =
       let ρ = reading p pr in
-      let w = productOf a b c gh in
-      row ρ a ⊗ (row ρ a ⊗ row ρ a) ⊕ productOf b b b ghh ⊕ productOf c c c ggh ⊕ ⊖ (w ⊕ w ⊕ w)
+      row ρ h ⊗ row ρ b ⊗ (row ρ b ⊗ row ρ b) ⊕ row ρ g ⊗ row ρ c ⊗ (row ρ c ⊗ row ρ c)
 
-pub record Product4 (p : ℕ) (x y z f d r : List ℕ) : Type 0 where
+pub record SquareIn (p : ℕ) (gh a b c d : List ℕ) : Type 0 where
+  pub modulus : Storable p
+  pub three : 3 ≤ p
+  pub size-gh : length gh ≡ 26
+  pub size-a : length a ≡ 4096
+  pub size-b : length b ≡ 4096
+  pub size-c : length c ≡ 4096
+  pub room : length d ≡ 8218
+
+pub record Square (p : ℕ) (gh a b c d r : List ℕ) : Type 0 where
   pub size : length r ≡ length d
-  pub each : (i : ℕ) → getD r i 0 < p
-  pub law : (pr : Prime p) → row (reading p pr) r ≡ productOf p pr x y z f
+  pub law : (pr : Prime p) → row (reading p pr) r ≡ squareOf p pr gh a b c
 
-pub record TermsIn (p : ℕ) (gh ghh ggh a b c d : List ℕ) : Type 0 where
-  pub big : 1 < p
-  pub is-gh : Long p 26 gh
-  pub is-ghh : Long p 39 ghh
-  pub is-ggh : Long p 39 ggh
-  pub is-a : Long p 4096 a
-  pub is-b : Long p 4096 b
-  pub is-c : Long p 4096 c
-  pub room : length d ≡ places
+pub record CubesIn (p : ℕ) (g h b c d : List ℕ) : Type 0 where
+  pub modulus : Storable p
+  pub size-g : length g ≡ 13
+  pub size-h : length h ≡ 13
+  pub size-b : length b ≡ 4096
+  pub size-c : length c ≡ 4096
+  pub room : length d ≡ 12301
 
-pub record Terms (p : ℕ) (gh ghh ggh a b c d r : List ℕ) : Type 0 where
+pub record Cubes (p : ℕ) (g h b c d r : List ℕ) : Type 0 where
   pub size : length r ≡ length d
-  pub each : (i : ℕ) → getD r i 0 < p
-  pub law : (pr : Prime p) → row (reading p pr) r ≡ termsOf p pr gh ghh ggh a b c
+  pub law : (pr : Prime p) → row (reading p pr) r ≡ cubesOf p pr g h b c
 
 pub record NormIn (p : ℕ) (g h a b c d : List ℕ) : Type 0 where
-  pub big : 1 < p
-  pub is-g : Long p 13 g
-  pub is-h : Long p 13 h
-  pub is-a : Long p 4096 a
-  pub is-b : Long p 4096 b
-  pub is-c : Long p 4096 c
+  pub modulus : Storable p
+  pub three : 3 ≤ p
+  pub size-g : length g ≡ 13
+  pub size-h : length h ≡ 13
+  pub size-a : length a ≡ 4096
+  pub size-b : length b ≡ 4096
+  pub size-c : length c ≡ 4096
   pub room : length d ≡ places
 
 pub record Norm (p : ℕ) (g h a b c d r : List ℕ) : Type 0 where

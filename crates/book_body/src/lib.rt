@@ -9,9 +9,9 @@ ghost use Rattle.book_body.specs.Body.{UnitList, First, FirstList, Field
 ghost use Rattle.book_body.specs.Code.{Clipped, gotSays, ListTells};
 
 // The bytes before the lists, and where among them the lists' lengths stand.
-const HEAD: usize = 16;
+pub const HEAD: usize = 16;
 
-const LENGTHS: usize = 2;
+pub const LENGTHS: usize = 2;
 
 // The answer to reading a list: its length; there is no such list (14); too little room (11).
 pub enum Got {

@@ -3,6 +3,8 @@
 --   low-unique   a polynomial of degree below n is its n low coefficients
 --   low-mix      of g x + h y only the low coefficients of x and y are asked for
 --   mix-law      the sums of terms are the low coefficients of g x + h y; scale-law: of s d
+--   whole        where there is room, all of g x + h y
+--   alone        x y + 0 0
 use mathlib.Core.Path.{_≡_, refl, sym, ap, ap₂, _∙_, subst}
 use mathlib.Core.List.{List, [], _∷_}
 use Prim.Native.Nat.{ℕ, zero, suc, _<_, _≤_, _%_}
@@ -16,7 +18,8 @@ use Rattle.ring.specs.Ring.{Ops}
 use Rattle.ring.proofs.Solve.{var, one, zer, minus, _:+_, _:*_, solve}
 use Rattle.valued.specs.Val.{Valued}
 use Rattle.valued.specs.Degree.{Lt, Has}
-use Rattle.valued.proofs.Degree.{lt-eq, lt-add, lt-neg, lt-up, lt-cancel}
+use Rattle.valued.proofs.Degree.{lt-eq, lt-add, lt-neg, lt-mul, lt-up, lt-cancel}
+use Rattle.fp.specs.Fp.{Prime}
 use Rattle.reading.specs.Reading.{Reading}
 use Rattle.reading.specs.Made.{reading}
 use Rattle.reading.specs.Row.{tab, tpow, psum, coefs, row}
@@ -24,7 +27,7 @@ use Rattle.reading.specs.Sum.{sumTo, termAt}
 use Rattle.reading.proofs.Tab.{Filled, filled-end, length-tab, at-tab, past-tab}
 use Rattle.reading.proofs.Rows.{psum-ext, psum-plus, psum-poly, psum-lt, psum-cut, tpow-add, tpow-lead, row-tab, row-upto}
 use Rattle.reading.proofs.Product.{product-law}
-use Rattle.long.specs.Long.{Low, ScaleIn, Scaled, MixIn, Mixed}
+use Rattle.long.specs.Long.{Low, ScaleIn, Scaled, MixIn, Mixed, TimesIn, Times}
 
 module _ {p : ℕ} (ρ : Reading p) where
   open Reading ρ using (𝓥, cast)
@@ -113,6 +116,27 @@ module _ {p : ℕ} (ρ : Reading p) where
       let w = psum-low m n f in
       record { size = w .size; rest = w .rest; is-poly = w .is-poly; law = sym e ∙ w .law }
 
+  none : row ρ (0 ∷ []) ≡ 𝟎
+  unfolding psum
+  none = row-upto ρ (0 ∷ []) 0 at
+    where
+      at : (i : ℕ) → 0 ≤ i → _≡_ {A = ℕ} (getD (0 ∷ []) i 0) 0
+      at zero l = refl
+      at (suc i) l = refl
+
+  pub alone : (x y : L .El) → x * y + row ρ (0 ∷ []) * row ρ (0 ∷ []) ≡ x * y
+  alone x y = ap (λ z. x * y + z * z) none ∙ solve L (var 0 :* var 1 :+ zer :* zer) (var 0 :* var 1) tt (x ∷ y ∷ [])
+
+  product-lt : (n : ℕ) (x y : List ℕ) → N._+_ (length x) (length y) ≤ n → Lt 𝓥 (row ρ x * row ρ y) n
+  product-lt n x y l = lt-up 𝓥 n (lt-mul 𝓥 (row-lt x) (row-lt y)) l
+
+  whole-law : {n : ℕ} (g x h y : List ℕ) {d : List ℕ} → N._+_ (length g) (length x) ≤ n → N._+_ (length h) (length y) ≤ n
+      → Low ρ n (row ρ g * row ρ x + row ρ h * row ρ y) d → row ρ d ≡ row ρ g * row ρ x + row ρ h * row ρ y
+  whole-law {n} g x h y a b w = low-unique w (lt-add 𝓥 (product-lt n g x a) (product-lt n h y b))
+
+  times-law : {n : ℕ} (x y : List ℕ) {d : List ℕ} → N._+_ (length x) (length y) ≤ n → Low ρ n (row ρ x * row ρ y + row ρ (0 ∷ []) * row ρ (0 ∷ [])) d → row ρ d ≡ row ρ x * row ρ y
+  times-law {n} x y l w = let e = alone (row ρ x) (row ρ y) in low-unique w (lt-eq 𝓥 (product-lt n x y l) (sym e)) ∙ e
+
   pub scale-law : (s : ℕ) (d : List ℕ) → row ρ (tab (length d) (λ i. N._*_ (getD d i 0) s % p)) ≡ const (cast s) * row ρ d
   unfolding row psum
   scale-law s d = row-tab ρ (length d) (λ i. N._*_ (getD d i 0) s % p) ∙ go (length d)
@@ -151,3 +175,10 @@ mixed p g x h y d₀ d i m w l =
       law = λ pr. let ρ = reading p pr in let o = ρ .𝓥 .L .ops in
           subst (λ r. Low ρ (length d₀) (o .add (o .mul (row ρ g) (row ρ x)) (o .mul (row ρ h) (row ρ y))) r) (sym e) (mix-law ρ (length d₀) g x h y);
     }
+
+pub whole : {p : ℕ} {g x h y d r : List ℕ} → N._+_ (length g) (length x) ≤ length d → N._+_ (length h) (length y) ≤ length d → Mixed p g x h y d r
+    → (pr : Prime p) → let ρ = reading p pr in let o = ρ .𝓥 .L .ops in row ρ r ≡ o .add (o .mul (row ρ g) (row ρ x)) (o .mul (row ρ h) (row ρ y))
+whole {p} {g} {x} {h} {y} a b m pr = whole-law (reading p pr) g x h y a b (m .law pr)
+
+pub timed : (p : ℕ) (x y d r : List ℕ) → TimesIn p x y d → Mixed p x y (0 ∷ []) (0 ∷ []) d r → Times p x y d r
+timed p x y d r t m = record { size = m .size; each = m .each; law = λ pr. times-law (reading p pr) x y (t .room) (m .law pr) }

@@ -1,14 +1,15 @@
--- The loop of `sum_at`: the terms from where y begins to where x or the index ends; the others are 0.
+-- The loop of `sum_at`: the terms from where y begins to where x or the index ends; the others are 0. `trimmed`: neither do the zeros
+-- at the end of x count.
 use mathlib.Core.Path.{_≡_, refl, sym, ap, ap₂, _∙_}
 use mathlib.Core.Logic.{_⊎_, inl, inr}
 use mathlib.Core.List.{List}
 use Prim.Native.Nat.{ℕ, zero, suc, _+_, _*_, _-_, _<_, _≤_}
-use native.Mathlib.Nat.{mul-zero, mul-le-mul}
+use native.Mathlib.Nat.{mul-zero, zero-mul, mul-le-mul}
 use native.Mathlib.Numerals.{add-one}
 use native.Mathlib.Omega.{arith}
 use native.Mathlib.Decide.{decLe, decLt}
 use lib.ListN.{length, getD, List·getD-eq-default}
-use Rattle.reading.specs.Row.{shiftAt}
+use Rattle.reading.specs.Row.{shiftAt, Size}
 use Rattle.reading.specs.Sum.{sumTo, termAt}
 use Rattle.reading.proofs.Tab.{shift-low, shift-high}
 use Rattle.reading.proofs.Product.{sum-more, sum-none, sum-skip}
@@ -24,6 +25,9 @@ term-low x y k i l = ap (λ a. getD x i 0 * a) (shift-low y i k l) ∙ mul-zero 
 
 pub term-high : (x y : List ℕ) (k i : ℕ) → i + length y ≤ k → termAt x y k i ≡ 0
 term-high x y k i l = ap (λ a. getD x i 0 * a) (shift-high y i k (omega arith) ∙ List·getD-eq-default y 0 {n = k - i} (omega arith)) ∙ mul-zero (getD x i 0)
+
+pub trimmed : (x y : List ℕ) (k m : ℕ) → Size x m → sumTo (termAt x y k) m ≡ sumTo (termAt x y k) (length x)
+trimmed x y k m s = sym (sum-skip (termAt x y k) m (length x) (s .fits) (λ i l u. ap (λ a. a * shiftAt y i k) (s .above i l) ∙ zero-mul (shiftAt y i k)))
 
 pub record Summing (x : List ℕ) (n : ℕ) (y : List ℕ) (k from to s i : ℕ) : Type 0 where
   pub first : k < length y + from

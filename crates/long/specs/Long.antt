@@ -5,6 +5,7 @@
 --   digit      Digit             one coefficient of a quotient, from those above it
 --   quotient   Quotient          the quotient of a x + b y + c z by a monic u, where it exists and fits
 --   mix        Mixed             the low coefficients of g x + h y
+--   times      Times             x y
 --   scale      Scaled            s d
 --   clear, copy, narrow          zeros; the same numbers
 use mathlib.Core.Path.{_≡_}
@@ -31,8 +32,8 @@ pub record Storable (p : ℕ) : Type 0 where
 
 pub record SumIn (x : List ℕ) (n k : ℕ) : Type 0 where
   pub inside : n ≤ length x
-  pub most : n ≤ 4096
-  pub near : k ≤ 8192
+  pub most : n ≤ 65536
+  pub near : k ≤ 131072
 
 pub record SumAt (x : List ℕ) (n : ℕ) (y : List ℕ) (k r : ℕ) : Type 0 where
   pub value : r ≡ sumTo (termAt x y k) n
@@ -40,12 +41,12 @@ pub record SumAt (x : List ℕ) (n : ℕ) (y : List ℕ) (k r : ℕ) : Type 0 wh
 
 pub record DigitIn (p : ℕ) (a b c u : List ℕ) (k : ℕ) : Type 0 where
   pub modulus : Storable p
-  pub a-most : length a ≤ 4096
-  pub b-most : length b ≤ 4096
-  pub c-most : length c ≤ 4096
-  pub u-most : length u ≤ 4096
+  pub a-most : length a ≤ 65536
+  pub b-most : length b ≤ 65536
+  pub c-most : length c ≤ 65536
+  pub u-most : length u ≤ 65536
   pub u-some : 0 < length u
-  pub near : k < 4096
+  pub near : k < 65536
 
 -- coefficient k of a x + b y + c z
 abbrev pub termsAt : List ℕ → List ℕ → List ℕ → List ℕ → List ℕ → List ℕ → ℕ → ℕ
@@ -57,11 +58,11 @@ pub record Digit (p : ℕ) (a x b y c z u q : List ℕ) (k r : ℕ) : Type 0 whe
 
 pub record QuotientIn (p : ℕ) (a b c u q : List ℕ) : Type 0 where
   pub modulus : Storable p
-  pub a-most : length a ≤ 4096
-  pub b-most : length b ≤ 4096
-  pub c-most : length c ≤ 4096
-  pub u-most : length u ≤ 4096
-  pub q-most : length q ≤ 4096
+  pub a-most : length a ≤ 65536
+  pub b-most : length b ≤ 65536
+  pub c-most : length c ≤ 65536
+  pub u-most : length u ≤ 65536
+  pub q-most : length q ≤ 65536
   pub u-some : 0 < length u
   pub monic : getD u (length u - 1) 0 ≡ 1
 
@@ -74,14 +75,24 @@ pub record Quotient (p : ℕ) (a x b y c z u q q′ : List ℕ) : Type 0 where
 
 pub record MixIn (p : ℕ) (g h d : List ℕ) : Type 0 where
   pub modulus : Storable p
-  pub g-most : length g ≤ 4096
-  pub h-most : length h ≤ 4096
-  pub d-most : length d ≤ 4096
+  pub g-most : length g ≤ 65536
+  pub h-most : length h ≤ 65536
+  pub d-most : length d ≤ 65536
 
 pub record Mixed (p : ℕ) (g x h y d d′ : List ℕ) : Type 0 where
   pub each : (i : ℕ) → getD d′ i 0 < p
   pub size : length d′ ≡ length d
   pub law : (pr : Prime p) → let ρ = reading p pr in let o = ρ .𝓥 .L .ops in Low ρ (length d) (o .add (o .mul (row ρ g) (row ρ x)) (o .mul (row ρ h) (row ρ y))) d′
+
+pub record TimesIn (p : ℕ) (x y d : List ℕ) : Type 0 where
+  pub modulus : Storable p
+  pub room : length x + length y ≤ length d
+  pub d-most : length d ≤ 65536
+
+pub record Times (p : ℕ) (x y d d′ : List ℕ) : Type 0 where
+  pub size : length d′ ≡ length d
+  pub each : (i : ℕ) → getD d′ i 0 < p
+  pub law : (pr : Prime p) → let ρ = reading p pr in row ρ d′ ≡ ρ .𝓥 .L .ops .mul (row ρ x) (row ρ y)
 
 pub record ScaleIn (p s : ℕ) : Type 0 where
   pub modulus : Storable p

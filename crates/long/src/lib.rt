@@ -1,11 +1,11 @@
-// Long polynomials: lent slices of stored coefficients, lowest first, up to 4,096 of them. A sum of 4,096 products of stored
+// Long polynomials: lent slices of stored coefficients, lowest first, up to 65,536 of them. A sum of 65,536 products of stored
 // coefficients fits 64 bits, so each coefficient handed out costs one remainder. The contracts speak of the polynomial that a slice
 // stands for (`row` of crate reading); specs/Long.antt has them.
 ghost use mathlib.Core.Path.{_≡_};
 ghost use Prim.Native.Nat.{_+_, _*_, _-_, _%_, _<_, _≤_};
 ghost use lib.ListN.{length, getD, replicate};
 ghost use Rattle.reading.specs.Row.{Size};
-ghost use Rattle.long.specs.Long.{SumIn, SumAt, DigitIn, Digit, QuotientIn, Quotient, MixIn, Mixed, ScaleIn, Scaled, Stored};
+ghost use Rattle.long.specs.Long.{SumIn, SumAt, DigitIn, Digit, QuotientIn, Quotient, MixIn, Mixed, TimesIn, Times, ScaleIn, Scaled, Stored};
 
 // The length without the zeros at the end.
 pub fn size(x: &[u16]) -> usize
@@ -84,17 +84,40 @@ pub fn quotient(
     }
 }
 
-// The low coefficients of g x + h y, as many as d holds.
+// The low coefficients of g x + h y, as many as d holds; zeros at the ends of g and h cost nothing.
 pub fn mix(p: u64, g: &[u16], x: &[u16], h: &[u16], y: &[u16], d: &mut [u16])
     requires { ⌜ MixIn p (now g) (now h) (now d) ⌝ }
     ensures { λ _. ⌜ Mixed p (now (g .entry)) (now (x .entry)) (now (h .entry)) (now (y .entry)) (now (d .entry)) (now (d .exit)) ⌝ }
 {
+    let m = size(g);
+    let n = size(h);
     let mut k: usize = 0;
     while k < d.len() {
-        let s = sum_at(g, g.len(), x, k);
-        let t = sum_at(h, h.len(), y, k);
+        let s = sum_at(g, m, x, k);
+        let t = sum_at(h, n, y, k);
         d[k] = ((s + t) % p) as u16;
         k += 1;
+    }
+}
+
+// x y
+pub fn times(p: u64, x: &[u16], y: &[u16], d: &mut [u16])
+    requires { ⌜ TimesIn p (now x) (now y) (now d) ⌝ }
+    ensures { λ _. ⌜ Times p (now (x .entry)) (now (y .entry)) (now (d .entry)) (now (d .exit)) ⌝ }
+{
+    let o: [u16; 1] = [0; 1];
+    mix(p, x, y, &o, &o, d);
+}
+
+// x s mod p; zeros cost no division.
+fn scaled(p: u64, s: u64, x: u16) -> u16
+    requires { ⌜ ScaleIn p s ⌝ }
+    ensures { λ r. ⌜ r ≡ (x * s) % p ⌝ }
+{
+    if x == 0 {
+        0
+    } else {
+        ((x as u64) * s % p) as u16
     }
 }
 
@@ -105,7 +128,8 @@ pub fn scale(p: u64, s: u64, d: &mut [u16])
 {
     let mut i: usize = 0;
     while i < d.len() {
-        d[i] = ((d[i] as u64) * s % p) as u16;
+        let v = scaled(p, s, d[i]);
+        d[i] = v;
         i += 1;
     }
 }

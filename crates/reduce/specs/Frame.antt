@@ -6,23 +6,23 @@
 --   Point          rows b, c for the element b r + c w, and a row z
 --   pt μ b c       the element
 --   side           its sizes X and Y (crate turn), here of a Boolean: Y for true, X for false
+--   Short          a row that is 0 from a place on (crate poly)
 --   Held F e top q    q's rows end before top − dr, top − dw and top, and z is the polynomial part of a size
-use mathlib.Core.Path.{_≡_}
 use mathlib.Core.Logic.{_≢_}
 use mathlib.Core.Bool.{Bool}
 use mathlib.Core.List.{List}
-use Prim.Native.Nat.{ℕ, _-_, _≤_}
-use lib.ListN.{getD}
+use Prim.Native.Nat.{ℕ, _-_}
 use Rattle.ring.specs.Ring.{Ops, CRing}
 use Rattle.fp.specs.Fp.{Prime}
 use Rattle.valued.specs.Val.{Valued}
 use Rattle.valued.specs.Degree.{Has, Lt}
 use Rattle.reading.specs.Reading.{Reading}
 use Rattle.reading.specs.Made.{reading}
-use Rattle.reading.specs.Row.{Row, Size, row, tpow, Floor, Reads}
+use Rattle.reading.specs.Row.{Row, row, tpow, Floor, Reads}
 use Rattle.residue.specs.Residue.{Modulus}
 use Rattle.turn.specs.Points as T
 use Rattle.turn.specs.Points.{Pt}
+pub use Rattle.poly.specs.Leaf.{Short}
 
 pub record Frame : Type 0 where
   pub p : ℕ
@@ -90,11 +90,6 @@ pub record Point : Type 0 where
 
 abbrev pub point : List ℕ → List ℕ → List ℕ → Point
 point b c z = record { b = b; c = c; z = z }
-
--- a row of numbers below p that is 0 from n on
-pub record Short (p : ℕ) (l : List ℕ) (n : ℕ) : Type 0 where
-  pub is-row : Row p l
-  pub above : (i : ℕ) → n ≤ i → getD l i 0 ≡ 0
 
 pub record Held (F : Frame) (e : Bool) (top : ℕ) (q : Point) : Type 0 where
   pub hb : Short (F .p) (q .b) (top - F .dr)

@@ -1,23 +1,21 @@
 -- What `pair`, `cofactor` and `norm` hand out, from the products that they call.
 use mathlib.Core.Path.{_≡_, refl, sym, ap, ap₂, _∙_, subst}
 use mathlib.Core.List.{List, [], _∷_, _++_}
-use Prim.Native.Nat.{ℕ, zero, suc, _+_, _*_, _-_, _<_, _≤_}
+use Prim.Native.Nat.{ℕ, _+_, _*_, _-_, _<_, _≤_}
 use native.Mathlib.Omega.{arith}
 use lib.ListN.{length, getD, take, drop}
 use lib.Seq.{ext-getD}
-use Rattle.ring.specs.Ring.{Ops}
-use Rattle.ring.proofs.Solve.{var, zer, _:+_, _:*_, solve}
+use Rattle.ring.proofs.Solve.{var, _:+_, _:*_, solve}
 use Rattle.fp.specs.Fp.{Prime}
 use Rattle.reading.specs.Reading.{Reading}
 use Rattle.reading.specs.Made.{reading}
 use Rattle.reading.specs.Row.{row, tpow}
 use Rattle.reading.proofs.Rows.{row-poly}
 use Rattle.long.specs.Long.{Low, MixIn, Mixed}
-use Rattle.long.proofs.Low.{low-mix}
+use Rattle.long.proofs.Low.{low-mix, alone}
 use Rattle.six.specs.Six.{cut}
 use Rattle.six.specs.Inverse.{PairIn, Pair, CofactorIn, Cofactor, NormIn, Norm}
 use Rattle.six.proofs.Parts.{mid, mid-length, mid-cut, Put, put-back, put-cut}
-use Rattle.six.proofs.Rows.{none}
 use Rattle.six.proofs.Multiply.{cut-same}
 
 low-eq : {p : ℕ} (ρ : Reading p) {n m : ℕ} {z y : ρ .𝓥 .L .El} {l k : List ℕ} → Low ρ n z l → n ≡ m → z ≡ y → l ≡ k → Low ρ m y k
@@ -35,11 +33,6 @@ low-left ρ {n} {x} {a} {d} g y hg u w = let L = ρ .𝓥 .L in let o = L .ops i
       ∙ ap (λ s. o .add s (o .mul (tpow ρ n) (o .mul g (u .rest)))) (w .law)
       ∙ solve L (var 0 :+ var 1 :* var 2 :+ var 1 :* var 3) (var 0 :+ var 1 :* (var 2 :+ var 3)) tt (row ρ d ∷ tpow ρ n ∷ w .rest ∷ o .mul g (u .rest) ∷ []);
 }
-
--- x y + 0 0
-alone : {p : ℕ} (ρ : Reading p) (x y : ρ .𝓥 .L .El) → let o = ρ .𝓥 .L .ops in o .add (o .mul x y) (o .mul (row ρ (0 ∷ [])) (row ρ (0 ∷ []))) ≡ o .mul x y
-alone ρ x y = let L = ρ .𝓥 .L in let o = L .ops in
-    ap (λ z. o .add (o .mul x y) (o .mul z z)) (none ρ) ∙ solve L (var 0 :* var 1 :+ zer :* zer) (var 0 :* var 1) tt (x ∷ y ∷ [])
 
 -- a row of c numbers
 row-at : (at c : ℕ) (l : List ℕ) → at + c ≤ length l → mid at (at + c) l ≡ cut at c l
@@ -105,8 +98,8 @@ module _ (p c k x y v w : ℕ) (g f : List ℕ) (at : ℕ) (rows s s₁ : List �
   pub cofactor-asks : MixIn p g f (mid at (at + k) rows)
   cofactor-asks = record {
     modulus = h .pair .modulus;
-    g-most = h .g-most;
-    h-most = h .f-most;
+    g-most = let o : length g ≤ 4096 = h .g-most in omega arith;
+    h-most = let o : length f ≤ 4096 = h .f-most in omega arith;
     d-most = let o : length (mid at (at + k) rows) ≡ k = row-long at k rows (h .room) in let m : c ≤ 4096 = h .pair .most in let u : k ≤ c = h .pair .upto in omega arith;
   }
 
@@ -131,10 +124,10 @@ single : (l : List ℕ) → length l ≡ 1 → l ≡ getD l 0 0 ∷ []
 single l e = ext-getD 0 l (getD l 0 0 ∷ []) e (λ i u. let z : i ≡ 0 = omega arith in ap (λ j. getD l j 0) z ∙ sym (ap (λ j. getD (getD l 0 0 ∷ []) j 0) z))
 
 module _ (p c : ℕ) (gh rows : List ℕ) (h : NormIn p c gh rows) where
-  pub norm-long : (at : ℕ) → at + c ≤ c + c + c + c + c + c → length (mid at (at + c) rows) ≤ 4096
+  pub norm-long : (at : ℕ) → at + c ≤ c + c + c + c + c + c → length (mid at (at + c) rows) ≤ 65536
   norm-long at u = let r : length rows ≡ c + c + c + c + c + c = h .room in let o : length (mid at (at + c) rows) ≡ c = row-long at c rows (omega arith) in let m : c ≤ 4096 = h .most in omega arith
 
-  pub norm-first : length (mid 0 c rows) ≤ 4096
+  pub norm-first : length (mid 0 c rows) ≤ 65536
   norm-first = let r : length rows ≡ c + c + c + c + c + c = h .room in let o : length (mid 0 c rows) ≡ c - 0 = mid-length 0 c rows (omega arith) (omega arith) in let m : c ≤ 4096 = h .most in omega arith
 
   pub norm-made : (a b : List ℕ) (v : ℕ)

@@ -1,47 +1,19 @@
--- Short products and one coordinate of E m: what `by` and `coordinate` hand out, from what they call.
-use mathlib.Core.Path.{_≡_, refl, sym, ap, ap₂, _∙_, subst}
-use mathlib.Core.List.{List, [], _∷_, _++_}
-use Prim.Native.Nat.{ℕ, zero, suc, _+_, _*_, _-_, _<_, _≤_}
+-- One coordinate of E m: what `coordinate` hands out, from what it calls.
+use mathlib.Core.Path.{_≡_, sym, ap, ap₂, _∙_, subst}
+use mathlib.Core.List.{List, _++_}
+use Prim.Native.Nat.{ℕ, _+_, _-_, _<_, _≤_}
 use native.Mathlib.Omega.{arith}
 use lib.ListN.{length, getD, take, drop}
 use lib.Seq.{getD-take, getD-drop}
-use Rattle.ring.specs.Ring.{Ops}
-use Rattle.ring.proofs.Solve.{var, zer, _:+_, _:*_, solve}
-use Rattle.fp.specs.Fp.{Prime}
-use Rattle.valued.specs.Degree.{Lt}
-use Rattle.valued.proofs.Degree.{lt-eq, lt-mul, lt-up}
-use Rattle.reading.specs.Reading.{Reading}
 use Rattle.reading.specs.Made.{reading}
-use Rattle.reading.specs.Row.{row, psum, coefs, Size}
-use Rattle.reading.proofs.Rows.{row-upto}
+use Rattle.reading.specs.Row.{row, Size}
 use Rattle.reading.proofs.Unique.{list-exists}
-use Rattle.long.specs.Long.{QuotientIn, Quotient, Mixed}
-use Rattle.long.proofs.Low.{low-unique, row-lt}
-use Rattle.six.specs.Six.{cut, ByIn, By, Monic, CoordinateIn, Coordinate}
+use Rattle.long.specs.Long.{QuotientIn, Quotient}
+use Rattle.six.specs.Six.{cut, CoordinateIn, Coordinate}
 use Rattle.six.proofs.Parts.{mid, mid-length, mid-cut, Put, put-back, put-cut, row-mid}
 
--- ---- x y
-pub none : {p : ℕ} (ρ : Reading p) → row ρ (0 ∷ []) ≡ ρ .𝓥 .L .ops .𝟎
-unfolding psum
-none ρ = row-upto ρ (0 ∷ []) 0 at
-  where
-    at : (i : ℕ) → 0 ≤ i → _≡_ {A = ℕ} (getD (0 ∷ []) i 0) 0
-    at zero l = refl
-    at (suc i) l = refl
-
-pub by-made : (p : ℕ) (x y d r : List ℕ) → ByIn p x y → length d ≡ 50 → Mixed p x y (0 ∷ []) (0 ∷ []) d r → By p x y r
-by-made p x y d r g s m = record {
-  size = m .size ∙ s;
-  each = m .each;
-  law = λ pr. let ρ = reading p pr in let L = ρ .𝓥 .L in let o = L .ops in
-      let e : o .add (o .mul (row ρ x) (row ρ y)) (o .mul (row ρ (0 ∷ [])) (row ρ (0 ∷ []))) ≡ o .mul (row ρ x) (row ρ y) =
-      ap (λ z. o .add (o .mul (row ρ x) (row ρ y)) (o .mul z z)) (none ρ) ∙ solve L (var 0 :* var 1 :+ zer :* zer) (var 0 :* var 1) tt (row ρ x ∷ row ρ y ∷ []) in
-      low-unique ρ (m .law pr) (lt-up (ρ .𝓥) (length d) (lt-eq (ρ .𝓥) (lt-mul (ρ .𝓥) (row-lt ρ x) (row-lt ρ y)) (sym e)) (let l : length x + length y ≤ 50 = g .room in omega arith)) ∙ e;
-}
-
--- ---- one coordinate
 module _ (p c n : ℕ) (a b d u e : List ℕ) (at : ℕ) (s : List ℕ) (la lb ld lu : ℕ) (h : CoordinateIn p c n a b d u e at s) (sa : Size a la) (sb : Size b lb) (sd : Size d ld) (su : Size u lu) where
-  trim : (l : List ℕ) (m : ℕ) → Size l m → length l ≤ 4096 → length (mid 0 m l) ≤ 4096
+  trim : (l : List ℕ) (m : ℕ) → Size l m → length l ≤ 4096 → length (mid 0 m l) ≤ 65536
   trim l m z k = let o : length (mid 0 m l) ≡ m - 0 = mid-length 0 m l (omega arith) (z .fits) in let f : m ≤ length l = z .fits in omega arith
 
   last : getD (mid 0 lu u) (length (mid 0 lu u) - 1) 0 ≡ 1

@@ -16,9 +16,8 @@ fn by(p: u64, x: &[u16], y: &[u16]) -> [u16; 50]
     requires { ⌜ ByIn p (now x) (now y) ⌝ }
     ensures { λ r. ⌜ By p (now (x .entry)) (now (y .entry)) r ⌝ }
 {
-    let z: [u16; 1] = [0; 1];
     let mut d: [u16; 50] = [0; 50];
-    mix(p, x, y, &z, &z, &mut d);
+    long::times(p, x, y, &mut d);
     d
 }
 

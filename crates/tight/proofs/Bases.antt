@@ -1,14 +1,12 @@
 -- Crate basis.
---   stored-one, load-one           the record with a row put in; a row taken out of it
---   level-one                      row 0 over a denominator
+--   load-one                       a row taken out of the record
 --   reduced-basis-one, order-one   the whole record of a reduction
 use mathlib.Core.Path.{_≡_, refl, sym, ap, ap₂, _∙_, subst}
 use mathlib.Core.Logic.{_≢_, _⊎_, inl, inr}
 use mathlib.Core.List.{List, [], _∷_}
-use Prim.Native.Nat.{ℕ, zero, suc, _+_, _*_, _-_, _/_, _%_, _<_, _≤_}
+use Prim.Native.Nat.{ℕ, zero, suc, _+_, _*_, _/_, _%_, _<_, _≤_}
 use native.Mathlib.Nat.{mod-lt, mod-add-div}
 use native.Mathlib.Omega.{arith}
-use native.Mathlib.Decide.{decLt}
 use lib.ListN.{length, getD}
 use lib.Seq.{ext-getD}
 use Rattle.ring.proofs.Laws as rg
@@ -23,9 +21,7 @@ use Rattle.valued.proofs.Compare.{k-zero, leads-unique, lt-unscale, has-unscale
 use Rattle.valued.proofs.Polynomial.{view}
 use Rattle.reading.specs.Reading.{Reading}
 use Rattle.reading.specs.Made.{reading}
-use Rattle.reading.specs.Row.{Size, row}
-use Rattle.reading.proofs.Rows.{size-has-at}
-use Rattle.reading.proofs.Floors.{sized}
+use Rattle.reading.specs.Row.{row}
 use Rattle.reading.proofs.Tab.{length-tab, at-tab}
 use Rattle.reading.proofs.Turn.{lead-scale}
 use Rattle.reading.proofs.Unique.{list-unique}
@@ -34,26 +30,12 @@ use Rattle.record.specs.Record.{part}
 use Rattle.record.proofs.Unique.{part-below}
 use Rattle.reduce.specs.Frame.{Frame, Meaning, rd, rowμ, X, Y, Ltμ}
 use Rattle.reduce.specs.declared.Pair.{Pair}
-use Rattle.basis.specs.Store.{Stored, Loaded}
-use Rattle.basis.specs.Levels.{LevelIn, Leveled}
+use Rattle.basis.specs.Store.{Loaded}
 use Rattle.basis.specs.First.{nothing, unit, units, OrderIn}
 use Rattle.basis.specs.Based.{BasisIn, BasedAt, Based, Z, at, Mpt, Npt}
-use Rattle.basis.proofs.Levels.{cast-two}
 use Rattle.tight.proofs.Rows.{by-row}
 use Rattle.tight.specs.UpTo.{Scaled}
 use Rattle.tight.proofs.Pairs.{times-X, times-Y, pairs-one}
-
-pub stored-one : {B : List ℕ} {i : ℕ} {a C C′ : List ℕ} → Stored B i a C → Stored B i a C′ → C ≡ C′
-stored-one {B} {i} {a} {C} {C′} h k = ext-getD 0 C C′ (h .size ∙ sym (k .size)) (λ j _. go j (decLt j (17 * i)) (decLt j (17 * i + 17)))
-  where
-    go : (j : ℕ) → Dec (j < 17 * i) → Dec (j < 17 * i + 17) → getD C j 0 ≡ getD C′ j 0
-    go j (yes l) m = h .there j (inl l) ∙ sym (k .there j (inl l))
-    go j (no l) (no m) = let w : 17 * i + 17 ≤ j = omega arith in h .there j (inr w) ∙ sym (k .there j (inr w))
-    go j (no l) (yes m) =
-        let n : ℕ = j - 17 * i in
-        let w : n < 17 = omega arith in
-        let e : j ≡ 17 * i + n = omega arith in
-        ap (λ t. getD C t 0) e ∙ h .here n w ∙ sym (k .here n w) ∙ ap (λ t. getD C′ t 0) (sym e)
 
 -- 65,537 is a prime above every number of a record
 big : Prime 65537
@@ -95,26 +77,6 @@ module _ {p : ℕ} (ρ : Reading p) where
   k-cancel : (a b c : K .El) → c ≢ 0ᵏ → a *ᵏ c ≡ b *ᵏ c → a ≡ b
   k-cancel a b c h e = rg.eq-of-sub K a b (k-zero 𝓥 c (a +ᵏ -ᵏ b) h
       (solve K (var 2 :* (var 0 :+ minus (var 1))) (var 0 :* var 2 :+ minus (var 1 :* var 2)) tt (a ∷ b ∷ c ∷ []) ∙ ap (λ t. t +ᵏ -ᵏ (b *ᵏ c)) e ∙ K .laws .add-neg (b *ᵏ c)))
-
-pub level-one : {p : ℕ} (pr : Prime p) {t e u a a′ : List ℕ} → LevelIn p t e u → Leveled p t e u a → Leveled p t e u a′ → a ≡ a′
-level-one {p} pr {t} {e} {u} {a} {a′} g h h′ =
-    let ρ = reading p pr in
-    let (n, s) = sized u in
-    let hu = size-has-at ρ n (g .hu) s (pos n s) in
-    let (k, hk, f) = h .law pr in
-    let (k′, hk′, f′) = h′ .law pr in
-    by-row ρ (h .is-row) (h′ .is-row) (row0 ρ (row ρ u) (row ρ a) (row ρ a′) (row ρ e) (row ρ t) k k′ two hu hk hk′ f f′ (h .low pr (n - 1) hu) (h′ .low pr (n - 1) hu)) refl
-  where
-    pos : (n : ℕ) → Size u n → 0 < n
-    pos zero s = absurd (let x : getD u (0 - 1) 0 ≡ 1 = g .monic 0 s in let y : getD u (0 - 1) 0 ≡ 0 = s .above (0 - 1) (omega arith) in omega arith)
-    pos (suc n) s = omega arith
-
-    two : reading p pr .𝓥 .K .ops .add (reading p pr .𝓥 .K .ops .𝟏) (reading p pr .𝓥 .K .ops .𝟏) ≢ reading p pr .𝓥 .K .ops .𝟎
-    two z =
-        let b : 1 < p = g .modulus .big in
-        let o : p % 2 ≡ 1 = g .odd in
-        let w : _≡_ {A = ℕ} 2 0 = reading p pr .cast-small 2 (omega arith) (cast-two (reading p pr) ∙ z) in
-        omega arith
 
 -- ---- a record of numbers below p is settled by its seven polynomials
 by-parts : {p : ℕ} (ρ : Reading p) (B B′ : List ℕ) → length B ≡ 119 → length B′ ≡ 119 → ((i : ℕ) → getD B i 0 < p) → ((i : ℕ) → getD B′ i 0 < p)

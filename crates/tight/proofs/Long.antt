@@ -1,4 +1,4 @@
--- Crates long, six and slice_poly: the final contents of the lent slices. `size` of long and of slice_poly: `size-one` in Poly.
+-- Crates long and six: the final contents of the lent slices. `size` of long: `size-one` in Poly.
 --   cut-one   the numbers of a row inside a slice are settled by its polynomial
 use mathlib.Core.Path.{_≡_, sym, ap, _∙_, subst}
 use mathlib.Core.List.{List}
@@ -16,8 +16,7 @@ use Rattle.reading.specs.Made.{reading}
 use Rattle.reading.specs.Row.{row}
 use Rattle.reading.proofs.Tab.{length-tab, at-tab, past-tab}
 use Rattle.reading.proofs.Unique.{list-unique}
-use Rattle.long.specs.Long.{Quotient, Mixed, Scaled}
-use Rattle.slice_poly.specs.Slice as slice
+use Rattle.long.specs.Long.{Quotient, Mixed, Times, Scaled}
 use Rattle.six.specs.Six.{cut, Turn, MonicIn, MonicMade}
 use Rattle.six.specs.Inverse.{element, InvertIn, Inverted}
 use Rattle.tight.specs.Turnable.{at, Turnable}
@@ -33,16 +32,12 @@ quotient-one pr l n g e h k = h .law pr l n g e ∙ sym (k .law pr l n g e)
 pub mix-one : {p : ℕ} (pr : Prime p) {g x h y d d′ d″ : List ℕ} → Mixed p g x h y d d′ → Mixed p g x h y d d″ → d′ ≡ d″
 mix-one {p} pr {d′ = d′} {d″ = d″} h k = list-unique (reading p pr) d′ d″ (h .size ∙ sym (k .size)) (h .each) (k .each) (low-one (reading p pr) (h .law pr) (k .law pr))
 
+pub times-one : {p : ℕ} (pr : Prime p) {x y d r s : List ℕ} → Times p x y d r → Times p x y d s → r ≡ s
+times-one {p} pr h k = by-list (reading p pr) (h .size) (k .size) (h .each) (k .each) (h .law pr) (k .law pr)
+
 pub scale-one : {p s : ℕ} {d d′ d″ : List ℕ} → Scaled p s d d′ → Scaled p s d d″ → d′ ≡ d″
 scale-one {p} {s} {d} {d′} {d″} h k =
     ext-getD 0 d′ d″ (h .size ∙ sym (k .size)) (λ i l. let m : i < length d = subst (λ n. i < n) (h .size) l in h .at i m ∙ sym (k .at i m))
-
--- ---- slice_poly
-pub mul-one : {p : ℕ} (pr : Prime p) {a b d r s : List ℕ} → slice.Product p a b d r → slice.Product p a b d s → r ≡ s
-mul-one {p} pr h k = by-list (reading p pr) (h .size) (k .size) (h .each) (k .each) (h .law pr) (k .law pr)
-
-pub sum-one : {p : ℕ} (pr : Prime p) {x y z w d r s : List ℕ} → slice.Sum p x y z w d r → slice.Sum p x y z w d s → r ≡ s
-sum-one {p} pr h k = by-list (reading p pr) (h .size) (k .size) (h .each) (k .each) (h .law pr) (k .law pr)
 
 -- ---- rows inside a slice
 cut-below : {p : ℕ} (at c : ℕ) (l : List ℕ) → 0 < p → ((i : ℕ) → i < c → getD l (at + i) 0 < p) → (i : ℕ) → getD (cut at c l) i 0 < p

@@ -1,4 +1,4 @@
--- Crates prime and poly. The laws of poly speak of a prime modulus: so do the theorems. `size-one` is also for long and slice_poly.
+-- Crates prime and poly. The laws of poly speak of a prime modulus: so do the theorems. `size-one` is also for long.
 use mathlib.Core.Path.{_≡_, refl, sym, ap, _∙_}
 use mathlib.Core.Logic.{_⊎_, inl, inr}
 use mathlib.Core.Bool.{Bool, true, false}

@@ -13,17 +13,17 @@
 --   series        series, open_with_series: answer-one, expands-one (series/proofs/Answer)
 --   reduce        part: part-one; lead_of, where the size has a degree: lead-of-one; reduced, up to constants: reduced-one (Reduction)
 --   generators    det: det-one; divided, up to a constant: divided-one, and its lengths: divided-lengths (Generators)
---   basis         stored, load, level, reduced_basis, order: stored-one, load-one, level-one, reduced-basis-one, order-one (Bases)
+--   basis         load, reduced_basis, order: load-one, reduced-basis-one, order-one (Bases)
 --   closure       under: under-one (Tests)
 --   accepts       below, narrow, ordered, units, shape: decides-one; shaped, alone, passes, accepts: shaped-one, alone-one, passes-one,
 --                 accepts-one (Tests)
 --   bases         first: first-one (Steps); order, check: orders-one, checks-one (bases/proofs/Answer)
 --   step, stepped     advanced: advanced-one; next: next-one (Steps); step: answers-one (stepped/proofs/Answers)
 --   walk, walks   go: go-one; walked: walked-one (Steps); from_order, walk: from-order-one, walks-one (walks/proofs, walk/proofs)
---   long          size: size-one (Poly); mix: mix-one; scale: scale-one; quotient, where there is one that fits: quotient-one (Long)
+--   long          size: size-one (Poly); mix, times, for a prime p: mix-one, times-one; scale: scale-one; quotient, where there is one that
+--                 fits: quotient-one (Long)
 --   six           monic, invert: monic-one, invert-one; turn, where `Turnable`: turn-one (Long)
 --   unit          unit: makes-one (unit/proofs/Once)
---   slice_poly    mul, sum, for a prime p: mul-one, sum-one (Long); size: size-one (Poly)
 --   book_bytes    same_list: decides-one (Tests); read_list, put_two, put_four, put_list, copy_in, lift: put-one (Bytes)
 --   book_body     body_rule, one_field, unit_list, first_list: decides-one (Tests); field_refusal, period_of: field-refusal-one, period-of-one (Bytes);
 --                 list_of: got-one (book_body/proofs/One)

@@ -1,23 +1,23 @@
--- A row is the polynomial 1 exactly where its trimmed length is 1 and its first entry is 1.
-use mathlib.Core.Path.{_≡_, refl, sym, ap, _∙_, subst}
+-- A row is the polynomial 1 exactly where its first entry is 1 and the others are 0.
+use mathlib.Core.Path.{_≡_, refl, sym, ap, _∙_}
 use mathlib.Core.Logic.{_≢_}
 use mathlib.Core.List.{List, [], _∷_}
-use Prim.Native.Nat.{ℕ, zero, suc, _<_, _-_}
+use Prim.Native.Nat.{ℕ, zero, suc, _+_, _*_, _-_, _<_, _≤_}
 use native.Mathlib.Omega.{arith}
-use lib.ListN.{getD}
+use native.Mathlib.Decide.{decLt}
+use lib.ListN.{getD, replicate}
 use Rattle.ring.specs.Ring.{Ops}
-use Rattle.ring.proofs.Laws as r
-use Rattle.ring.proofs.Solve.{var, one, zer, _:+_, _:*_, solve}
+use Rattle.ring.proofs.Solve.{one, zer, _:+_, _:*_, solve}
 use Rattle.valued.specs.Val.{Valued}
-use Rattle.valued.specs.Degree.{Has}
-use Rattle.valued.proofs.Degree.{has-one, same, lead-eq}
 use Rattle.fp.specs.Fp.{Prime}
 use Rattle.reading.specs.Reading.{Reading}
-use Rattle.reading.specs.Row.{Row, Size, row, psum, tpow}
-use Rattle.reading.proofs.Rows.{row-cut, size-has, size-lead}
-use Rattle.reading.proofs.Unique.{cast-inj}
+use Rattle.reading.specs.Row.{Size, row, psum, tpow}
+use Rattle.reading.proofs.Rows.{row-cut}
+use Rattle.reading.proofs.Tab.{zeros-at, at-tab, past-tab, length-tab}
+use Rattle.reading.proofs.Unique.{list-unique}
 use Rattle.reading.specs.Made.{reading}
-use Rattle.basis.specs.Store.{Loaded}
+use Rattle.record.specs.Record.{part}
+use Rattle.record.proofs.Unique.{part-below}
 use Rattle.walk.specs.Closed.{ClosedIn, OnePart}
 use mathlib.Core.Bool.{true, false}
 
@@ -33,19 +33,36 @@ module _ {p : ℕ} (ρ : Reading p) (l : List ℕ) where
       ∙ ap (λ x. L .ops .add (L .ops .𝟎) (L .ops .mul x (L .ops .𝟏))) (ap const (ρ .cast-one) ∙ ρ .const-one)
       ∙ solve L (zer :+ one :* one) one tt []
 
-  pub not-one : (n : ℕ) → 1 < p → Row p l → Size l n → row ρ l ≡ L .ops .𝟏 → (n ≡ 1) × (getD l 0 0 ≡ 1)
-  unfolding psum
-  not-one zero big h s e = absurd (𝓥 .one≢zero (𝓥 .lead-unique (𝓥 .lead-one) (lead-eq 𝓥 (𝓥 .lead-zero 0 0) (sym (row-cut ρ l 0 s) ∙ e) refl)))
-  not-one (suc d) big h s e =
-      let z : d ≡ 0 = same 𝓥 (size-has ρ h s) (subst (λ x. Has 𝓥 x 0) (sym e) (has-one 𝓥)) in
-      let lead : 𝓥 .Lead (row ρ l) 0 0 (cast (getD l 0 0)) = subst (λ k. 𝓥 .Lead (row ρ l) k 0 (cast (getD l k 0))) z (size-lead ρ s) in
-      let c : cast (getD l 0 0) ≡ cast 1 = 𝓥 .lead-unique lead (lead-eq 𝓥 (𝓥 .lead-one) (sym e) refl) ∙ sym (ρ .cast-one) in
-      (omega arith, cast-inj ρ (getD l 0 0) 1 (h .each 0) big c)
+-- 1, 0, .., 0
+abbrev unit17 : List ℕ
+unit17 = 1 ∷ replicate 16 0
 
--- the same of the row U of a record, as code loads it
-module _ (p : ℕ) (B u : List ℕ) (n : ℕ) (loaded : Loaded B 6 u) (s : Size u n) where
-  pub part-one : n ≡ 1 → getD u 0 0 ≡ 1 → OnePart p B true
-  part-one e f pr = sym (loaded .law p pr) ∙ one-of (reading p pr) u (subst (λ k. Size u k) e s) f
+-- the same of the row U of a record: its numbers stand from place 102 on
+module _ (p : ℕ) (B : List ℕ) where
+  at : (j : ℕ) → j < 17 → getD (part 6 B) j 0 ≡ getD B (102 + j) 0
+  at j l = at-tab 17 (λ j. getD B (17 * 6 + j) 0) j l
 
-  pub part-other : ClosedIn p B → ((n ≡ 1) × (getD u 0 0 ≡ 1) → ⊥) → OnePart p B false
-  part-other h f pr e = f (not-one (reading p pr) u n (pr .big) (loaded .is-row p (h .each)) s (loaded .law p pr ∙ e))
+  pub part-one : getD B 102 0 ≡ 1 → ((k : ℕ) → 103 ≤ k → k < 119 → getD B k 0 ≡ 0) → OnePart p B true
+  part-one e z pr = one-of (reading p pr) (part 6 B) (record { fits = omega (arith, length-tab 17 (λ j. getD B (17 * 6 + j) 0)); above = above; top = λ l q. absurd (omega (arith, at 0 (omega arith))) }) (at 0 (omega arith) ∙ e)
+    where
+      above : (j : ℕ) → 1 ≤ j → getD (part 6 B) j 0 ≡ 0
+      above j l = elim (decLt j 17) [ yes w ↦ at j w ∙ z (102 + j) (omega arith) (omega arith) | no w ↦ past-tab 17 (λ j. getD B (17 * 6 + j) 0) j (omega arith) ]
+
+  -- a row of 17 numbers that is the polynomial 1 is 1, 0, .., 0
+  is-unit : ClosedIn p B → (pr : Prime p) → row (reading p pr) (part 6 B) ≡ reading p pr .𝓥 .L .ops .𝟏 → part 6 B ≡ unit17
+  is-unit h pr e = list-unique (reading p pr) (part 6 B) unit17 (length-tab 17 (λ j. getD B (17 * 6 + j) 0)) (part-below B (h .each) 6) small
+      (e ∙ sym (one-of (reading p pr) unit17 (record { fits = omega arith; above = tail; top = λ l q. let z : _≡_ {A = ℕ} 1 0 = q in absurd (omega arith) }) refl))
+    where
+      tail : (j : ℕ) → 1 ≤ j → getD unit17 j 0 ≡ 0
+      tail zero l = absurd (omega arith)
+      tail (suc j) l = zeros-at 16 j
+
+      small : (j : ℕ) → getD unit17 j 0 < p
+      small zero = pr .big
+      small (suc j) = let z : getD unit17 (suc j) 0 ≡ 0 = zeros-at 16 j in let b : 1 < p = pr .big in omega arith
+
+  pub first-other : ClosedIn p B → getD B 102 0 ≢ 1 → OnePart p B false
+  first-other h f pr e = f (sym (at 0 (omega arith)) ∙ ap (λ l. getD l 0 0) (is-unit h pr e))
+
+  pub later-other : ClosedIn p B → (k : ℕ) → 103 ≤ k → k < 119 → getD B k 0 ≢ 0 → OnePart p B false
+  later-other h k l u f pr e = f (ap (λ m. getD B m 0) (let q : k ≡ 102 + suc (k - 103) = omega arith in q) ∙ sym (at (suc (k - 103)) (omega arith)) ∙ ap (λ l. getD l (suc (k - 103)) 0) (is-unit h pr e) ∙ zeros-at 16 (k - 103))

@@ -1,6 +1,4 @@
 // The walk along the chain of minima, from a record or from the order.
-use basis::load;
-use poly::size;
 use step::advanced;
 ghost use Rattle.walk.specs.Closed.{ClosedIn, OnePart};
 ghost use Rattle.walk.specs.Going.{GoIn, Gone};
@@ -13,20 +11,22 @@ pub struct Walked {
     pub basis: [u16; 119],
 }
 
-// Whether U = 1: the ideal is the whole order.
+// Whether U = 1: the ideal is the whole order. U is the last row, from place 102 on.
 fn is_closed(p: u64, b: &[u16; 119]) -> bool
     requires { ⌜ ClosedIn p (now b) ⌝ }
     ensures { λ r. ⌜ OnePart p (now (b .entry)) r ⌝ }
 {
-    let u = load(b, 6);
-    let n = size(&u);
-    if n == 1 {
-        if u[0] == 1 {
-            return true;
-        }
+    if b[102] != 1 {
         return false;
     }
-    false
+    let mut k: usize = 103;
+    while k < 119 {
+        if b[k] != 0 {
+            return false;
+        }
+        k += 1;
+    }
+    true
 }
 
 // At most `budget` steps from a record; what a field keeps from step to step is lent.

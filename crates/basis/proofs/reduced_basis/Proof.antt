@@ -1,20 +1,25 @@
 -- `basis::reduced_basis` meets its contract: the lemmas of Based.
-use Rattle.basis.proofs.Based.{based-lu, based-clear, based-scales, based-u, place-m, place-n, place-u, based}
+use Prim.Native.Nat.{ℕ, _≤_}
+use native.Mathlib.Omega.{arith}
+use Rattle.basis.proofs.Based.{based-d, based-x, based-y, double-x, double-y, based-lu, based-clear, based-scales, based-u, based-fill, based}
 use borrow.Author.Needs.{needs}
 use Rattle.basis.proofs.reduced_basis.Statement.{statement}
 use Rattle.basis.proofs.reduced_basis.Tie as tie
 
-size-requires : tie.Need-size-requires
-size-requires c κs = search needs
+rapid-of-requires : tie.Need-rapid-of-requires
+rapid-of-requires c κs = c .pre .clear .room .fine .modulus
+
+size-from-requires : tie.Need-size-from-requires
+size-from-requires c κs = based-d (c .before .pre)
 
 reduced-requires : tie.Need-reduced-requires
-reduced-requires c κs = based-clear (c .before .pre) (c .size .ensures)
+reduced-requires c κs = based-clear (c .before .before .pre) (c .size-from .ensures)
 
 lead-of-requires : tie.Need-lead-of-requires
 lead-of-requires c κs = search needs
 
 sub-factors-of : tie.Need-sub-factors-of
-sub-factors-of c = based-lu (c .before .before .before .before .before .before .before .before .before .before .before .pre) (c .before .before .before .before .before .before .before .before .before .before .size .ensures)
+sub-factors-of c = based-lu (c .before .before .before .before .before .before .before .before .before .before .before .before .pre) (c .before .before .before .before .before .before .before .before .before .before .size-from .ensures)
 
 mul-factors-of : tie.Need-mul-factors-of
 mul-factors-of c = search needs
@@ -32,28 +37,47 @@ array-read-factors-of : tie.Need-array-read-factors-of
 array-read-factors-of c = search needs
 
 factors-of-requires : tie.Need-factors-of-requires
-factors-of-requires c κs = based-scales (c .before .before .before .before .before .before .before .before .before .before .before .before .pre) (c .before .before .before .before .before .before .before .before .before .before .before .size .ensures) (c .before .before .before .before .before .before .before .before .before .before .reduced .ensures) (c .before .lead-of .ensures)
+factors-of-requires c κs = based-scales (c .before .before .before .before .before .before .before .before .before .before .before .before .before .pre) (c .before .before .before .before .before .before .before .before .before .before .before .size-from .ensures) (c .before .before .before .before .before .before .before .before .before .before .reduced .ensures) (c .before .lead-of .ensures)
 
-scale-requires : tie.Need-scale-requires
-scale-requires c κs = based-u (c .before .before .before .before .before .before .before .before .before .before .before .before .before .pre) (c .before .before .before .before .before .before .before .before .before .before .before .before .size .ensures) (search needs)
+scale-in-requires : tie.Need-scale-in-requires
+scale-in-requires c κs = based-u (c .before .before .before .before .before .before .before .before .before .before .before .before .before .before .before .before .before .before .before .before .before .before .pre) (c .before .before .before .before .before .before .before .before .before .before .before .before .before .before .before .before .before .before .before .before .size-from .ensures) (c .before .before .before .before .before .before .before .before .before .before .before .before .before .before .before .before .before .before .before .before .before .rapid-of .ensures) (search needs)
 
-placed-requires : tie.Need-placed-requires
-placed-requires c κs = place-m (c .before .before .before .before .before .before .before .before .before .before .before .before .before .before .before .before .before .before .pre) (c .before .before .before .before .before .before .before .before .before .before .before .before .before .before .before .before .before .size .ensures) (c .before .before .before .before .before .before .before .before .before .before .before .before .before .before .before .before .reduced .ensures) (c .before .before .before .before .before .before .before .lead-of .ensures) (c .before .before .before .before .before .factors-of .ensures) (c .before .before .before .before .scale .ensures) (search needs)
+add-size-from : tie.Need-add-size-from
+add-size-from c =
+    let t : c .before .before .before .before .before .before .before .before .before .before .before .before .before .before .before .before .before .before .args .f .top ≤ 17 = c .before .before .before .before .before .before .before .before .before .before .before .before .before .before .before .before .before .before .pre .fits in
+    let r : c .before .before .before .before .before .before .before .before .before .before .before .before .before .before .before .before .before .before .args .f .dr ≤ c .before .before .before .before .before .before .before .before .before .before .before .before .before .before .before .before .before .before .args .f .top = c .before .before .before .before .before .before .before .before .before .before .before .before .before .before .before .before .before .before .pre .clear .room .low-r in
+    record { fits = omega arith }
 
-placed-requires-2 : tie.Need-placed-requires-2
-placed-requires-2 c κs = place-n (c .before .before .before .before .before .before .before .before .before .before .before .before .before .before .before .before .before .before .before .before .before .before .before .pre) (c .before .before .before .before .before .before .before .before .before .before .before .before .before .before .before .before .before .before .before .before .before .before .size .ensures) (c .before .before .before .before .before .before .before .before .before .before .before .before .before .before .before .before .before .before .before .before .before .reduced .ensures) (c .before .before .before .before .before .before .before .before .before .before .before .before .lead-of .ensures) (c .before .before .before .before .before .before .before .before .before .before .factors-of .ensures) (c .before .before .before .before .before .before .before .before .before .scale .ensures) (search needs)
+size-from-requires-2 : tie.Need-size-from-requires-2
+size-from-requires-2 c κs = based-x (c .before .before .before .before .before .before .before .before .before .before .before .before .before .before .before .before .before .before .pre)
 
-stored-requires : tie.Need-stored-requires
-stored-requires c κs = place-u (c .before .before .before .before .before .before .before .before .before .before .before .before .before .before .before .before .before .before .before .before .before .before .before .before .before .pre) (c .before .before .before .before .before .before .before .before .before .before .before .before .before .before .before .before .before .before .before .before .before .before .before .before .size .ensures) (c .before .before .before .before .before .before .before .before .before .before .before .before .before .before .before .before .before .before .before .before .before .before .before .reduced .ensures) (c .before .before .before .before .before .before .before .before .before .before .before .before .before .before .lead-of .ensures) (c .before .before .before .before .before .before .before .before .before .before .before .before .factors-of .ensures) (c .before .before .before .before .before .before .before .before .before .before .before .scale .ensures)
+add-size-from-2 : tie.Need-add-size-from-2
+add-size-from-2 c =
+    let t : c .before .before .before .before .before .before .before .before .before .before .before .before .before .before .before .before .before .before .before .before .args .f .top ≤ 17 = c .before .before .before .before .before .before .before .before .before .before .before .before .before .before .before .before .before .before .before .before .pre .fits in
+    let r : c .before .before .before .before .before .before .before .before .before .before .before .before .before .before .before .before .before .before .before .before .args .f .dw ≤ c .before .before .before .before .before .before .before .before .before .before .before .before .before .before .before .before .before .before .before .before .args .f .top = c .before .before .before .before .before .before .before .before .before .before .before .before .before .before .before .before .before .before .before .before .pre .clear .room .low-w in
+    record { fits = omega arith }
+
+size-from-requires-3 : tie.Need-size-from-requires-3
+size-from-requires-3 c κs = based-y (c .before .before .before .before .before .before .before .before .before .before .before .before .before .before .before .before .before .before .before .before .pre)
+
+scale-in-requires-2 : tie.Need-scale-in-requires-2
+scale-in-requires-2 c κs = double-x (c .before .before .before .before .before .before .before .before .before .before .before .before .before .before .before .before .before .before .before .before .before .before .before .before .pre) (c .before .before .before .before .before .before .before .before .before .before .before .before .before .before .before .before .before .before .before .before .before .before .before .rapid-of .ensures) (c .before .before .before .before .before .size-from2 .ensures)
+
+scale-in-requires-3 : tie.Need-scale-in-requires-3
+scale-in-requires-3 c κs = double-y (c .before .before .before .before .before .before .before .before .before .before .before .before .before .before .before .before .before .before .before .before .before .before .before .before .before .before .pre) (c .before .before .before .before .before .before .before .before .before .before .before .before .before .before .before .before .before .before .before .before .before .before .before .before .before .rapid-of .ensures) (c .before .before .before .before .before .size-from3 .ensures)
+
+filled-requires : tie.Need-filled-requires
+filled-requires c κs = based-fill (c .before .before .before .before .before .before .before .before .before .before .before .before .before .before .before .before .before .before .before .before .before .before .before .before .before .before .before .before .before .before .before .before .before .before .before .before .pre) (c .before .before .before .before .before .before .before .before .before .before .before .before .before .before .before .before .before .before .before .before .before .before .before .before .before .before .before .before .before .before .before .before .before .before .size-from .ensures) (c .before .before .before .before .before .before .before .before .before .before .before .before .before .before .before .before .before .before .before .before .before .before .before .before .before .before .before .before .before .before .before .before .before .reduced .ensures) (c .before .before .before .before .before .before .before .before .before .before .before .before .before .before .before .before .before .before .before .before .before .before .before .before .lead-of .ensures) (c .before .before .before .before .before .before .before .before .before .before .before .before .before .before .before .before .before .before .before .before .before .before .factors-of .ensures) (c .before .before .before .before .before .before .before .before .before .before .before .before .before .scale-in .ensures) (c .before .before .before .before .before .before .before .before .before .before .before .before .before .before .before .before .before .before .before .before .before .before .before .before .before .before .before .before .before .before .before .before .before .before .before .rapid-of .ensures) (c .before .before .before .before .before .before .before .before .before .before .before .before .before .before .before .before .before .size-from2 .ensures) (c .before .before .before .before .before .before .before .before .before .before .before .before .before .before .before .size-from3 .ensures) (c .before .before .before .before .before .before .before .before .before .before .before .scale-in2 .ensures) (c .before .before .before .before .before .before .before .before .before .scale-in3 .ensures)
 
 returns : tie.Need-returns
-returns c = based (c .before .before .before .before .before .before .before .before .before .before .before .before .before .before .before .before .before .before .before .before .before .before .before .before .before .before .pre) (c .before .before .before .before .before .before .before .before .before .before .before .before .before .before .before .before .before .before .before .before .before .before .before .before .before .size .ensures) (c .before .before .before .before .before .before .before .before .before .before .before .before .before .before .before .before .before .before .before .before .before .before .before .before .reduced .ensures) (c .before .before .before .before .before .before .before .before .before .before .before .before .before .before .before .lead-of .ensures) (c .before .before .before .before .before .before .before .before .before .before .before .before .before .factors-of .ensures) (c .before .before .before .before .before .before .before .before .before .before .before .before .scale .ensures) (c .before .before .before .before .before .before .before .placed .ensures) (c .before .before .placed2 .ensures) (c .stored .ensures)
+returns c = based (c .before .before .before .before .before .before .before .before .before .before .before .before .before .before .before .before .before .before .before .before .before .before .before .before .before .before .before .before .before .before .before .before .before .before .before .before .before .pre) (c .before .before .before .before .before .before .before .before .before .before .before .before .before .before .before .before .before .before .before .before .before .before .before .before .before .before .before .before .before .before .before .before .before .before .before .size-from .ensures) (c .before .before .before .before .before .before .before .before .before .before .before .before .before .before .before .before .before .before .before .before .before .before .before .before .before .before .before .before .before .before .before .before .before .before .reduced .ensures) (c .before .before .before .before .before .before .before .before .before .before .before .before .before .before .before .before .before .before .before .before .before .before .before .before .before .lead-of .ensures) (c .before .before .before .before .before .before .before .before .before .before .before .before .before .before .before .before .before .before .before .before .before .before .before .factors-of .ensures) (c .before .before .before .before .before .before .before .before .before .before .before .before .before .before .scale-in .ensures) (c .before .before .before .before .before .before .before .before .before .before .before .before .before .before .before .before .before .before .before .before .before .before .before .before .before .before .before .before .before .before .before .before .before .before .before .before .rapid-of .ensures) (c .before .before .before .before .before .before .before .before .before .before .before .before .before .before .before .before .before .before .size-from2 .ensures) (c .before .before .before .before .before .before .before .before .before .before .before .before .before .before .before .before .size-from3 .ensures) (c .before .before .before .before .before .before .before .before .before .before .before .before .scale-in2 .ensures) (c .before .before .before .before .before .before .before .before .before .before .scale-in3 .ensures) (c .filled .ensures)
 
 pub reduced-basis-spec : {M : Type 1} → statement M
 reduced-basis-spec =
     tie.close
     (tie.spec
-    size-requires
+    rapid-of-requires
+    size-from-requires
     reduced-requires
     lead-of-requires
     sub-factors-of
@@ -63,8 +87,12 @@ reduced-basis-spec =
     mul-factors-of-2
     array-read-factors-of
     factors-of-requires
-    scale-requires
-    placed-requires
-    placed-requires-2
-    stored-requires
+    add-size-from
+    size-from-requires-2
+    add-size-from-2
+    size-from-requires-3
+    scale-in-requires
+    scale-in-requires-2
+    scale-in-requires-3
+    filled-requires
     returns)

@@ -1,4 +1,4 @@
--- `long::mix` meets its contract: the list is filled with the remainders of the sums.
+-- `long::mix` meets its contract: the list is filled with the remainders of the sums, which need no more than the sizes of g and h.
 use Prim.Native.Nat.{ℕ, zero, suc, _≤_, _<_, _-_, _*_, _+_, _%_}
 use mathlib.Core.Path.{_≡_, _∙_, sym, ap, ap₂, refl, subst}
 use mathlib.Core.List.{List, [], _∷_, _++_}
@@ -8,6 +8,7 @@ use lib.ListN.{length, length-set, getD, set, replicate, take, drop}
 use native.Mathlib.Nat.{mod-lt}
 use Rattle.reading.specs.Sum.{sumTo, termAt}
 use Rattle.reading.proofs.Tab.{Filled, filled-start, filled-more}
+use Rattle.long.proofs.Sums.{trimmed}
 use Rattle.long.proofs.Low.{mixed}
 use borrow.Author.Needs.{needs}
 use Rattle.long.proofs.mix.Statement.{statement}
@@ -17,10 +18,16 @@ use Rattle.long.proofs.mix.Lts as lts
 use Rattle.long.proofs.sum_at.Reads as sum-at-reads
 
 abbrev Inv-loop : tie.InvT-loop
-Inv-loop p g x h y d₀ k₀ d k = Filled (length d₀) (λ i. (sumTo (termAt g x i) (length g) + sumTo (termAt h y i) (length h)) % p) d k
+Inv-loop p g x h y d₀ m n k₀ d k = Filled (length d₀) (λ i. (sumTo (termAt g x i) (length g) + sumTo (termAt h y i) (length h)) % p) d k
 
 abbrev μ-loop : tie.MeasureT-loop
-μ-loop p g x h y d₀ k₀ d k = length d₀ - k
+μ-loop p g x h y d₀ m n k₀ d k = length d₀ - k
+
+size-requires : tie.Need-size-requires Inv-loop μ-loop
+size-requires c κs = search needs
+
+size-requires-2 : tie.Need-size-requires-2 Inv-loop μ-loop
+size-requires-2 c κs = search needs
 
 loop-holds : tie.Need-loop-holds Inv-loop μ-loop
 loop-holds c = filled-start _ _ _ refl
@@ -38,7 +45,7 @@ rem-d : tie.Need-rem-d Inv-loop μ-loop
 rem-d c = search needs
 
 cast-d : tie.Need-cast-d Inv-loop μ-loop
-cast-d c = let s = c .before .before .before .before .before .before .before .before .before in
+cast-d c = let s = c .before .before .before .before .before .before .before .before .before .before .before in
     let pos : 0 < s .args .p = omega (arith, s .pre .modulus .big) in
     omega (arith, s .pre .modulus .small, mod-lt (c .before .sum-at .result + c .sum-at2 .result) pos)
 
@@ -55,16 +62,17 @@ loop-less : tie.Need-loop-less Inv-loop μ-loop
 loop-less c = search needs
 
 loop-again : tie.Need-loop-again Inv-loop μ-loop
-loop-again c = let s = c .before .before .before .before .before .before .before .before .before in
+loop-again c = let s = c .before .before .before .before .before .before .before .before .before .before .before in
     let l = c .before .before .before .loop in
     filled-more (length (s .args .d .now)) (λ i. (sumTo (termAt (s .args .g .now) (s .args .x .now) i) (length (s .args .g .now)) + sumTo (termAt (s .args .h .now) (s .args .y .now) i) (length (s .args .h .now))) % s .args .p)
-    (l .d) (l .k) _ (l .inv) (omega (arith, l .inv .size)) (ap₂ (λ v w. (v + w) % s .args .p) (c .before .sum-at .ensures .value) (c .sum-at2 .ensures .value))
+    (l .d) (l .k) _ (l .inv) (omega (arith, l .inv .size)) (ap₂ (λ v w. (v + w) % s .args .p)
+    (c .before .sum-at .ensures .value ∙ trimmed _ _ _ _ (c .before .before .before .before .before .size .ensures)) (c .sum-at2 .ensures .value ∙ trimmed _ _ _ _ (c .before .before .before .before .size2 .ensures)))
 
 same-length : tie.Need-same-length Inv-loop μ-loop
 same-length c = c .before .loop .inv .size
 
 returns : tie.Need-returns Inv-loop μ-loop
-returns c = mixed _ _ _ _ _ _ _ _ (c .before .before .before .before .before .before .before .pre) (c .before .loop .inv) (omega (arith, c .before .loop .inv .size))
+returns c = mixed _ _ _ _ _ _ _ _ (c .before .before .before .before .before .before .before .before .before .pre) (c .before .loop .inv) (omega (arith, c .before .loop .inv .size))
 
 pub mix-spec : {M : Type 1} → statement M
 mix-spec =
@@ -72,6 +80,8 @@ mix-spec =
     (tie.spec
     Inv-loop
     μ-loop
+    size-requires
+    size-requires-2
     loop-holds
     sum-at-requires
     sum-at-requires-2

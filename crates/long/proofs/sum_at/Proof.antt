@@ -77,7 +77,7 @@ mul-s-3 c = omega (arith, small c)
 add-s : tie.Need-add-s Inv-loop μ-loop
 add-s c = let l = c .before .before .before .before .loop in
     let s = c .before .before .before .before .before .before .before in
-    let n : s .args .n ≤ 4096 = s .pre .most in
+    let n : s .args .n ≤ 65536 = s .pre .most in
     let t : c .before .before .before .before .before .if2 .to ≤ s .args .n = l .inv .last in
     let h : l .i - c .before .before .before .before .before .before .if1 .from ≤ c .before .before .before .before .before .if2 .to - c .before .before .before .before .before .before .if1 .from = l .inv .hi in
     let m : l .s ≤ (l .i - c .before .before .before .before .before .before .if1 .from) * 4294836225 = l .inv .small in

@@ -114,7 +114,7 @@ slice-aggregate-mix-3 : tie.Need-slice-aggregate-mix-3
 slice-aggregate-mix-3 c = search needs
 
 mix-requires-2 : tie.Need-mix-requires-2
-mix-requires-2 c κs = let s = c .before .before .before .before .before .before .before .before .before .before .before .before .before in record { modulus = s .pre .modulus; g-most = s .pre .gh-most; h-most = norm-first (s .args .p) (s .args .c) (s .args .gh .now) (s .args .rows .now) (s .pre); d-most = omega arith }
+mix-requires-2 c κs = let s = c .before .before .before .before .before .before .before .before .before .before .before .before .before in record { modulus = s .pre .modulus; g-most = omega (arith, s .pre .gh-most); h-most = norm-first (s .args .p) (s .args .c) (s .args .gh .now) (s .args .rows .now) (s .pre); d-most = omega arith }
 
 array-read-wide : tie.Need-array-read-wide
 array-read-wide c = search needs

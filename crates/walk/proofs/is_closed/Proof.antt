@@ -1,32 +1,66 @@
--- `is_closed` meets its contract: the row U, loaded, has length 1 and begins with 1, or not.
-use mathlib.Core.Path.{_≡_, sym, _∙_}
-use borrow.Author.Needs.{needs}
+-- `is_closed` meets its contract: U begins with 1, and its other numbers are read until one is not 0.
+use mathlib.Core.Path.{_≡_, ap, _∙_}
+use Prim.Native.Nat.{ℕ, _+_, _-_, _≤_, _<_}
 use native.Mathlib.Omega.{arith}
-use Rattle.walk.proofs.One.{part-one, part-other}
+use native.Mathlib.Decide.{ℕ-discrete}
+use lib.ListN.{getD}
+use Rattle.walk.proofs.One.{part-one, first-other, later-other}
 use Rattle.walk.proofs.is_closed.Statement.{statement}
 use Rattle.walk.proofs.is_closed.Tie as tie
 
-load-requires : tie.Need-load-requires
-load-requires c κs = search needs
+abbrev Inv-loop : tie.InvT-loop
+Inv-loop p b k₀ k = (103 ≤ k) × (k ≤ 119) × (getD b 102 0 ≡ 1) × ((j : ℕ) → 103 ≤ j → j < k → getD b j 0 ≡ 0)
 
-size-requires : tie.Need-size-requires
-size-requires c κs = search needs
+abbrev μ-loop : tie.MeasureT-loop
+μ-loop p b k₀ k = 119 - k
 
-array-read-if2 : tie.Need-array-read-if2
-array-read-if2 c = search needs
+element-copy-out-if1 : tie.Need-element-copy-out-if1 Inv-loop μ-loop
+element-copy-out-if1 c = omega arith
 
-returns : tie.Need-returns
-returns c =
-    part-one (c .before .before .before .before .before .args .p) _ _ _ (c .before .before .before .before .load .ensures) (c .before .before .size .ensures) (c .before .if1 .taken) (c .if2 .taken)
+returns : tie.Need-returns Inv-loop μ-loop
+returns c = first-other _ _ (c .before .before .pre) (c .if1 .taken)
 
-returns-2 : tie.Need-returns-2
-returns-2 c =
-    part-other (c .before .before .before .before .before .args .p) _ _ _ (c .before .before .before .before .load .ensures) (c .before .before .size .ensures) (c .before .before .before .before .before .pre) (λ h. c .if2 .left (h .1))
+loop-holds : tie.Need-loop-holds Inv-loop μ-loop
+loop-holds c = (omega arith, omega arith, c .if1 .left, λ j l u. absurd (omega arith))
 
-returns-3 : tie.Need-returns-3
-returns-3 c =
-    part-other (c .before .before .before .before .args .p) _ _ _ (c .before .before .before .load .ensures) (c .before .size .ensures) (c .before .before .before .before .pre) (λ h. c .if1 .left (h .0))
+mul-if2 : tie.Need-mul-if2 Inv-loop μ-loop
+mul-if2 c = record { fits = omega arith }
+
+element-copy-out-if2 : tie.Need-element-copy-out-if2 Inv-loop μ-loop
+element-copy-out-if2 c = omega arith
+
+returns-2 : tie.Need-returns-2 Inv-loop μ-loop
+returns-2 c = later-other _ _ (c .before .before .before .before .before .before .pre) (c .before .before .before .loop .k) (c .before .before .before .loop .inv .0) (omega arith) (c .if2 .taken)
+
+add-k : tie.Need-add-k Inv-loop μ-loop
+add-k c = record { fits = omega arith }
+
+loop-less : tie.Need-loop-less Inv-loop μ-loop
+loop-less c = omega arith
+
+loop-again : tie.Need-loop-again Inv-loop μ-loop
+loop-again c =
+    let l = c .before .before .before .loop in
+    let b = c .before .before .before .before .before .before .args .b .now in
+    let at : (j : ℕ) → 103 ≤ j → j < l .k + 1 → Dec (j ≡ l .k) → getD b j 0 ≡ 0 = (λ j h u d. elim d [ yes e ↦ ap (λ k. getD b k 0) e ∙ c .if2 .left | no f ↦ l .inv .3 j h (omega arith) ]) in
+    (omega arith, omega arith, l .inv .2, λ j h u. at j h u (ℕ-discrete j (l .k)))
+
+returns-3 : tie.Need-returns-3 Inv-loop μ-loop
+returns-3 c = part-one _ (c .before .before .before .before .args .b .now) (c .before .loop .inv .2) (λ j h u. c .before .loop .inv .3 j h (omega arith))
 
 pub is-closed-spec : {M : Type 1} → statement M
 is-closed-spec =
-    tie.close (tie.spec load-requires size-requires array-read-if2 returns returns-2 returns-3)
+    tie.close
+    (tie.spec
+    Inv-loop
+    μ-loop
+    element-copy-out-if1
+    returns
+    loop-holds
+    mul-if2
+    element-copy-out-if2
+    returns-2
+    add-k
+    loop-less
+    loop-again
+    returns-3)
