@@ -35,7 +35,7 @@ pub det-one : {p : ℕ} (pr : Prime p) {x y z v r s : List ℕ} → Det p x y z 
 det-one {p} pr h k = by-row (reading p pr) (h .is-row) (k .is-row) (h .law pr) (k .law pr)
 
 -- ---- what is cut from the four coordinates is settled up to a constant
-record Cuts (S : Setting) (B B′ : Basis S) (m n : ℕ) : Type 0 where
+record Same (S : Setting) (B B′ : Basis S) (m n : ℕ) : Type 0 where
   same : m ≡ n
   v : P S
   unit : IsUnit (S .𝓥) v
@@ -115,7 +115,7 @@ module _ (S : Setting) (B : Basis S) (i : Ideal S B) (k l : Parts S B) (c : Cut 
       ∷ hyp (minus (var 8 :* (var 4 :* var 5 :+ minus (var 6 :* var 7)))) (var 10) (var 9 :* var 8) ∷ []) tt
       (c .a2 ∷ c .b0 ∷ c .a0 ∷ c .b2 ∷ d .a2 ∷ d .b0 ∷ d .a0 ∷ d .b2 ∷ v ∷ c .g ∷ d .g ∷ []) (A2, (B0, (A0, (B2, (up .1, tt)))))
 
-  cuts : Cuts S (base S B k c) (base S B l d) m n
+  cuts : Same S (base S B k c) (base S B l d) m n
   cuts = record { same = cut-same; v = v; unit = v-unit; mb = minus-by (c .b2) (d .b2) B2; mc = A2; nb = B0; nc = minus-by (c .a0) (d .a0) A0; u = U-by }
 
 carried : (R : CRing) (v : R .El) {z z′ y y′ : R .El} → z ≡ y → z′ ≡ y′ → y ≡ R .ops .mul v y′ → z ≡ R .ops .mul v z′
