@@ -1,5 +1,5 @@
 -- Determinants, coordinates and the common factor: from what the calls hand out to the contracts.
-use mathlib.Core.Path.{_≡_, refl, sym, ap, ap₂, _∙_, subst}
+use mathlib.Core.Path.{_≡_, sym, ap, ap₂, _∙_, subst}
 use mathlib.Core.Logic.{_≢_}
 use mathlib.Core.Bool.{true}
 use mathlib.Core.List.{List, [], _∷_}
@@ -12,7 +12,7 @@ use Rattle.ring.specs.Ring.{Ops, CRing}
 use Rattle.ring.proofs.Solve.{var, hyp, one, minus, _:+_, _:*_, solve, solve-by}
 use Rattle.fp.specs.Fp.{Prime}
 use Rattle.valued.specs.Val.{Valued}
-use Rattle.valued.specs.Degree.{Has, Lt}
+use Rattle.valued.specs.Degree.{Has}
 use Rattle.valued.specs.Polynomial.{polys, Poly, Divides, IsUnit}
 use Rattle.valued.specs.Gcd.{IsGcd}
 use Rattle.valued.proofs.Degree as d
@@ -26,17 +26,15 @@ use Rattle.reading.specs.Made.{reading}
 use Rattle.reading.specs.Row.{Row, Size, row}
 use Rattle.reading.proofs.Rows.{size-le, size-has}
 use Rattle.reading.proofs.Floors.{zero-row}
-use Rattle.poly.specs.Leaf.{MulIn, Product, Summed, Difference}
+use Rattle.poly.specs.Leaf.{MulIn, Product, Difference}
 use Rattle.poly.specs.Division.{DivIn, Exact}
 use Rattle.poly.specs.Factors.{polynomial, Common}
 use Rattle.poly.specs.Terms.{Ready}
-use Rattle.sized.specs.Sized.{Mixed, TimesBy, DetOut}
-use Rattle.generators.specs.Known.{three}
+use Rattle.sized.specs.Sized.{BothOut, TimesBy, DetOut}
 use Rattle.poly.proofs.Leaf.{size-one}
-use Rattle.generators.specs.Rows.{Seven, AreRows}
-use Rattle.generators.specs.Quotients.{Fits, Inverts, DetIn, Det, Quotients, CoordsIn, Coordinates, FourRows, Content, fourDet, CutIn, Without, CutOff}
-use Rattle.generators.specs.declared.Three.{Three}
-use Rattle.generators.specs.declared.Four.{Four}
+use Rattle.generators.specs.Rows.{Seven}
+use Rattle.generators.specs.Quotients.{three, Det, Quotients, CoordsIn, Coordinates}
+use Rattle.generators.specs.Common.{Content, Four, fourDet, CutIn, CutOff}
 
 -- ---- determinants
 pub det-of : (p : ℕ) (x y z v a b r : List ℕ) → Product p x y a → Product p z v b → Difference p a b r → Det p x y z v r
@@ -83,27 +81,8 @@ module _ {p : ℕ} {va vb vc : List ℕ} {b : Seven} {e : List ℕ} {ie : ℕ} (
         omega arith;
   }
 
-  pub coords-are : (x y z h : List ℕ) (o : Three) → Product p β (b .m0) x → Product p γ (b .n0) y → Summed p x y z → Difference p va z h → Exact p h (b .u) (o .a)
-      → o .b ≡ β → o .c ≡ γ → Coordinates p va vb vc b e o
-  coords-are x y z h o hx hy hz hh ha eb ec = record {
-    ha = ha .is-row;
-    hb = subst (Row p) (sym eb) (hβ .is-row);
-    hc = subst (Row p) (sym ec) (hγ .is-row);
-    law = λ pr α′ β′ γ′ q. (
-      ha .law pr α′ (q .α-poly) (sym (q .U-α) ∙ ap (λ s. let o = reading p pr .𝓥 .L .ops in o .add (row (reading p pr) va) (o .neg s)) (sym (below pr q)) ∙ sym (hh .law pr)),
-      ap (row (reading p pr)) eb ∙ β-is pr q,
-      ap (row (reading p pr)) ec ∙ γ-is pr q,
-    );
-  }
-    where
-      below : (pr : Prime p) {α′ β′ γ′ : reading p pr .𝓥 .L .El} → Quotients pr va vb vc b e α′ β′ γ′
-          → row (reading p pr) z ≡ (let o = reading p pr .𝓥 .L .ops in o .add (o .mul β′ (row (reading p pr) (b .m0))) (o .mul γ′ (row (reading p pr) (b .n0))))
-      below pr q = let o = reading p pr .𝓥 .L .ops in
-          hz .law pr ∙ ap₂ (λ s t. o .add s t) (hx .law pr ∙ ap (λ s. o .mul s (row (reading p pr) (b .m0))) (β-is pr q)) (hy .law pr ∙ ap (λ s. o .mul s (row (reading p pr) (b .n0))) (γ-is pr q))
-
-  -- the same, where the two products are taken off one after the other
-  pub coords-made : {h k α : List ℕ} {nβ nm nγ nn : ℕ} → Mixed p true β nβ (b .m0) nm va h → Mixed p true γ nγ (b .n0) nn h k → Exact p k (b .u) α → Coordinates p va vb vc b e (three α β γ)
-  coords-made {h} {k} {α} g₁ g₂ ha = record {
+  pub coords-made : {h α : List ℕ} {n : ℕ} → BothOut p true β (b .m0) true γ (b .n0) va h n → Exact p h (b .u) α → Coordinates p va vb vc b e (three α β γ)
+  coords-made {h} {α} g ha = record {
     ha = ha .is-row;
     hb = hβ .is-row;
     hc = hγ .is-row;
@@ -111,10 +90,10 @@ module _ {p : ℕ} {va vb vc : List ℕ} {b : Seven} {e : List ℕ} {ie : ℕ} (
   }
     where
       off : (pr : Prime p) {α′ β′ γ′ : reading p pr .𝓥 .L .El} → Quotients pr va vb vc b e α′ β′ γ′
-          → row (reading p pr) k ≡ (let o = reading p pr .𝓥 .L .ops in o .add (row (reading p pr) va) (o .neg (o .add (o .mul β′ (row (reading p pr) (b .m0))) (o .mul γ′ (row (reading p pr) (b .n0))))))
+          → row (reading p pr) h ≡ (let o = reading p pr .𝓥 .L .ops in o .add (row (reading p pr) va) (o .neg (o .add (o .mul β′ (row (reading p pr) (b .m0))) (o .mul γ′ (row (reading p pr) (b .n0))))))
       off pr {α′} {β′} {γ′} q = let L = reading p pr .𝓥 .L in let o = L .ops in let R = row (reading p pr) in
-          g₂ .law pr
-          ∙ ap₂ (λ s t. o .add s (o .neg (o .mul t (R (b .n0))))) (g₁ .law pr ∙ ap (λ s. o .add (R va) (o .neg (o .mul s (R (b .m0))))) (β-is pr q)) (γ-is pr q)
+          g .law pr
+          ∙ ap₂ (λ s t. o .add (o .add (R va) (o .neg (o .mul s (R (b .m0))))) (o .neg (o .mul t (R (b .n0))))) (β-is pr q) (γ-is pr q)
           ∙ solve L (var 0 :+ minus (var 1 :* var 2) :+ minus (var 3 :* var 4)) (var 0 :+ minus (var 1 :* var 2 :+ var 3 :* var 4)) tt (R va ∷ β′ ∷ R (b .m0) ∷ γ′ ∷ R (b .n0) ∷ [])
 
 -- ---- the common factor

@@ -1,5 +1,5 @@
 pub mod Coordinates
 pub mod Leaves
-pub mod Pairing
+pub mod Negated
 pub mod Products
 pub mod Generate

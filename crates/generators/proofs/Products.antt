@@ -1,21 +1,18 @@
 -- From a good basis to the generators of the next ideal: sizes of all products on the way, the exact quotients, and `AreGenerators`.
-use mathlib.Core.Path.{_≡_, refl, sym, ap, ap₂, _∙_, subst}
+use mathlib.Core.Path.{_≡_, refl, sym, ap, ap₂, _∙_}
 use mathlib.Core.Logic.{_≢_}
 use mathlib.Core.List.{List, [], _∷_}
 use Prim.Native.Nat.{ℕ, zero, suc, _+_, _*_, _-_, _%_, _<_, _≤_}
-use native.Mathlib.Nat.{mod-lt, mod-eq-of-lt}
+use native.Mathlib.Nat.{mod-lt}
 use native.Mathlib.Omega.{arith}
-use lib.ListN.{length, getD}
-use Rattle.ring.proofs.Laws as rg
+use lib.ListN.{getD}
 use Rattle.ring.specs.Ring.{Ops, CRing}
-use Rattle.ring.proofs.Solve.{var, hyp, one as one₁, minus, _:+_, _:*_, solve-by}
+use Rattle.ring.proofs.Solve.{var, hyp, one as one₁, minus, _:*_, solve-by}
 use Rattle.fp.specs.Fp.{Prime}
 use Rattle.valued.specs.Val.{Valued}
 use Rattle.valued.specs.Degree.{Has, Lt, Leads}
-use Rattle.valued.specs.Polynomial.{polys, Poly, Divides, IsUnit}
 use Rattle.valued.proofs.Degree as d
-use Rattle.valued.proofs.Compare.{lt-mul-sharp, leads-at, leads-unique}
-use Rattle.valued.proofs.Divide.{p-cancel}
+use Rattle.valued.proofs.Compare.{leads-unique}
 use Rattle.valued.proofs.Polynomial.{P-path, not-zero}
 use Rattle.residue.specs.Residue.{Modulus}
 use Rattle.reading.specs.Reading.{Reading}
@@ -24,25 +21,19 @@ use Rattle.reading.specs.Row.{Row, Size, row}
 use Rattle.reading.proofs.Rows.{size-le, size-lead, size-top, size-has, cast-sub}
 use Rattle.reading.proofs.Floors.{sized, zero-row}
 use Rattle.reading.proofs.Unique.{cast-inj}
-use Rattle.poly.specs.Leaf.{MulIn, Product}
-use Rattle.ideals.specs.Setting.{Setting, dGH}
+use Rattle.poly.specs.Leaf.{Cut, MulIn, Product}
+use Rattle.ideals.specs.Setting.{dGH}
 use Rattle.ideals.specs.Element.{O}
-use Rattle.ideals.specs.Ideal.{Basis, det}
 use Rattle.ideals.specs.Basis.{Good}
 use Rattle.ideals.proofs.Values.{dr-dw, dr-eq, dr-pos, dw-pos}
 use Rattle.ideals.proofs.Check.{Coords}
 use Rattle.ideals.proofs.Tests.{times-r, times-w}
-use Rattle.ideals.proofs.Degrees.{Small, small, det-lead}
-use Rattle.chain.proofs.Parts.{Parts, parts, Cut, dd, base, base-d}
-use Rattle.chain.proofs.Room.{d-not-zero}
+use Rattle.ideals.proofs.Degrees.{small, det-lead}
 use Rattle.field.specs.Refusal.{Accepted}
 use Rattle.record.specs.Record.{setting, polyOf}
-use Rattle.generators.specs.Rows.{Seven, AreRows, rowsOf, Holds}
-use Rattle.generators.specs.Quotients.{Fits, Inverts, DetIn, Det, Quotients, CoordsIn, Coordinates, CutIn, Without, PairsIn, Pairing, Paired}
-use Rattle.generators.specs.Generated.{GeneratorsIn, Generated, AreGenerators}
-use Rattle.generators.specs.declared.Three.{Three}
-use Rattle.generators.specs.declared.Generators.{Generators}
-use Rattle.generators.proofs.Coordinates.{Narrow, r-narrow, w-narrow}
+use Rattle.generators.specs.Rows.{Seven, rowsOf, Holds}
+use Rattle.generators.specs.Quotients.{Fits, Inverts, DetIn, Det, Quotients}
+use Rattle.generators.specs.Generated.{GeneratorsIn}
 
 -- a number whose class is 1
 pub one-mod : {p : ℕ} (ρ : Reading p) (a : ℕ) → 1 < p → ρ .cast a ≡ ρ .𝓥 .K .ops .𝟏 → a % p ≡ 1
@@ -102,7 +93,7 @@ module _ {p : ℕ} {G H : List ℕ} (σ : Accepted p G H) (b : Seven) where
       }
 
 -- ---- the products that `divided` makes
-module _ {p : ℕ} {g h gh : List ℕ} {ie : ℕ} {b : Seven} (i : GeneratorsIn p g h gh ie b) where
+module _ {p cap : ℕ} {g h gh : List ℕ} {ie : ℕ} {b : Seven} (i : GeneratorsIn p cap g h gh ie b) where
   abbrev ρ : Reading p
   ρ = reading p (i .σ .prime)
 
@@ -154,6 +145,37 @@ module _ {p : ℕ} {g h gh : List ℕ} {ie : ℕ} {b : Seven} (i : GeneratorsIn 
 
   pub m2-by : {y : List ℕ} → Factor y → MulIn p (b .m2) y
   m2-by f = room (suc (setting (i .σ) .dr)) (suc (i .σ .degG + i .σ .degH)) (i .rows .m2) (f .is-row) (z .m2) (f .low) (omega (arith, z .both, z .w-pos, z .all))
+
+  -- ---- every row ends before cap
+  ends : {x : List ℕ} (k : ℕ) → Row p x → Lt (ρ .𝓥) (row ρ x) k → k ≤ cap → Cut x cap
+  ends {x} k h l u = let (n, s) = sized x in let q : n ≤ k = size-le ρ k h s l in record { size = h .size; fits = i .fits; above = λ j w. s .above j (omega arith) }
+
+  pub factor-ends : {y : List ℕ} → Factor y → Cut y cap
+  factor-ends f = ends (suc (i .σ .degG + i .σ .degH)) (f .is-row) (f .low) (let q : i .σ .degG + i .σ .degH < cap = i .past in omega arith)
+
+  pub m0-ends : Cut (b .m0) cap
+  m0-ends = ends (suc (i .σ .degG + i .σ .degH)) (i .rows .m0) (z .m0) (let q : i .σ .degG + i .σ .degH < cap = i .past in omega arith)
+
+  pub m1-ends : Cut (b .m1) cap
+  m1-ends = ends (suc (setting (i .σ) .dw)) (i .rows .m1) (z .m1) (omega (arith, z .both, z .r-pos, i .past))
+
+  pub m2-ends : Cut (b .m2) cap
+  m2-ends = ends (suc (setting (i .σ) .dr)) (i .rows .m2) (z .m2) (omega (arith, z .both, z .w-pos, i .past))
+
+  pub n0-ends : Cut (b .n0) cap
+  n0-ends = ends (i .σ .degG + i .σ .degH) (i .rows .n0) (z .n0) (let q : i .σ .degG + i .σ .degH < cap = i .past in omega arith)
+
+  pub n1-ends : Cut (b .n1) cap
+  n1-ends = ends (setting (i .σ) .dw) (i .rows .n1) (z .n1) (omega (arith, z .both, z .r-pos, i .past))
+
+  pub n2-ends : Cut (b .n2) cap
+  n2-ends = ends (setting (i .σ) .dr) (i .rows .n2) (z .n2) (omega (arith, z .both, z .w-pos, i .past))
+
+  pub u-ends : Cut (b .u) cap
+  u-ends =
+      let s = small (setting (i .σ)) (rowsOf (i .σ) b) (i .good) in
+      let q : s .u < i .σ .degG + i .σ .degH = s .u<n in
+      ends (suc (s .u)) (i .rows .u) (d.has-up (ρ .𝓥) (suc (s .u)) (s .U-has) (omega arith)) (omega (arith, i .past))
 
   -- ---- division by e and by U
   pub by-e : {e : List ℕ} → Det p (b .m1) (b .n2) (b .m2) (b .n1) e → Inverts p e ie

@@ -1,25 +1,44 @@
 -- The generators of the next ideal: from the seven rows of a good basis, x1, y1, the pairs (−y2, x2)/g, (y0, −x0)/g and
 -- their denominator d/g.
---   GeneratorsIn     the rows hold the field of some G, H and a good basis of it; ie = −lead(GH) is the inverse of the leading coefficient of e
+--   Generators       seven rows: x1, y1, the two pairs, their denominator; and the degree of what was taken off
+--   GeneratorsIn     the rows hold the field of some G, H and a good basis of it; ie = −lead(GH) is the inverse of the leading coefficient of e;
+--                    cap is past the degree of G H, and so past every row
 --   Generated σ b o  o holds the parts of r m and w m and the pairs without their common factor (crate chain)
+--   divided          DividedIn, Divided: with seven zero rows to write into, and the lengths of x1, y1 and of the denominator
 use mathlib.Core.Path.{_≡_}
 use mathlib.Core.List.{List}
-use Prim.Native.Nat.{ℕ, _-_}
-use lib.ListN.{getD}
+use Prim.Native.Nat.{ℕ, _+_, _-_, _<_, _≤_}
+use lib.ListN.{getD, replicate}
 use Rattle.ring.specs.Ring.{Ops, CRing}
 use Rattle.valued.specs.Val.{Valued}
 use Rattle.valued.specs.Degree.{Has}
 use Rattle.reading.specs.Reading.{Reading}
 use Rattle.reading.specs.Made.{reading}
 use Rattle.reading.specs.Row.{Row, Size, row}
+use Rattle.poly.specs.Terms.{Ready}
 use Rattle.ideals.specs.Basis.{Good}
 use Rattle.chain.proofs.Parts.{Parts, Cut, x1, y1, base}
 use Rattle.field.specs.Refusal.{Accepted}
 use Rattle.record.specs.Record.{setting, polyOf}
 use Rattle.generators.specs.Rows.{Seven, AreRows, rowsOf, Holds}
-use Rattle.generators.specs.declared.Generators.{Generators}
+use Rattle.generators.specs.Quotients.{Three}
+use Rattle.generators.specs.Known.{Blank}
+use Rattle.generators.specs.declared.Cuts.{Cuts}
 
-pub record GeneratorsIn (p : ℕ) (g h gh : List ℕ) (ie : ℕ) (b : Seven) : Type 0 where
+pub record Generators : Type 0 where
+  pub x : List ℕ
+  pub y : List ℕ
+  pub mb : List ℕ
+  pub mc : List ℕ
+  pub nb : List ℕ
+  pub nc : List ℕ
+  pub u : List ℕ
+  pub cut : ℕ
+
+abbrev pub generators : List ℕ → List ℕ → List ℕ → List ℕ → List ℕ → List ℕ → List ℕ → ℕ → Generators
+generators x y mb mc nb nc u cut = record { x = x; y = y; mb = mb; mc = mc; nb = nb; nc = nc; u = u; cut = cut }
+
+pub record GeneratorsIn (p cap : ℕ) (g h gh : List ℕ) (ie : ℕ) (b : Seven) : Type 0 where
   pub hg : Row p g
   pub hh : Row p h
   pub hgh : Row p gh
@@ -30,6 +49,8 @@ pub record GeneratorsIn (p : ℕ) (g h gh : List ℕ) (ie : ℕ) (b : Seven) : T
   pub σ : Accepted p G H
   pub holds : Holds σ g h gh
   pub good : Good (setting σ) (rowsOf σ b)
+  pub past : σ .degG + σ .degH < cap
+  pub fits : cap ≤ 32
 
 module _ {p : ℕ} {G H : List ℕ} (σ : Accepted p G H) where
   pub record Generated (b : Seven) (o : Generators) : Type 0 where
@@ -53,3 +74,16 @@ pub record AreGenerators (p : ℕ) (g h gh : List ℕ) (b : Seven) (o : Generato
   pub hnc : Row p (o .nc)
   pub hu : Row p (o .u)
   pub each : {G H : List ℕ} (σ : Accepted p G H) → Holds σ g h gh → Good (setting σ) (rowsOf σ b) → Generated σ b o
+
+pub record DividedIn (p mul lim cap : ℕ) (g h gh : List ℕ) (ie : ℕ) (b : Seven) (x y : Three) (d : List ℕ) : Type 0 where
+  pub inp : GeneratorsIn p cap g h gh ie b
+  pub ready : Ready p mul lim
+  pub blank-x : Blank x
+  pub blank-y : Blank y
+  pub blank-d : d ≡ replicate 32 0
+
+pub record Divided (p : ℕ) (g h gh : List ℕ) (b : Seven) (o : Generators) (c : Cuts) : Type 0 where
+  pub are : AreGenerators p g h gh b o
+  pub size-x : Size (o .x) (c .x)
+  pub size-y : Size (o .y) (c .y)
+  pub size-u : Size (o .u) (c .d)

@@ -1,30 +1,22 @@
 -- Coordinates in a basis where the lengths of the rows are known.
---   Wide b           the seven rows have 32 places
---   AreLengths b l   l are their lengths
+--   Blank o          three zero rows
+--   AreLengths b l   the lengths of the seven rows of a basis
 --   coords_in        CoordsBy, CoordsOut: what `CoordsIn` and `Coordinates` say, with the lengths
 use mathlib.Core.Path.{_≡_}
 use mathlib.Core.List.{List}
 use Prim.Native.Nat.{ℕ}
-use lib.ListN.{length, replicate}
+use lib.ListN.{replicate}
 use Rattle.reading.specs.Row.{Size}
 use Rattle.poly.specs.Terms.{Ready}
 use Rattle.generators.specs.Rows.{Seven}
-use Rattle.generators.specs.Quotients.{CoordsIn, Coordinates}
-use Rattle.generators.specs.declared.Three.{Three}
+use Rattle.generators.specs.Quotients.{Three, CoordsIn, Coordinates}
 use Rattle.generators.specs.declared.Spans.{Spans}
 use Rattle.generators.specs.declared.Lengths.{Lengths}
 
-abbrev pub three : List ℕ → List ℕ → List ℕ → Three
-three a b c = record { a = a; b = b; c = c }
-
-pub record Wide (b : Seven) : Type 0 where
-  pub m0 : length (b .m0) ≡ 32
-  pub m1 : length (b .m1) ≡ 32
-  pub m2 : length (b .m2) ≡ 32
-  pub n0 : length (b .n0) ≡ 32
-  pub n1 : length (b .n1) ≡ 32
-  pub n2 : length (b .n2) ≡ 32
-  pub u : length (b .u) ≡ 32
+pub record Blank (o : Three) : Type 0 where
+  pub a : o .a ≡ replicate 32 0
+  pub b : o .b ≡ replicate 32 0
+  pub c : o .c ≡ replicate 32 0
 
 pub record AreLengths (b : Seven) (l : Lengths) : Type 0 where
   pub m0 : Size (b .m0) (l .m0)
@@ -35,16 +27,15 @@ pub record AreLengths (b : Seven) (l : Lengths) : Type 0 where
   pub n2 : Size (b .n2) (l .n2)
   pub u : Size (b .u) (l .u)
 
-pub record CoordsBy (p mul lim : ℕ) (va vb : List ℕ) (nb : ℕ) (vc : List ℕ) (nc : ℕ) (b : Seven) (l : Lengths) (e : List ℕ) (le ie : ℕ) (o : Three) : Type 0 where
-  pub inp : CoordsIn p va vb vc b e ie
+pub record CoordsBy (p mul lim : ℕ) (va : List ℕ) (na : ℕ) (vb : List ℕ) (nb : ℕ) (vc : List ℕ) (nc : ℕ) (b : Seven) (l : Lengths) (e : List ℕ) (o : Three) : Type 0 where
+  pub inp : CoordsIn p va vb vc b e (l .ie)
   pub ready : Ready p mul lim
+  pub sa : Size va na
   pub sb : Size vb nb
   pub sc : Size vc nc
   pub sizes : AreLengths b l
-  pub se : Size e le
-  pub zero-a : o .a ≡ replicate 32 0
-  pub zero-b : o .b ≡ replicate 32 0
-  pub zero-c : o .c ≡ replicate 32 0
+  pub se : Size e (l .e)
+  pub blank : Blank o
 
 pub record CoordsOut (p : ℕ) (va vb vc : List ℕ) (b : Seven) (e : List ℕ) (t : Three) (o : Spans) : Type 0 where
   pub coords : Coordinates p va vb vc b e t

@@ -1,4 +1,6 @@
 pub mod Rows
 pub mod Quotients
+pub mod Common
 pub mod Known
 pub mod Generated
+pub mod Turns

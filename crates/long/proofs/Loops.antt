@@ -2,15 +2,12 @@
 --   filled-same     a list filled with the entries of another is the other
 --   filled-zeros    a list filled with zeros
 --   Changing        the invariant of a loop that changes a list in place, entry by entry
---   changing-end    a change that keeps zeros is whole at the size of the list
 use mathlib.Core.Path.{_≡_, refl, sym, ap, _∙_}
 use mathlib.Core.List.{List}
 use Prim.Native.Nat.{ℕ, _+_, _<_, _≤_}
 use native.Mathlib.Omega.{arith}
-use native.Mathlib.Decide.{decLt}
 use lib.ListN.{length, getD, set, replicate, length-replicate}
 use lib.Seq.{ext-getD, getD-set-other}
-use Rattle.reading.specs.Row.{Size}
 use Rattle.reading.proofs.Tab.{Filled, filled-start, filled-more, zeros-at}
 
 pub filled-same : (n : ℕ) (s d : List ℕ) (i : ℕ) → Filled n (λ k. getD s k 0) d i → n ≤ i → length s ≡ n → d ≡ s
@@ -30,11 +27,4 @@ pub changing-more : (f : ℕ → ℕ) (d₀ d : List ℕ) (i v : ℕ) → Changi
 changing-more f d₀ d i v h l e = record {
   filled = filled-more (length d₀) f d i v (h .filled) l e;
   rest = λ k u. getD-set-other d i k v 0 (λ z. absurd (omega arith)) ∙ h .rest k (omega arith);
-}
-
-pub changing-end : (f : ℕ → ℕ) (d₀ d : List ℕ) (n i : ℕ) → Size d₀ n → ((k : ℕ) → getD d₀ k 0 ≡ 0 → f k ≡ 0) → Changing f d₀ d i → n ≤ i → Filled (length d₀) f d (length d₀)
-changing-end f d₀ d n i s z h l = record {
-  size = h .filled .size;
-  upto = omega arith;
-  done = λ k u. elim (decLt k i) [ yes v ↦ h .filled .done k v | no v ↦ h .rest k (omega arith) ∙ s .above k (omega arith) ∙ sym (z k (s .above k (omega arith))) ];
 }

@@ -109,15 +109,27 @@ pub fn times(p: u64, x: &[u16], y: &[u16], d: &mut [u16])
     mix(p, x, y, &o, &o, d);
 }
 
-// s d. Zeros at the end stay as they are.
+// x s mod p; zeros cost no division.
+fn scaled(p: u64, s: u64, x: u16) -> u16
+    requires { ⌜ ScaleIn p s ⌝ }
+    ensures { λ r. ⌜ r ≡ (x * s) % p ⌝ }
+{
+    if x == 0 {
+        0
+    } else {
+        ((x as u64) * s % p) as u16
+    }
+}
+
+// s d
 pub fn scale(p: u64, s: u64, d: &mut [u16])
     requires { ⌜ ScaleIn p s ⌝ }
     ensures { λ _. ⌜ Scaled p s (now (d .entry)) (now (d .exit)) ⌝ }
 {
-    let n = size(d);
     let mut i: usize = 0;
-    while i < n {
-        d[i] = ((d[i] as u64) * s % p) as u16;
+    while i < d.len() {
+        let v = scaled(p, s, d[i]);
+        d[i] = v;
         i += 1;
     }
 }

@@ -1,24 +1,21 @@
 -- What `advanced` makes is the step: the rows that are loaded, the seven polynomials that come back, and the degree of m.
 use mathlib.Core.Path.{_≡_, refl, sym, ap, ap₂, _∙_, subst}
-use mathlib.Core.Logic.{_≢_}
 use mathlib.Core.List.{List}
 use Prim.Native.Nat.{ℕ, zero, suc, _+_, _-_, _<_, _≤_}
 use native.Mathlib.Omega.{arith}
-use lib.ListN.{length, getD}
+use lib.ListN.{getD}
 use Rattle.ring.specs.Ring.{Ops, CRing}
-use Rattle.fp.specs.Fp.{Prime}
 use Rattle.valued.specs.Val.{Valued}
 use Rattle.valued.specs.Degree.{Has, Lt}
 use Rattle.valued.specs.Polynomial.{polys, Poly, Divides, IsUnit}
 use Rattle.valued.proofs.Degree as d
 use Rattle.valued.proofs.Polynomial.{P-path, const-unit}
+use Rattle.residue.specs.Residue.{Modulus}
 use Rattle.reading.specs.Reading.{Reading}
 use Rattle.reading.specs.Made.{reading}
 use Rattle.reading.specs.Row.{Row, Size, row}
-use Rattle.reading.proofs.Floors.{sized}
 use Rattle.turn.specs.Points.{Pt, Moved}
 use Rattle.poly.proofs.Leaf.{size-one}
-use Rattle.poly.specs.Leaf.{Leading}
 use Rattle.field.specs.Refusal.{Accepted}
 use Rattle.ideals.specs.Setting.{Setting, P}
 use Rattle.ideals.specs.Ideal.{Basis}
@@ -34,8 +31,7 @@ use Rattle.chain.proofs.Frame.{pair, off, Framed, Rebased}
 use Rattle.chain.proofs.Correct.{Ends, base-framed, step-correct}
 use Rattle.record.specs.Record.{part, setting, polyOf, basisOf, IsRecord}
 use Rattle.generators.specs.Rows.{Seven, seven, AreRows, rowsOf}
-use Rattle.generators.specs.Generated.{Generated, GeneratorsIn, AreGenerators}
-use Rattle.generators.specs.declared.Generators.{Generators}
+use Rattle.generators.specs.Generated.{Generators, Generated, GeneratorsIn, AreGenerators}
 use Rattle.reduce.specs.Frame.{frame, Meaning}
 use Rattle.basis.specs.Store.{SevenLoaded}
 use Rattle.basis.specs.Based.{BasisIn, BasedAt, Based}
@@ -113,6 +109,9 @@ degree-of {p} A b rows good lm lu sm su =
     (omega arith, record { x = s .x; u = s .u; M-deg = ev-M (setting A) (rowsOf A b) s; U-deg = s .U-has; eq = omega arith })
 
 -- ---- what `advanced` asks and makes
+pub field-modulus : {p : ℕ} {g h gh : List ℕ} {n dr dw : ℕ} {r w B : List ℕ} → AdvanceIn p g h gh n dr dw r w B → Modulus p
+field-modulus {p} i = let A = i .keeps .accepted in record { big = A .prime .big; small = (let l : p ≤ 65535 = A .high in omega arith) }
+
 module _ {p : ℕ} {g h gh : List ℕ} {n dr dw : ℕ} {r w B : List ℕ} (i : AdvanceIn p g h gh n dr dw r w B) {b : Seven} (l : SevenLoaded B b) where
   abbrev A : Accepted p (i .G) (i .H)
   A = i .keeps .accepted
@@ -123,31 +122,37 @@ module _ {p : ℕ} {g h gh : List ℕ} {n dr dw : ℕ} {r w B : List ℕ} (i : A
   pub are-rows : AreRows p b
   are-rows = rows-are l (i .is-record .each)
 
-  pub lead-low : (z : ℕ) → Leading gh z → z ≤ p
-  lead-low z e = go (sized gh)
-    where
-      go : (m : ℕ) × Size gh m → z ≤ p
-      go (m, s) = let q : z ≡ getD gh (m - 1) 0 = e m s in let t : getD gh (m - 1) 0 < p = i .keeps .hgh .each (m - 1) in omega arith
+  pub n-small : n ≤ 16
+  n-small = let e : n ≡ A .degG + A .degH = i .keeps .known A .n-is in let q : A .degG + A .degH ≤ 16 = A .sum in omega arith
 
-  pub divided-in : (z : ℕ) → Leading gh z → GeneratorsIn p g h gh (p - z) b
-  divided-in z e = record {
+  -- G H leads at n
+  lead-at : (m : ℕ) → Size gh m → getD gh n 0 ≡ getD gh (m - 1) 0
+  lead-at m s =
+      let 𝓥 = reading p (A .prime) .𝓥 in
+      let e : m ≡ suc (A .degG + A .degH) = size-one s (size-of (reading p (A .prime)) (i .keeps .hgh) (d.has-eq 𝓥 (d.has-mul 𝓥 (setting A .G-deg) (setting A .H-deg)) (sym (i .keeps .known A .holds .gh-is)))) in
+      ap (λ j. getD gh j 0) (let q : n ≡ A .degG + A .degH = i .keeps .known A .n-is in let w : n ≡ m - 1 = omega arith in w)
+
+  pub lead-low : getD gh n 0 ≤ p
+  lead-low = let t : getD gh n 0 < p = i .keeps .hgh .each n in omega arith
+
+  pub divided-in : GeneratorsIn p (n + 1) g h gh (p - getD gh n 0) b
+  divided-in = record {
     hg = i .keeps .hg;
     hh = i .keeps .hh;
     hgh = i .keeps .hgh;
     rows = are-rows;
-    inverse = λ m s. ap (λ t. p - t) (e m s);
+    inverse = λ m s. ap (λ t. p - t) (lead-at m s);
     G = i .G;
     H = i .H;
     σ = A;
     holds = i .keeps .known A .holds;
     good = good-rows;
+    past = (let q : n ≡ A .degG + A .degH = i .keeps .known A .n-is in omega arith);
+    fits = (let q : n ≤ 16 = n-small in omega arith);
   }
 
   pub shorter : (lm lu : ℕ) → Size (b .m0) lm → Size (b .u) lu → lu ≤ lm
   shorter lm lu sm su = degree-of A b are-rows good-rows lm lu sm su .0
-
-  pub n-small : n ≤ 16
-  n-small = let e : n ≡ A .degG + A .degH = i .keeps .known A .n-is in let q : A .degG + A .degH ≤ 16 = A .sum in omega arith
 
   generator-rows : {o : Generators} → AreGenerators p g h gh b o → RowsOf p o
   generator-rows ho = record { hx = ho .hx; hy = ho .hy; hmb = ho .hmb; hmc = ho .hmc; hnb = ho .hnb; hnc = ho .hnc; hu = ho .hu }

@@ -31,8 +31,7 @@ use Rattle.chain.proofs.Parts.{Parts, Cut, base, base-d}
 use Rattle.chain.proofs.Room.{Room, room}
 use Rattle.record.specs.Record.{setting, polyOf}
 use Rattle.generators.specs.Rows.{Seven, rowsOf}
-use Rattle.generators.specs.Generated.{Generated}
-use Rattle.generators.specs.declared.Generators.{Generators}
+use Rattle.generators.specs.Generated.{Generators, Generated}
 use Rattle.generators.proofs.Coordinates.{r-narrow, w-narrow}
 use Rattle.generators.proofs.Products.{sizes}
 use Rattle.reduce.specs.Frame.{Frame, frame, Fine, Meaning, Short}

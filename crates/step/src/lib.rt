@@ -1,17 +1,86 @@
 // The step: from the record of a reduced ideal to that of the ideal divided by m, with the degree of m.
 use basis::load;
 use basis::reduced_basis;
-use generators::Generators;
 use generators::divided;
-use poly::lead;
+use poly::Rapid;
 use poly::rapid_of;
-use poly::size;
 use poly::size_from;
 use reduce::Bounds;
-ghost use Rattle.reduce.specs.Given.{given};
-ghost use Rattle.reduce.specs.Clear.{pair};
-ghost use Rattle.basis.specs.Based.{BasisIn, Based};
+ghost use Rattle.generators.specs.Quotients.{three};
+ghost use Rattle.generators.specs.Generated.{generators};
 ghost use Rattle.step.specs.Steps.{AdvanceIn, Advanced};
+ghost use Rattle.step.specs.Parting.{PartIn, Parting, AdvanceOn};
+
+// The degree of m, the degree of what the generators had in common, and the lengths of x1, y1 and of the denominator.
+pub struct Measures {
+    pub degree: usize,
+    pub cut: usize,
+    pub x: usize,
+    pub y: usize,
+    pub d: usize,
+}
+
+// The generators of the ideal divided by m, into seven zero rows: the rows of the record end before n + 1.
+fn parted(
+    p: u64,
+    q: Rapid,
+    g: &[u64; 32],
+    h: &[u64; 32],
+    gh: &[u64; 32],
+    n: usize,
+    b: &[u16; 119],
+    nc: &mut [u64; 32],
+    x: &mut [u64; 32],
+    mc: &mut [u64; 32],
+    nb: &mut [u64; 32],
+    y: &mut [u64; 32],
+    mb: &mut [u64; 32],
+    d: &mut [u64; 32],
+) -> Measures
+    requires { ⌜ PartIn p (q .m) (q .lim) (now g) (now h) (now gh) n (now b) (three (now nc) (now x) (now mc)) (three (now nb) (now y) (now mb)) (now d) ⌝ }
+    ensures { λ o. ⌜ Parting p (now (g .entry)) (now (h .entry)) (now (gh .entry)) (now (b .entry)) (generators (now (x .exit)) (now (y .exit)) (now (mb .exit)) (now (mc .exit)) (now (nb .exit)) (now (nc .exit)) (now (d .exit)) (o .cut)) o ⌝ }
+{
+    let m0 = load(b, 0);
+    let m1 = load(b, 1);
+    let m2 = load(b, 2);
+    let n0 = load(b, 3);
+    let n1 = load(b, 4);
+    let n2 = load(b, 5);
+    let u = load(b, 6);
+    let lm = size_from(&m0, n + 1);
+    let lu = size_from(&u, n + 1);
+    let l = gh[n];
+    let k = divided(
+        p,
+        q,
+        n + 1,
+        g,
+        h,
+        gh,
+        p - l,
+        &m0,
+        &m1,
+        &m2,
+        &n0,
+        &n1,
+        &n2,
+        &u,
+        nc,
+        x,
+        mc,
+        nb,
+        y,
+        mb,
+        d,
+    );
+    Measures {
+        degree: lm - lu,
+        cut: k.cut,
+        x: k.x,
+        y: k.y,
+        d: k.d,
+    }
+}
 
 // The degree of the m divided by, and the next record.
 pub struct Advance {
@@ -19,38 +88,42 @@ pub struct Advance {
     pub basis: [u16; 119],
 }
 
-// The scaled basis over the generators d, whose rows are turned in place.
-fn basis_of(f: Bounds, r: &[u64; 32], w: &[u64; 32], d: Generators) -> [u16; 119]
-    requires { ⌜ BasisIn (given f (now r) (now w)) (pair (d .mb) (d .mc) (d .nb) (d .nc)) (f .top) (d .u) (d .x) (d .y) ⌝ }
-    ensures { λ o. ⌜ Based (given f (now (r .entry)) (now (w .entry))) (pair (d .mb) (d .mc) (d .nb) (d .nc)) (d .u) (d .x) (d .y) o ⌝ }
+// The step, on seven zero rows for the generators, which are turned in place.
+fn advance_in(
+    p: u64,
+    q: Rapid,
+    g: &[u64; 32],
+    h: &[u64; 32],
+    gh: &[u64; 32],
+    n: usize,
+    dr: usize,
+    dw: usize,
+    r: &[u64; 32],
+    w: &[u64; 32],
+    b: &[u16; 119],
+    nc: &mut [u64; 32],
+    x: &mut [u64; 32],
+    mc: &mut [u64; 32],
+    nb: &mut [u64; 32],
+    y: &mut [u64; 32],
+    mb: &mut [u64; 32],
+    d: &mut [u64; 32],
+) -> Advance
+    requires { ⌜ AdvanceOn p (q .m) (q .lim) (now g) (now h) (now gh) n dr dw (now r) (now w) (now b) (three (now nc) (now x) (now mc)) (three (now nb) (now y) (now mb)) (now d) ⌝ }
+    ensures { λ o. ⌜ Advanced p (now (g .entry)) (now (h .entry)) (now (gh .entry)) n dr dw (now (r .entry)) (now (w .entry)) (now (b .entry)) o ⌝ }
 {
-    let fast = rapid_of(f.p);
-    let mut mb = d.mb;
-    let mut mc = d.mc;
-    let mut nb = d.nb;
-    let mut nc = d.nc;
-    let mut u = d.u;
-    let mut x = d.x;
-    let mut y = d.y;
-    let lu = size_from(&u, 17);
-    let n1 = size_from(&x, f.dr + 1);
-    let n2 = size_from(&y, f.dw + 1);
-    reduced_basis(
-        f,
-        fast,
-        r,
-        w,
-        &mut mb,
-        &mut mc,
-        &mut nb,
-        &mut nc,
-        &mut u,
-        lu,
-        &mut x,
-        n1,
-        &mut y,
-        n2,
-    )
+    let k = parted(p, q, g, h, gh, n, b, nc, x, mc, nb, y, mb, d);
+    let f = Bounds {
+        p,
+        dr,
+        dw,
+        top: n + 1 - k.cut,
+    };
+    let o = reduced_basis(f, q, r, w, mb, mc, nb, nc, d, k.d, x, k.x, y, k.y);
+    Advance {
+        degree: k.degree as u64,
+        basis: o,
+    }
 }
 
 // What a field keeps from step to step is lent: G, H and G·H, n = deg GH, the degrees of r and w and their first 32 coefficients.
@@ -69,27 +142,32 @@ pub fn advanced(
     requires { ⌜ AdvanceIn p (now g) (now h) (now gh) n dr dw (now r) (now w) (now b) ⌝ }
     ensures { λ o. ⌜ Advanced p (now (g .entry)) (now (h .entry)) (now (gh .entry)) n dr dw (now (r .entry)) (now (w .entry)) (now (b .entry)) o ⌝ }
 {
-    let m0 = load(b, 0);
-    let m1 = load(b, 1);
-    let m2 = load(b, 2);
-    let n0 = load(b, 3);
-    let n1 = load(b, 4);
-    let n2 = load(b, 5);
-    let u = load(b, 6);
-    let lm = size(&m0);
-    let lu = size(&u);
-    let l = lead(gh);
-    let d = divided(p, g, h, gh, p - l, &m0, &m1, &m2, &n0, &n1, &n2, &u);
-    let cut = d.cut;
-    let f = Bounds {
+    let q = rapid_of(p);
+    let mut nc: [u64; 32] = [0; 32];
+    let mut x: [u64; 32] = [0; 32];
+    let mut mc: [u64; 32] = [0; 32];
+    let mut nb: [u64; 32] = [0; 32];
+    let mut y: [u64; 32] = [0; 32];
+    let mut mb: [u64; 32] = [0; 32];
+    let mut d: [u64; 32] = [0; 32];
+    advance_in(
         p,
+        q,
+        g,
+        h,
+        gh,
+        n,
         dr,
         dw,
-        top: n + 1 - cut,
-    };
-    let o = basis_of(f, r, w, d);
-    Advance {
-        degree: (lm - lu) as u64,
-        basis: o,
-    }
+        r,
+        w,
+        b,
+        &mut nc,
+        &mut x,
+        &mut mc,
+        &mut nb,
+        &mut y,
+        &mut mb,
+        &mut d,
+    )
 }

@@ -1,9 +1,10 @@
 -- Crate generators.
---   det-one, coords-one   two determinants, two triples of coordinates are one
---   divided-one           the generators: x, y and the degree cut are settled, the pairs and their denominator up to one constant
-use mathlib.Core.Path.{_≡_, sym, ap, _∙_}
+--   det-one           two determinants are one
+--   divided-one       the generators: x, y and the degree cut are settled, the pairs and their denominator up to one constant
+--   divided-lengths   and the lengths of x, y and of the denominator
+use mathlib.Core.Path.{_≡_, sym, ap, _∙_, subst}
 use mathlib.Core.List.{List, [], _∷_}
-use Prim.Native.Nat.{ℕ}
+use Prim.Native.Nat.{ℕ, _≤_}
 use Prim.Native.Nat as N
 use native.Mathlib.Omega.{arith}
 use Rattle.ring.specs.Ring.{Ops, CRing}
@@ -11,37 +12,30 @@ use Rattle.ring.proofs.Solve.{var, minus, one, _:+_, _:*_, hyp, solve-by}
 use Rattle.fp.specs.Fp.{Prime}
 use Rattle.valued.specs.Degree.{Has}
 use Rattle.valued.specs.Polynomial.{polys, Divides, IsUnit}
-use Rattle.valued.proofs.Degree.{has-move}
-use Rattle.valued.proofs.Polynomial.{factor, const-unit}
+use Rattle.valued.proofs.Degree.{has-move, lt-eq}
+use Rattle.valued.proofs.Compare.{lt-scale}
+use Rattle.valued.proofs.Polynomial.{factor, const-unit, unit-const}
 use Rattle.valued.proofs.Divide.{p-cancel}
 use Rattle.reading.specs.Made.{reading}
+use Rattle.reading.specs.Row.{Row, Size}
+use Rattle.reading.proofs.Rows.{size-lt, size-le}
 use Rattle.ideals.specs.Setting.{Setting, P}
 use Rattle.ideals.specs.Ideal.{Basis, Ideal}
 use Rattle.chain.proofs.Parts.{Parts, Cut, x0, x2, y0, y2, base, parts-unique, cut-greatest}
 use Rattle.record.specs.Record.{setting}
 use Rattle.generators.specs.Rows.{Seven, rowsOf}
-use Rattle.generators.specs.Quotients.{Det, CoordsIn, Coordinates}
-use Rattle.generators.specs.Generated.{GeneratorsIn, AreGenerators}
-use Rattle.generators.specs.declared.Three.{Three}
-use Rattle.generators.specs.declared.Generators.{Generators}
+use Rattle.generators.specs.Quotients.{Det}
+use Rattle.generators.specs.Generated.{Generators, GeneratorsIn, AreGenerators, Divided}
+use Rattle.generators.specs.declared.Cuts.{Cuts}
 use Rattle.tight.specs.UpTo.{Alike}
 use Rattle.tight.proofs.Rows.{by-row}
+use Rattle.tight.proofs.Poly.{size-one}
 
 pub det-one : {p : ℕ} (pr : Prime p) {x y z v r s : List ℕ} → Det p x y z v r → Det p x y z v s → r ≡ s
 det-one {p} pr h k = by-row (reading p pr) (h .is-row) (k .is-row) (h .law pr) (k .law pr)
 
-pub coords-one : {p : ℕ} {va vb vc : List ℕ} {b : Seven} {e : List ℕ} {ie : ℕ} (o o′ : Three) → CoordsIn p va vb vc b e ie → Coordinates p va vb vc b e o → Coordinates p va vb vc b e o′ → o ≡ o′
-coords-one {p} o o′ g h k =
-    let ρ = reading p (g .prime) in
-    let (x, y, z) = h .law (g .prime) (g .α) (g .β) (g .γ) (g .some) in
-    let (x′, y′, z′) = k .law (g .prime) (g .α) (g .β) (g .γ) (g .some) in
-    let a : o .a ≡ o′ .a = by-row ρ (h .ha) (k .ha) x x′ in
-    let b : o .b ≡ o′ .b = by-row ρ (h .hb) (k .hb) y y′ in
-    let c : o .c ≡ o′ .c = by-row ρ (h .hc) (k .hc) z z′ in
-    λ i. record { a = a i; b = b i; c = c i }
-
 -- ---- what is cut from the four coordinates is settled up to a constant
-record Cuts (S : Setting) (B B′ : Basis S) (m n : ℕ) : Type 0 where
+record Same (S : Setting) (B B′ : Basis S) (m n : ℕ) : Type 0 where
   same : m ≡ n
   v : P S
   unit : IsUnit (S .𝓥) v
@@ -121,13 +115,13 @@ module _ (S : Setting) (B : Basis S) (i : Ideal S B) (k l : Parts S B) (c : Cut 
       ∷ hyp (minus (var 8 :* (var 4 :* var 5 :+ minus (var 6 :* var 7)))) (var 10) (var 9 :* var 8) ∷ []) tt
       (c .a2 ∷ c .b0 ∷ c .a0 ∷ c .b2 ∷ d .a2 ∷ d .b0 ∷ d .a0 ∷ d .b2 ∷ v ∷ c .g ∷ d .g ∷ []) (A2, (B0, (A0, (B2, (up .1, tt)))))
 
-  cuts : Cuts S (base S B k c) (base S B l d) m n
+  cuts : Same S (base S B k c) (base S B l d) m n
   cuts = record { same = cut-same; v = v; unit = v-unit; mb = minus-by (c .b2) (d .b2) B2; mc = A2; nb = B0; nc = minus-by (c .a0) (d .a0) A0; u = U-by }
 
 carried : (R : CRing) (v : R .El) {z z′ y y′ : R .El} → z ≡ y → z′ ≡ y′ → y ≡ R .ops .mul v y′ → z ≡ R .ops .mul v z′
 carried R v e e′ f = e ∙ f ∙ ap (λ r. R .ops .mul v r) (sym e′)
 
-pub divided-one : {p : ℕ} {g h gh : List ℕ} {ie : ℕ} {b : Seven} (o o′ : Generators) (i : GeneratorsIn p g h gh ie b) → AreGenerators p g h gh b o → AreGenerators p g h gh b o′ → Alike (i .σ) o o′
+pub divided-one : {p cap : ℕ} {g h gh : List ℕ} {ie : ℕ} {b : Seven} (o o′ : Generators) (i : GeneratorsIn p cap g h gh ie b) → AreGenerators p g h gh b o → AreGenerators p g h gh b o′ → Alike (i .σ) o o′
 divided-one {p} {b = b} o o′ i s t =
     let σ = i .σ in
     let S = setting σ in
@@ -148,3 +142,17 @@ divided-one {p} {b = b} o o′ i s t =
       nc = carried R (r .v) (u .nc-is) (w .nc-is) (r .nc);
       u = carried R (r .v) (u .u-is) (w .u-is) (r .u);
     }
+
+-- a constant multiple is no longer
+no-longer : {p cap : ℕ} {g h gh : List ℕ} {ie : ℕ} {b : Seven} (i : GeneratorsIn p cap g h gh ie b) {o o′ : Generators} {m n : ℕ} → Alike (i .σ) o o′ → Row p (o .u) → Size (o .u) m → Size (o′ .u) n → m ≤ n
+no-longer {p} i {n = n} a r s t =
+    let ρ = reading p (i .σ .prime) in
+    size-le ρ n r s (lt-eq (ρ .𝓥) (lt-scale (ρ .𝓥) (unit-const (ρ .𝓥) (a .v) (a .v-unit)) (size-lt ρ t)) (sym (ap (λ z. z .0) (a .u))))
+
+pub divided-lengths : {p cap : ℕ} {g h gh : List ℕ} {ie : ℕ} {b : Seven} {o o′ : Generators} {c c′ : Cuts} → GeneratorsIn p cap g h gh ie b → Divided p g h gh b o c → Divided p g h gh b o′ c′
+    → (c .x ≡ c′ .x) × (c .y ≡ c′ .y) × (c .d ≡ c′ .d)
+divided-lengths {p} {o = o} {o′ = o′} {c = c} {c′ = c′} i s t =
+    let a = divided-one o o′ i (s .are) (t .are) in
+    let l : c .d ≤ c′ .d = no-longer i a (s .are .hu) (s .size-u) (t .size-u) in
+    let m : c′ .d ≤ c .d = no-longer i (divided-one o′ o i (t .are) (s .are)) (t .are .hu) (t .size-u) (s .size-u) in
+    (size-one (subst (λ z. Size z (c .x)) (a .x) (s .size-x)) (t .size-x), size-one (subst (λ z. Size z (c .y)) (a .y) (s .size-y)) (t .size-y), omega arith)

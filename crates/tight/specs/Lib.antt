@@ -12,7 +12,7 @@
 --   field         list_length: list-one (field/proofs/Parts); refusal: refusal-one; open: opens-one (field/proofs)
 --   series        series, open_with_series: answer-one, expands-one (series/proofs/Answer)
 --   reduce        part: part-one; lead_of, where the size has a degree: lead-of-one; reduced, up to constants: reduced-one (Reduction)
---   generators    det, coords: det-one, coords-one; divided, up to a constant: divided-one (Generators)
+--   generators    det: det-one; divided, up to a constant: divided-one, and its lengths: divided-lengths (Generators)
 --   basis         load, reduced_basis, order: load-one, reduced-basis-one, order-one (Bases)
 --   closure       under: under-one (Tests)
 --   accepts       below, narrow, ordered, units, shape: decides-one; shaped, alone, passes, accepts: shaped-one, alone-one, passes-one,

@@ -14,7 +14,7 @@ use Rattle.turn.specs.Points.{Pt}
 use Rattle.ideals.specs.Setting.{P}
 use Rattle.field.specs.Refusal.{Accepted}
 use Rattle.record.specs.Record.{setting, polyOf}
-use Rattle.generators.specs.declared.Generators.{Generators}
+use Rattle.generators.specs.Generated.{Generators}
 
 module _ {p : ℕ} (ρ : Reading p) where
   open Reading ρ using (𝓥)

@@ -2,7 +2,6 @@
 use Prim.Native.Nat.{ℕ, _-_, _<_, _≤_}
 use native.Mathlib.Omega.{arith}
 use Rattle.basis.proofs.Store.{Storing, storing-start, storing-more, storing-end}
-use borrow.Author.Needs.{needs}
 use Rattle.basis.proofs.stored.Statement.{statement}
 use Rattle.basis.proofs.stored.Tie as tie
 
