@@ -1,4 +1,4 @@
--- What `reduced_basis` asks of its callees, and what it makes.
+-- What `finished` asks of its callees, and what it makes.
 use mathlib.Core.Path.{_≡_, refl, sym, ap, ap₂, _∙_, subst}
 use mathlib.Core.Logic.{_≢_, inl}
 use mathlib.Core.Bool.{true, false}
@@ -22,14 +22,14 @@ use Rattle.turn.specs.Points.{Pt, Moved}
 use Rattle.turn.proofs.Turn.{moved-scale, moved-then}
 use Rattle.reading.proofs.Unique.{cast-inj}
 use Rattle.residue.specs.Residue.{Modulus}
-use Rattle.poly.specs.Leaf.{Cut, Scaled, ScaleBy, ScaleOut}
+use Rattle.poly.specs.Leaf.{Scaled, ScaleBy, ScaleOut}
 use Rattle.poly.specs.Terms.{Ready}
 use Rattle.poly.proofs.Leaf.{size-one}
 use Rattle.sized.proofs.Mixing.{size-cut}
 use Rattle.record.specs.Record.{part}
-use Rattle.reduce.specs.Frame.{Frame, Meaning, Short, Held, point, rd, Ser, rowμ, pt, X, Y, Ltμ, Hasμ}
+use Rattle.reduce.specs.Frame.{Frame, Meaning, Short, Held, point, rd, Ser, rowμ, pt, X, Y, Ltμ}
 use Rattle.reduce.specs.Leaves.{PartIn, Led}
-use Rattle.reduce.specs.Clear.{Pair, Ends, ClearIn, Reduced, Movedμ}
+use Rattle.reduce.specs.Clear.{Pair, Ends, ClearIn, Reduced}
 use Rattle.basis.specs.declared.Factors.{Factors}
 use Rattle.reduce.proofs.Laid.{zeros-at}
 use Rattle.reduce.proofs.Clearing.{part-in, rows-of}
@@ -38,7 +38,7 @@ use Rattle.basis.specs.Place.{off, ElementIn, PlacedAt, FillIn, Filled}
 use Rattle.basis.specs.Scales.{ScalesIn, Scaling}
 use Rattle.basis.specs.Based.{BasisIn, BasedAt, Based, Z, at, Mpt, Npt}
 use Rattle.basis.proofs.Store.{stored-part, stored-other, stored-each, part-same}
-use Rattle.basis.proofs.Place.{size-below, short-up, short-cut, scaled-size}
+use Rattle.basis.proofs.Place.{size-below, scaled-size}
 use Rattle.basis.proofs.Two.{const-two, half}
 
 positive : (v : ℕ) → v ≢ 0 → 0 < v
@@ -52,15 +52,6 @@ by-size m w l h s = record { modulus = m; ready = w; hc = l; hx = record { is-ro
 module _ {F : Frame} {q : Pair} {top : ℕ} {d x1 y1 : List ℕ} (g : BasisIn F q top d x1 y1) where
   two-low : 2 < F .p
   two-low = let b : 1 < F .p = g .clear .room .fine .modulus .big in let o : F .p % 2 ≡ 1 = g .odd in omega arith
-
-  pub based-d : Cut d 17
-  based-d = short-cut (g .hd) (omega arith)
-
-  pub based-x : Cut x1 (F .dr + 1)
-  based-x = let t : top ≤ 17 = g .fits in let r : F .dr ≤ top = g .clear .room .low-r in short-cut (short-up (g .h1) (omega arith)) (omega arith)
-
-  pub based-y : Cut y1 (F .dw + 1)
-  based-y = let t : top ≤ 17 = g .fits in let r : F .dw ≤ top = g .clear .room .low-w in short-cut (short-up (g .h2) (omega arith)) (omega arith)
 
   -- the doubles of x1 and y1
   pub double-x : {mul lim n : ℕ} → Ready (F .p) mul lim → Size x1 n → ScaleBy (F .p) mul lim 2 x1 n
