@@ -23,7 +23,7 @@ fn wide(x: u16) -> u64
 }
 
 // Whether every number is below p.
-pub fn below(p: u64, b: [u16; 119]) -> bool
+fn below(p: u64, b: [u16; 119]) -> bool
     ensures { λ o. ⌜ Decides o (Below p b) ⌝ }
 {
     let mut i: usize = 0;
@@ -38,7 +38,7 @@ pub fn below(p: u64, b: [u16; 119]) -> bool
 }
 
 // Whether m1 and n1 end before kb, and m2 and n2 before kc.
-pub fn narrow(
+fn narrow(
     kb: usize,
     kc: usize,
     m1: &[u64; 32],
@@ -69,7 +69,7 @@ pub fn narrow(
 }
 
 // The inequalities of a reduced basis of a reduced ideal, in lengths: of u, X(M), Y(N), X(N), Y(M), Z(M), Z(N).
-pub fn ordered(lu: usize, lx: usize, ly: usize, ln: usize, lm: usize, a: usize, b: usize) -> bool
+fn ordered(lu: usize, lx: usize, ly: usize, ln: usize, lm: usize, a: usize, b: usize) -> bool
     ensures { λ o. ⌜ Decides o (Ordered lu lx ly ln lm a b) ⌝ }
 {
     if lu <= lm {
@@ -100,7 +100,7 @@ pub fn ordered(lu: usize, lx: usize, ly: usize, ln: usize, lm: usize, a: usize, 
 }
 
 // The leading coefficients of a scaled basis.
-pub fn units(u: u64, x: u64, y: u64) -> bool
+fn units(u: u64, x: u64, y: u64) -> bool
     ensures { λ o. ⌜ Decides o (Units u x y) ⌝ }
 {
     if u != 1 {
@@ -116,7 +116,7 @@ pub fn units(u: u64, x: u64, y: u64) -> bool
 }
 
 // Lengths and leading coefficients of U and of the polynomial parts of X(M), Y(M), X(N), Y(N), Z(M), Z(N).
-pub fn shape(
+fn shape(
     u: &[u64; 32],
     mx: &[u64; 32],
     my: &[u64; 32],
@@ -144,7 +144,7 @@ pub fn shape(
 }
 
 // The sizes of seven rows: on U and on the polynomial parts of X(M), Y(M), X(N), Y(N), Z(M), Z(N).
-pub fn shaped(
+fn shaped(
     f: Bounds,
     r: &[u64; 32],
     w: &[u64; 32],
@@ -170,7 +170,7 @@ pub fn shaped(
 }
 
 // Whether no factor divides all seven: the length of their greatest common divisor.
-pub fn alone(
+fn alone(
     p: u64,
     m0: &[u64; 32],
     m1: &[u64; 32],
@@ -194,7 +194,7 @@ pub fn alone(
 }
 
 // Whether seven rows are the scaled reduced basis of a reduced ideal of an opened field.
-pub fn passes(
+fn passes(
     c: series::Cubic,
     m0: &[u64; 32],
     m1: &[u64; 32],

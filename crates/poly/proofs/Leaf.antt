@@ -13,7 +13,7 @@ use Rattle.reading.specs.Row.{tab, Row, Size, row, coefs, shiftAt}
 use Rattle.reading.proofs.Tab.{zeros-at, tab-row, crossAt, cross-row, Filled, filled-start, filled-more, Begun, begun-end, shift-high, shift-small}
 use Rattle.reading.proofs.Rows.{add-law, sub-law, scale-law, cross-law, row-32, row-upto, psum-ext}
 use Rattle.reading.proofs.Floors.{zero-row, sized}
-use Rattle.poly.specs.Leaf.{Both, Summed, Difference, Opposite, Short, ScaleIn, ScaleBy, ScaleOut, CrossIn, CrossBy, CrossOut, Listed}
+use Rattle.poly.specs.Leaf.{Both, Summed, Difference, Opposite, Short, ScaleBy, ScaleOut, CrossIn, CrossBy, CrossOut, Listed}
 use Rattle.poly.specs.Terms.{Ready}
 
 -- a product of two numbers at most 2^31
@@ -109,12 +109,6 @@ crossed {p} {mul} {lim} {s} {x} {c} {k} {y} {n} {i} {r} h l w =
 -- ---- what the functions that hand out a row of their own ask of those
 size-short : {p : ℕ} {x : List ℕ} {n : ℕ} (m : ℕ) → Row p x → Size x n → n ≤ m → Short p x m
 size-short m h s l = record { is-row = h; above = λ i u. s .above i (omega arith) }
-
-pub scale-by : {p mul lim c : ℕ} {x : List ℕ} {n : ℕ} → ScaleIn p c x → Ready p mul lim → Size x n → ScaleBy p mul lim c x n
-scale-by {x = x} {n = n} h q s =
-    let f : n ≤ length x = s .fits in
-    let e : length x ≡ 32 = h .hx .size in
-    record { modulus = h .modulus; ready = q; hc = h .hc; hx = size-short n (h .hx) s (omega arith); fits = omega arith }
 
 pub cross-by : {p mul lim s : ℕ} {x : List ℕ} {c k : ℕ} {y : List ℕ} {n m : ℕ} (top : ℕ) → CrossIn p s x c k y → Ready p mul lim → Size x n → Size y m → n ≤ top → m + k ≤ top → top ≤ 32
     → CrossBy p mul lim s x c k y top

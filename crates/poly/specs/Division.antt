@@ -1,6 +1,6 @@
 -- Division of rows. il is the inverse of the leading coefficient of b, so that b is not 0.
 --   quotient   Quotient: q, with a − q b of lower degree than b
---   exact      Exact: the polynomial w with b w = a, if there is one
+--   Exact      the polynomial w with b w = a, if there is one: a quotient is it (`exact-made` in proofs/Division.antt)
 --   divide     Divided: a = q b + r, with r of lower degree than b; there is one such pair: `divided-unique` in proofs/Division.antt
 use mathlib.Core.Path.{_≡_}
 use mathlib.Core.List.{List}

@@ -1,11 +1,10 @@
 -- What the functions on rows ask and hand out. A row of 32 numbers below p stands for the polynomial `row` (crate reading); the laws
 -- hold for every prime p, the rows are rows for every modulus.
 --   size, size_from   the trimmed length: `Size` of crate reading
---   lead              Leading: the leading coefficient, 0 of the zero row
 --   add, sub, minus   Summed, Difference, Opposite: x + y, x − y, − x
---   scale             Scaled: c x
 --   cross             Crossed: s x − c t^k y
---   scale_in, cross_in   ScaleOut, CrossOut: the same in place of x, which is Short: 0 from n on, before and after
+--   scale_in          ScaleOut: c x in place of x, which is Short: 0 from n on, before and after
+--   cross_in          CrossOut: s x − c t^k y in place of x, Short too
 --   mul               Product: x y
 --   from_list         Listed: the polynomial of a list
 use mathlib.Core.Path.{_≡_}
@@ -29,9 +28,6 @@ pub record Cut (x : List ℕ) (n : ℕ) : Type 0 where
 pub record Short (p : ℕ) (x : List ℕ) (n : ℕ) : Type 0 where
   pub is-row : Row p x
   pub above : (i : ℕ) → n ≤ i → getD x i 0 ≡ 0
-
-abbrev pub Leading : List ℕ → ℕ → Type 0
-Leading x r = (n : ℕ) → Size x n → r ≡ getD x (n - 1) 0
 
 -- ---- sums
 pub record Once (p v : ℕ) : Type 0 where
@@ -58,11 +54,6 @@ pub record Difference (p : ℕ) (x y r : List ℕ) : Type 0 where
 pub record Opposite (p : ℕ) (x r : List ℕ) : Type 0 where
   pub is-row : Row p r
   pub law : (pr : Prime p) → let ρ = reading p pr in row ρ r ≡ ρ .𝓥 .L .ops .neg (row ρ x)
-
-pub record ScaleIn (p c : ℕ) (x : List ℕ) : Type 0 where
-  pub modulus : Modulus p
-  pub hc : c < p
-  pub hx : Row p x
 
 pub record Scaled (p c : ℕ) (x r : List ℕ) : Type 0 where
   pub is-row : Row p r

@@ -6,11 +6,11 @@ ghost use mathlib.Core.Path.{_≡_};
 ghost use Prim.Native.Nat.{_+_, _*_, _-_, _%_, _<_, _≤_};
 ghost use lib.ListN.{length};
 ghost use Rattle.reading.specs.Row.{Size, shiftAt};
-ghost use Rattle.poly.specs.Leaf.{Cut, Leading, Once, Given, Both, Summed, Difference, Opposite, ScaleIn, Scaled, ScaleBy, ScaleOut};
+ghost use Rattle.poly.specs.Leaf.{Cut, Once, Given, Both, Summed, Difference, Opposite, ScaleBy, ScaleOut};
 ghost use Rattle.poly.specs.Leaf.{CrossIn, Crossed, CrossBy, CrossOut, MulIn, Product, Listed};
 ghost use Rattle.poly.specs.Terms.{Ready, RestIn, MoreIn, More, PartIn, Part, PlaceIn};
 ghost use Rattle.residue.specs.Residue.{Modulus};
-ghost use Rattle.poly.specs.Division.{DivIn, Quotient, Exact, Divided, DigitIn, Digit};
+ghost use Rattle.poly.specs.Division.{DivIn, Quotient, Divided, DigitIn, Digit};
 ghost use Rattle.poly.specs.Factors.{Derived, Over, OverBoth, Common, SquareTest, CoprimeTest};
 ghost use Rattle.reading.specs.Sum.{sumTo, termAt};
 
@@ -37,15 +37,6 @@ pub fn size(x: &Row) -> usize
     ensures { λ r. ⌜ Size (now (x .entry)) r ⌝ }
 {
     size_from(x, 32)
-}
-
-// The leading coefficient; 0 for the zero polynomial.
-pub fn lead(x: &Row) -> u64
-    requires { ⌜ length (now x) ≡ 32 ⌝ }
-    ensures { λ r. ⌜ Leading (now (x .entry)) r ⌝ }
-{
-    let n = size(x);
-    if n == 0 { 0 } else { x[n - 1] }
 }
 
 // What `rest` needs of p: below lim, one multiplication by m finds a remainder.
@@ -133,17 +124,6 @@ pub fn scale_in(p: u64, q: Rapid, c: u64, x: &mut Row, n: usize)
     }
 }
 
-pub fn scale(p: u64, c: u64, x: &Row) -> Row
-    requires { ⌜ ScaleIn p c (now x) ⌝ }
-    ensures { λ r. ⌜ Scaled p c (now (x .entry)) r ⌝ }
-{
-    let q = rapid_of(p);
-    let n = size(x);
-    let mut r = *x;
-    scale_in(p, q, c, &mut r, n);
-    r
-}
-
 // The coefficient of t^k y at i.
 fn shifted(y: &Row, k: usize, i: usize) -> u64
     requires { ⌜ i < 32 ⌝ }
@@ -223,7 +203,7 @@ fn part(p: u64, x: &Row, y: &Row, from: usize, to: usize, k: usize) -> u64
 }
 
 // Coefficient k of x y, from the trimmed lengths n and m.
-pub fn place(p: u64, q: Rapid, x: &Row, n: usize, y: &Row, m: usize, k: usize) -> u64
+fn place(p: u64, q: Rapid, x: &Row, n: usize, y: &Row, m: usize, k: usize) -> u64
     requires { ⌜ PlaceIn p (q .m) (q .lim) (now x) n (now y) m k ⌝ }
     ensures { λ r. ⌜ r ≡ sumTo (termAt (now (x .entry)) (now (y .entry)) k) n % p ⌝ }
 {
@@ -287,7 +267,7 @@ pub fn digit(
 }
 
 // The quotient of a by b from the top, one coefficient a turn; il is the inverse of b's leading coefficient.
-pub fn quotient(p: u64, a: &Row, b: &Row, il: u64) -> Row
+fn quotient(p: u64, a: &Row, b: &Row, il: u64) -> Row
     requires { ⌜ DivIn p (now a) (now b) il ⌝ }
     ensures { λ q. ⌜ Quotient p (now (a .entry)) (now (b .entry)) q ⌝ }
 {
@@ -303,14 +283,6 @@ pub fn quotient(p: u64, a: &Row, b: &Row, il: u64) -> Row
         q[k] = v;
     }
     q
-}
-
-// a / b, where b divides a.
-pub fn exact(p: u64, a: &Row, b: &Row, il: u64) -> Row
-    requires { ⌜ DivIn p (now a) (now b) il ⌝ }
-    ensures { λ q. ⌜ Exact p (now (a .entry)) (now (b .entry)) q ⌝ }
-{
-    quotient(p, a, b, il)
 }
 
 // a = q b + r
@@ -330,7 +302,7 @@ pub fn divide(p: u64, a: &Row, b: &Row, il: u64) -> QuotRem
 }
 
 // d/dt
-pub fn derivative(p: u64, x: &Row) -> Row
+fn derivative(p: u64, x: &Row) -> Row
     requires { ⌜ Given p (now x) ⌝ }
     ensures { λ r. ⌜ Derived p (now (x .entry)) r ⌝ }
 {

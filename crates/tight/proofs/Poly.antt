@@ -22,10 +22,10 @@ use Rattle.reading.proofs.Floors.{sized}
 use Rattle.reading.proofs.Quotient.{division-unique}
 use Rattle.reading.proofs.Unique.{row-unique}
 use Rattle.prime.specs.Table.{PrimeTest}
-use Rattle.poly.specs.Leaf.{Leading, Summed, Difference, Opposite, Scaled, ScaleOut, Crossed, CrossOut, Product, Listed}
+use Rattle.poly.specs.Leaf.{Summed, Difference, Opposite, ScaleOut, Crossed, CrossOut, Product, Listed}
 use Rattle.poly.specs.Terms.{More}
-use Rattle.poly.specs.Division.{DivIn, Quotient, Exact, Divided}
-use Rattle.poly.specs.Factors.{polynomial, Derived, Over, OverBoth, Common, SquareTest, CoprimeTest}
+use Rattle.poly.specs.Division.{DivIn, Quotient, Divided}
+use Rattle.poly.specs.Factors.{polynomial, Over, OverBoth, Common, SquareTest, CoprimeTest}
 use Rattle.poly.specs.declared.QuotRem.{QuotRem}
 use Rattle.poly.proofs.Leaf as leaf
 use Rattle.poly.proofs.Division.{div-pos, divided-unique}
@@ -37,12 +37,9 @@ is-prime-one false false h k = refl
 is-prime-one true false h k = let (a, b) = h .yes! refl in absurd (k .no! refl a b)
 is-prime-one false true h k = let (a, b) = k .yes! refl in absurd (h .no! refl a b)
 
--- ---- for every modulus: size, size_from, lead, from_list
+-- ---- for every modulus: size, size_from, from_list
 pub size-one : {l : List ℕ} {n m : ℕ} → Size l n → Size l m → n ≡ m
 size-one h k = leaf.size-one h k
-
-pub lead-one : {x : List ℕ} {r s : ℕ} → Leading x r → Leading x s → r ≡ s
-lead-one {x} h k = let (n, e) = sized x in h n e ∙ sym (k n e)
 
 pub from-list-one : {l r s : List ℕ} → Listed l r → Listed l s → r ≡ s
 from-list-one {l} {r} {s} h k = ext-getD 0 r s (h .size ∙ sym (k .size)) (λ i _. h .each i ∙ sym (k .each i))
@@ -62,23 +59,17 @@ module _ {p : ℕ} (pr : Prime p) where
   pub minus-one : {x r s : List ℕ} → Opposite p x r → Opposite p x s → r ≡ s
   minus-one h k = by-row (reading p pr) (h .is-row) (k .is-row) (h .law pr) (k .law pr)
 
-  pub scale-one : {c : ℕ} {x r s : List ℕ} → Scaled p c x r → Scaled p c x s → r ≡ s
-  scale-one h k = by-row (reading p pr) (h .is-row) (k .is-row) (h .law pr) (k .law pr)
-
   pub cross-one : {a : ℕ} {x : List ℕ} {c k : ℕ} {y r s : List ℕ} → Crossed p a x c k y r → Crossed p a x c k y s → r ≡ s
   cross-one h k = by-row (reading p pr) (h .is-row) (k .is-row) (h .law pr) (k .law pr)
 
   pub scale-in-one : {c : ℕ} {x : List ℕ} {n : ℕ} {r s : List ℕ} → ScaleOut p c x n r → ScaleOut p c x n s → r ≡ s
-  scale-in-one h k = scale-one (h .scaled) (k .scaled)
+  scale-in-one h k = by-row (reading p pr) (h .short .is-row) (k .short .is-row) (h .scaled .law pr) (k .scaled .law pr)
 
   pub cross-in-one : {a : ℕ} {x : List ℕ} {c k : ℕ} {y : List ℕ} {n : ℕ} {r s : List ℕ} → CrossOut p a x c k y n r → CrossOut p a x c k y n s → r ≡ s
   cross-in-one h k = cross-one (h .crossed) (k .crossed)
 
   pub mul-one : {x y r s : List ℕ} → Product p x y r → Product p x y s → r ≡ s
   mul-one h k = by-row (reading p pr) (h .is-row) (k .is-row) (h .law pr) (k .law pr)
-
-  pub derivative-one : {x r s : List ℕ} → Derived p x r → Derived p x s → r ≡ s
-  derivative-one h k = by-row (reading p pr) (h .is-row) (k .is-row) (h .law pr) (k .law pr)
 
   -- what is left over, a − q b, is below b
   abbrev left : List ℕ → List ℕ → List ℕ → reading p pr .𝓥 .L .El
@@ -94,11 +85,6 @@ module _ {p : ℕ} (pr : Prime p) where
       let d = size-has-at ρ m (h .hb) s (div-pos p a b il m h s) in
       let (x, y) = division-unique ρ (row ρ a) (row ρ b) (row ρ q) (left a b q) (row ρ q′) (left a b q′) (m - 1) d (row-poly ρ q) (row-poly ρ q′) (back a b q) (back a b q′) (g .law pr (m - 1) d) (f .law pr (m - 1) d) in
       row-unique ρ (g .is-row) (f .is-row) x
-
-  -- where b divides a; else the contract of `exact` says only that its result is a row
-  pub exact-one : {a b q q′ : List ℕ} (w : reading p pr .𝓥 .L .El) → reading p pr .𝓥 .IsPoly w → reading p pr .𝓥 .L .ops .mul (row (reading p pr) b) w ≡ row (reading p pr) a
-      → Exact p a b q → Exact p a b q′ → q ≡ q′
-  exact-one w hw e h k = by-row (reading p pr) (h .is-row) (k .is-row) (h .law pr w hw e) (k .law pr w hw e)
 
   pub divide-one : {a b : List ℕ} {il : ℕ} (d d′ : QuotRem) → DivIn p a b il → Divided p a b (d .q) (d .r) → Divided p a b (d′ .q) (d′ .r) → d ≡ d′
   divide-one {a} {b} {il} d d′ h g f =

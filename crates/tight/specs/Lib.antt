@@ -2,11 +2,10 @@
 -- equal: result, and contents of each lent slice after the call. Functions that are not named have a contract that is an equation.
 --   residue       inverse, cube_root: inverse-one, cube-root-one (residue/proofs/Unique)
 --   prime         is_prime: is-prime-one (Poly)
---   poly          size_from, size: size-one; lead: lead-one; from_list: from-list-one; squarefree, coprime: squarefree-one, coprime-one;
---                 for a prime p: add, sub, minus, scale, cross, mul, derivative, quotient, divide: add-one, sub-one, minus-one, scale-one,
---                 cross-one, mul-one, derivative-one, quotient-one, divide-one; scale_in, cross_in: scale-in-one, cross-in-one;
---                 exact, where b divides a: exact-one; gcd, up to a constant: gcd-one; more, mod p: more-one (Poly); rapid_of settles nothing:
---                 its numbers only serve a remainder, which is settled
+--   poly          size_from, size: size-one; from_list: from-list-one; squarefree, coprime: squarefree-one, coprime-one;
+--                 for a prime p: add, sub, minus, cross, mul, divide: add-one, sub-one, minus-one, cross-one, mul-one, divide-one;
+--                 scale_in, cross_in: scale-in-one, cross-in-one; gcd, up to a constant: gcd-one; more, mod p: more-one (Poly);
+--                 rapid_of settles nothing: its numbers only serve a remainder, which is settled
 --   sized         for a prime p: mix_in, both_in, times_in, det_in, quotient_in: mix-in-one, both-in-one, times-in-one, det-in-one,
 --                 quotient-in-one (Sized)
 --   field         list_length: list-one (field/proofs/Parts); refusal: refusal-one; open: opens-one (field/proofs)
@@ -15,8 +14,7 @@
 --   generators    det: det-one; divided, up to a constant: divided-one, and its lengths: divided-lengths (Generators)
 --   basis         load, reduced_basis, order: load-one, reduced-basis-one, order-one (Bases)
 --   closure       under: under-one (Tests)
---   accepts       below, narrow, ordered, units, shape: decides-one; shaped, alone, passes, accepts: shaped-one, alone-one, passes-one,
---                 accepts-one (Tests)
+--   accepts       accepts: accepts-one (Tests)
 --   bases         first: first-one (Steps); order, check: orders-one, checks-one (bases/proofs/Answer)
 --   step, stepped     advanced: advanced-one; next: next-one (Steps); step: answers-one (stepped/proofs/Answers)
 --   walk, walks   go: go-one; walked: walked-one (Steps); from_order, walk: from-order-one, walks-one (walks/proofs, walk/proofs)

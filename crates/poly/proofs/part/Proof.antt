@@ -1,6 +1,6 @@
 -- `poly::part` meets its contract: below 2^28 each product is at most 2^56.
 use mathlib.Core.Path.{_≡_, ap, _∙_}
-use Prim.Native.Nat.{_≤_, _<_, _-_, _*_, _+_, _%_}
+use Prim.Native.Nat.{_≤_, _-_, _*_, _+_, _%_}
 use native.Mathlib.Omega.{arith}
 use lib.ListN.{getD}
 use Rattle.reading.specs.Sum.{sumTo, termAt}

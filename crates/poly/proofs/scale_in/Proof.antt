@@ -1,5 +1,5 @@
 -- `poly::scale_in` meets its contract: a row turned in place up to n, then `scaled`.
-use mathlib.Core.Path.{_≡_, ap, _∙_, subst, sym}
+use mathlib.Core.Path.{ap, _∙_, subst, sym}
 use Prim.Native.Nat.{_≤_, _<_, _-_, _*_, _%_}
 use native.Mathlib.Omega.{arith}
 use lib.ListN.{getD}
