@@ -1,5 +1,5 @@
 -- What `divided` asks of its calls, and what it hands out.
---   turn-in            the rows, measured
+--   measured, turn-in  the rows, measured
 --   x-in, turned-r     r m: its coordinates are asked for, and come back
 --   y-in, turned-w     w m
 --   take-in, divided   the four that lose their common factor, and the generators
@@ -34,7 +34,7 @@ use Rattle.generators.specs.Rows.{Seven, rowsOf, Holds}
 use Rattle.generators.specs.Quotients.{Three, Det, CoordsIn}
 use Rattle.generators.specs.Known.{Blank, CoordsOut}
 use Rattle.generators.specs.Common.{Negated, four, fourDet, CutIn, TakeIn, Taken}
-use Rattle.generators.specs.Turns.{Measured, TurnIn, TurnedR, TurnedW}
+use Rattle.generators.specs.Turns.{Found, Measured, TurnIn, TurnedR, TurnedW}
 use Rattle.generators.specs.Generated.{GeneratorsIn, Generators, generators, Generated, Divided}
 use Rattle.generators.specs.declared.Spans.{Spans}
 use Rattle.generators.specs.declared.Lengths.{Lengths}
@@ -60,6 +60,17 @@ module _ {p cap : ℕ} {g h gh : List ℕ} {ie : ℕ} {b : Seven} (i : Generator
 
   w-near : Narrow (setting (i .σ)) (rowsOf (i .σ) b) (small (setting (i .σ)) (rowsOf (i .σ) b) (i .good)) (setting (i .σ) .dw) (k .of-w .α) (k .of-w .β) (k .of-w .γ)
   w-near = w-narrow (setting (i .σ)) (rowsOf (i .σ) b) (small (setting (i .σ)) (rowsOf (i .σ) b) (i .good)) (i .good) (k .of-w)
+
+  pub measured : {lg lh : ℕ} {e : List ℕ} {l : Lengths} → Size g lg → Size h lh → Size gh cap → Found p cap lg lh ie b e l → Measured p g h gh ie b e l
+  measured a c t f = record {
+    seven = f .seven;
+    sg = subst (Size g) (sym (f .g-is)) a;
+    sh = subst (Size h) (sym (f .h-is)) c;
+    sgh = subst (Size gh) (sym (f .gh-is)) t;
+    det = f .det;
+    se = f .se;
+    ie-is = f .ie-is;
+  }
 
   pub turn-in : {mul lim : ℕ} {e : List ℕ} {l : Lengths} {o : Three} → Ready p mul lim → Measured p g h gh ie b e l → Blank o → TurnIn p mul lim g h gh b l e o
   turn-in r m k = record {
@@ -248,8 +259,8 @@ module _ {p cap : ℕ} {g h gh : List ℕ} {ie : ℕ} {b : Seven} (i : Generator
               g-has = t .off .law (σ .prime) .g-has;
             }
 
-      pub divided : (o : Cuts) → o .x ≡ ox .b → o .y ≡ oy .b → o .d ≡ l → Divided p g h gh b made o
-      divided o ex ey ed = record {
+      pub divided : (o : Cuts) → o .x ≡ ox .b → o .y ≡ oy .b → o .d ≡ l → Size (b .m0) (o .m0) → Size (b .u) (o .u) → Divided p g h gh b made o
+      divided o ex ey ed sm su = record {
         are = record {
           hx = tx .spans .hb;
           hy = ty .spans .hb;
@@ -263,4 +274,6 @@ module _ {p cap : ℕ} {g h gh : List ℕ} {ie : ℕ} {b : Seven} (i : Generator
         size-x = subst (Size (x .b)) (sym ex) (tx .spans .sb);
         size-y = subst (Size (y .b)) (sym ey) (ty .spans .sb);
         size-u = subst (Size u) (sym ed) (t .size);
+        was-m0 = sm;
+        was-u = su;
       }

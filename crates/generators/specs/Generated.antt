@@ -75,9 +75,12 @@ pub record AreGenerators (p : ℕ) (g h gh : List ℕ) (b : Seven) (o : Generato
   pub hu : Row p (o .u)
   pub each : {G H : List ℕ} (σ : Accepted p G H) → Holds σ g h gh → Good (setting σ) (rowsOf σ b) → Generated σ b o
 
-pub record DividedIn (p mul lim cap : ℕ) (g h gh : List ℕ) (ie : ℕ) (b : Seven) (x y : Three) (d : List ℕ) : Type 0 where
+pub record DividedIn (p mul lim cap : ℕ) (g : List ℕ) (lg : ℕ) (h : List ℕ) (lh : ℕ) (gh : List ℕ) (ie : ℕ) (b : Seven) (x y : Three) (d : List ℕ) : Type 0 where
   pub inp : GeneratorsIn p cap g h gh ie b
   pub ready : Ready p mul lim
+  pub sg : Size g lg
+  pub sh : Size h lh
+  pub sgh : Size gh cap
   pub blank-x : Blank x
   pub blank-y : Blank y
   pub blank-d : d ≡ replicate 32 0
@@ -87,3 +90,5 @@ pub record Divided (p : ℕ) (g h gh : List ℕ) (b : Seven) (o : Generators) (c
   pub size-x : Size (o .x) (c .x)
   pub size-y : Size (o .y) (c .y)
   pub size-u : Size (o .u) (c .d)
+  pub was-m0 : Size (b .m0) (c .m0)
+  pub was-u : Size (b .u) (c .u)

@@ -1,5 +1,6 @@
 -- r m and w m in coordinates, from the rows of a good basis.
---   lengths_of          LengthsIn, Measured: the lengths of all rows, and e = M1 N2 − M2 N1
+--   lengths_of          LengthsIn, Found: the lengths of the seven rows, with those of G, H and G H, and e = M1 N2 − M2 N1
+--   Measured            the lengths are those of all rows
 --   TurnIn              the rows of `GeneratorsIn`, their lengths, and three zero rows to write into
 --   Says σ b v t        the rows t hold every coordinates of v
 --   turned_r, turned_w  TurnedR, TurnedW: the coordinates of r m and w m, with their lengths
@@ -21,10 +22,22 @@ use Rattle.generators.specs.Generated.{GeneratorsIn}
 use Rattle.generators.specs.declared.Spans.{Spans}
 use Rattle.generators.specs.declared.Lengths.{Lengths}
 
-pub record LengthsIn (p mul lim cap : ℕ) (g h gh : List ℕ) (ie : ℕ) (b : Seven) (e : List ℕ) : Type 0 where
+pub record LengthsIn (p mul lim cap ie : ℕ) (b : Seven) (e : List ℕ) : Type 0 where
+  pub g : List ℕ
+  pub h : List ℕ
+  pub gh : List ℕ
   pub inp : GeneratorsIn p cap g h gh ie b
   pub ready : Ready p mul lim
   pub blank : e ≡ replicate 32 0
+
+pub record Found (p cap lg lh ie : ℕ) (b : Seven) (e : List ℕ) (l : Lengths) : Type 0 where
+  pub seven : AreLengths b l
+  pub g-is : l .g ≡ lg
+  pub h-is : l .h ≡ lh
+  pub gh-is : l .gh ≡ cap
+  pub det : Det p (b .m1) (b .n2) (b .m2) (b .n1) e
+  pub se : Size e (l .e)
+  pub ie-is : l .ie ≡ ie
 
 pub record Measured (p : ℕ) (g h gh : List ℕ) (ie : ℕ) (b : Seven) (e : List ℕ) (l : Lengths) : Type 0 where
   pub seven : AreLengths b l

@@ -11,7 +11,7 @@ ghost use mathlib.Core.Path.{_≡_};
 ghost use Rattle.generators.specs.Rows.{seven};
 ghost use Rattle.generators.specs.Quotients.{three, DetIn, Det};
 ghost use Rattle.generators.specs.Known.{CoordsBy, CoordsOut};
-ghost use Rattle.generators.specs.Turns.{LengthsIn, Measured, TurnRIn, TurnedR, TurnWIn, TurnedW};
+ghost use Rattle.generators.specs.Turns.{LengthsIn, Found, TurnRIn, TurnedR, TurnWIn, TurnedW};
 ghost use Rattle.generators.specs.Common.{FourRows, Content, four, NegateIn, Negated, ShortenIn, Shortened, TakeIn, Taken};
 ghost use Rattle.generators.specs.Generated.{generators, DividedIn, Divided};
 
@@ -41,15 +41,14 @@ pub struct Lengths {
     pub ie: u64,
 }
 
-// The lengths of the rows, all of which end before cap, and e into the zero row e.
+// The lengths of the seven rows, all of which end before cap, with those of G and H, and e into the zero row e; cap is the length of G H.
 fn lengths_of(
     p: u64,
     q: Rapid,
     ie: u64,
     cap: usize,
-    g: &[u64; 32],
-    h: &[u64; 32],
-    gh: &[u64; 32],
+    g: usize,
+    h: usize,
     m0: &[u64; 32],
     m1: &[u64; 32],
     m2: &[u64; 32],
@@ -59,8 +58,8 @@ fn lengths_of(
     u: &[u64; 32],
     e: &mut [u64; 32],
 ) -> Lengths
-    requires { ⌜ LengthsIn p (q .m) (q .lim) cap (now g) (now h) (now gh) ie (seven (now m0) (now m1) (now m2) (now n0) (now n1) (now n2) (now u)) (now e) ⌝ }
-    ensures { λ l. ⌜ Measured p (now (g .entry)) (now (h .entry)) (now (gh .entry)) ie (seven (now (m0 .entry)) (now (m1 .entry)) (now (m2 .entry)) (now (n0 .entry)) (now (n1 .entry)) (now (n2 .entry)) (now (u .entry))) (now (e .exit)) l ⌝ }
+    requires { ⌜ LengthsIn p (q .m) (q .lim) cap ie (seven (now m0) (now m1) (now m2) (now n0) (now n1) (now n2) (now u)) (now e) ⌝ }
+    ensures { λ l. ⌜ Found p cap g h ie (seven (now (m0 .entry)) (now (m1 .entry)) (now (m2 .entry)) (now (n0 .entry)) (now (n1 .entry)) (now (n2 .entry)) (now (u .entry))) (now (e .exit)) l ⌝ }
 {
     let a = size_from(m0, cap);
     let b = size_from(m1, cap);
@@ -69,10 +68,7 @@ fn lengths_of(
     let f = size_from(n1, cap);
     let i = size_from(n2, cap);
     let j = size_from(u, cap);
-    let lg = size_from(g, cap);
-    let lh = size_from(h, cap);
-    let k = size_from(gh, cap);
-    let le = det_in(p, q, m1, b, n2, i, m2, c, n1, f, e);
+    let k = det_in(p, q, m1, b, n2, i, m2, c, n1, f, e);
     Lengths {
         m0: a,
         m1: b,
@@ -81,10 +77,10 @@ fn lengths_of(
         n1: f,
         n2: i,
         u: j,
-        g: lg,
-        h: lh,
-        gh: k,
-        e: le,
+        g,
+        h,
+        gh: cap,
+        e: k,
         ie,
     }
 }
@@ -316,23 +312,27 @@ fn taken_off(
     }
 }
 
-// The degree of what was taken off, and the lengths of x1, y1 and of the denominator.
+// The degree of what was taken off, and the lengths of x1, y1, of the denominator, of M0 and of U.
 pub struct Cuts {
     pub cut: usize,
     pub x: usize,
     pub y: usize,
     pub d: usize,
+    pub m0: usize,
+    pub u: usize,
 }
 
 // r m = x0 + x1 m + x2 n and w m = y0 + y1 m + y2 n, into seven zero rows: -x0/k, x1, x2/k, y0/k, y1, -y2/k, where k is what x0, x2, y0, y2
-// have in common, and the denominator d = (x2 y0 - x0 y2)/k. The pairs (-y2, x2)/k and (y0, -x0)/k are the generators P and Q. All rows
-// lent end before cap; ie = -lead(G H) is the inverse of the leading coefficient of e.
+// have in common, and the denominator d = (x2 y0 - x0 y2)/k. The pairs (-y2, x2)/k and (y0, -x0)/k are the generators P and Q. lg, lh and
+// cap are the lengths of G, H and G H, and all rows lent end before cap; ie = -lead(G H) is the inverse of the leading coefficient of e.
 pub fn divided(
     p: u64,
     q: Rapid,
     cap: usize,
     g: &[u64; 32],
+    lg: usize,
     h: &[u64; 32],
+    lh: usize,
     gh: &[u64; 32],
     ie: u64,
     m0: &[u64; 32],
@@ -350,11 +350,11 @@ pub fn divided(
     yc: &mut [u64; 32],
     d: &mut [u64; 32],
 ) -> Cuts
-    requires { ⌜ DividedIn p (q .m) (q .lim) cap (now g) (now h) (now gh) ie (seven (now m0) (now m1) (now m2) (now n0) (now n1) (now n2) (now u)) (three (now xa) (now xb) (now xc)) (three (now ya) (now yb) (now yc)) (now d) ⌝ }
+    requires { ⌜ DividedIn p (q .m) (q .lim) cap (now g) lg (now h) lh (now gh) ie (seven (now m0) (now m1) (now m2) (now n0) (now n1) (now n2) (now u)) (three (now xa) (now xb) (now xc)) (three (now ya) (now yb) (now yc)) (now d) ⌝ }
     ensures { λ o. ⌜ Divided p (now (g .entry)) (now (h .entry)) (now (gh .entry)) (seven (now (m0 .entry)) (now (m1 .entry)) (now (m2 .entry)) (now (n0 .entry)) (now (n1 .entry)) (now (n2 .entry)) (now (u .entry))) (generators (now (xb .exit)) (now (yb .exit)) (now (yc .exit)) (now (xc .exit)) (now (ya .exit)) (now (xa .exit)) (now (d .exit)) (o .cut)) o ⌝ }
 {
     let mut e: [u64; 32] = [0; 32];
-    let l = lengths_of(p, q, ie, cap, g, h, gh, m0, m1, m2, n0, n1, n2, u, &mut e);
+    let l = lengths_of(p, q, ie, cap, lg, lh, m0, m1, m2, n0, n1, n2, u, &mut e);
     let x = turned_r(p, q, h, gh, m0, m1, m2, n0, n1, n2, u, l, &e, xa, xb, xc);
     let y = turned_w(p, q, g, gh, m0, m1, m2, n0, n1, n2, u, l, &e, ya, yb, yc);
     negate(p, xa, x.a);
@@ -365,5 +365,7 @@ pub fn divided(
         x: x.b,
         y: y.b,
         d: o.d,
+        m0: l.m0,
+        u: l.u,
     }
 }

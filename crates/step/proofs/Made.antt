@@ -1,7 +1,7 @@
 -- What `advanced` makes is the step: the rows that are loaded, the seven polynomials that come back, and the degree of m.
 use mathlib.Core.Path.{_≡_, refl, sym, ap, ap₂, _∙_, subst}
 use mathlib.Core.List.{List}
-use Prim.Native.Nat.{ℕ, zero, suc, _+_, _-_, _<_, _≤_}
+use Prim.Native.Nat.{ℕ, zero, suc, _+_, _*_, _-_, _<_, _≤_}
 use native.Mathlib.Omega.{arith}
 use lib.ListN.{getD}
 use Rattle.ring.specs.Ring.{Ops, CRing}
@@ -31,6 +31,7 @@ use Rattle.chain.proofs.Frame.{pair, off, Framed, Rebased}
 use Rattle.chain.proofs.Correct.{Ends, base-framed, step-correct}
 use Rattle.record.specs.Record.{part, setting, polyOf, basisOf, IsRecord}
 use Rattle.generators.specs.Rows.{Seven, seven, AreRows, rowsOf}
+use Rattle.generators.proofs.Products.{sizes}
 use Rattle.generators.specs.Generated.{Generators, Generated, GeneratorsIn, AreGenerators}
 use Rattle.reduce.specs.Frame.{frame, Meaning}
 use Rattle.basis.specs.Store.{SevenLoaded}
@@ -125,12 +126,13 @@ module _ {p : ℕ} {g h gh : List ℕ} {n dr dw : ℕ} {r w B : List ℕ} (i : A
   pub n-small : n ≤ 16
   n-small = let e : n ≡ A .degG + A .degH = i .keeps .known A .n-is in let q : A .degG + A .degH ≤ 16 = A .sum in omega arith
 
+  pub gh-size : Size gh (n + 1)
+  gh-size = subst (Size gh) (omega (arith, i .keeps .known A .n-is))
+      (size-of (reading p (A .prime)) (i .keeps .hgh) (d.has-eq (reading p (A .prime) .𝓥) (d.has-mul (reading p (A .prime) .𝓥) (setting A .G-deg) (setting A .H-deg)) (sym (i .keeps .known A .holds .gh-is))))
+
   -- G H leads at n
   lead-at : (m : ℕ) → Size gh m → getD gh n 0 ≡ getD gh (m - 1) 0
-  lead-at m s =
-      let 𝓥 = reading p (A .prime) .𝓥 in
-      let e : m ≡ suc (A .degG + A .degH) = size-one s (size-of (reading p (A .prime)) (i .keeps .hgh) (d.has-eq 𝓥 (d.has-mul 𝓥 (setting A .G-deg) (setting A .H-deg)) (sym (i .keeps .known A .holds .gh-is)))) in
-      ap (λ j. getD gh j 0) (let q : n ≡ A .degG + A .degH = i .keeps .known A .n-is in let w : n ≡ m - 1 = omega arith in w)
+  lead-at m s = let e : m ≡ n + 1 = size-one s gh-size in ap (λ j. getD gh j 0) (let w : n ≡ m - 1 = omega arith in w)
 
   pub lead-low : getD gh n 0 ≤ p
   lead-low = let t : getD gh n 0 < p = i .keeps .hgh .each n in omega arith
@@ -150,6 +152,24 @@ module _ {p : ℕ} {g h gh : List ℕ} {n dr dw : ℕ} {r w B : List ℕ} (i : A
     past = (let q : n ≡ A .degG + A .degH = i .keeps .known A .n-is in omega arith);
     fits = (let q : n ≤ 16 = n-small in omega arith);
   }
+
+  -- the lengths of G, H and G H; deg G = 2 deg w − deg r and deg H = 2 deg r − deg w
+  pub degrees-small : (dr ≤ 16) × (dw ≤ 16)
+  degrees-small = (omega (arith, i .keeps .known A .dr-is, i .keeps .known A .n-is, sizes A b good-rows .both, n-small), omega (arith, i .keeps .known A .dw-is, i .keeps .known A .n-is, sizes A b good-rows .both, n-small))
+
+  pub dr-low : dr ≤ 2 * dw
+  dr-low = omega (arith, i .keeps .known A .dr-is, i .keeps .known A .dw-is, sizes A b good-rows .two-r, sizes A b good-rows .both)
+
+  pub dw-low : dw ≤ 2 * dr
+  dw-low = omega (arith, i .keeps .known A .dr-is, i .keeps .known A .dw-is, sizes A b good-rows .two-r, sizes A b good-rows .both)
+
+  pub g-size : Size g (2 * dw + 1 - dr)
+  g-size = subst (Size g) (omega (arith, i .keeps .known A .dr-is, i .keeps .known A .dw-is, sizes A b good-rows .two-r, sizes A b good-rows .both))
+      (size-of (reading p (A .prime)) (i .keeps .hg) (d.has-eq (reading p (A .prime) .𝓥) (setting A .G-deg) (sym (i .keeps .known A .holds .g-is))))
+
+  pub h-size : Size h (2 * dr + 1 - dw)
+  h-size = subst (Size h) (omega (arith, i .keeps .known A .dr-is, i .keeps .known A .dw-is, sizes A b good-rows .two-r, sizes A b good-rows .both))
+      (size-of (reading p (A .prime)) (i .keeps .hh) (d.has-eq (reading p (A .prime) .𝓥) (setting A .H-deg) (sym (i .keeps .known A .holds .h-is))))
 
   pub shorter : (lm lu : ℕ) → Size (b .m0) lm → Size (b .u) lu → lu ≤ lm
   shorter lm lu sm su = degree-of A b are-rows good-rows lm lu sm su .0

@@ -1,12 +1,11 @@
 -- A step on rows, and its first half: from the record to the generators of the ideal divided by m.
 --   AdvanceOn   what `advanced` asks, and seven zero rows
---   PartIn      the same for some series r, w
+--   PartIn      the same for some series r, w of the degrees dr, dw
 --   Parting     the generators (`Divided` of crate generators) of the seven rows of the record, and the degree of m
 use mathlib.Core.Path.{_≡_}
 use mathlib.Core.List.{List}
 use Prim.Native.Nat.{ℕ, _-_}
 use lib.ListN.{replicate}
-use Rattle.reading.specs.Row.{Size}
 use Rattle.poly.specs.Terms.{Ready}
 use Rattle.generators.specs.Rows.{Seven}
 use Rattle.generators.specs.Quotients.{Three}
@@ -23,9 +22,7 @@ pub record AdvanceOn (p mul lim : ℕ) (g h gh : List ℕ) (n dr dw : ℕ) (r w 
   pub blank-y : Blank y
   pub blank-d : d ≡ replicate 32 0
 
-pub record PartIn (p mul lim : ℕ) (g h gh : List ℕ) (n : ℕ) (B : List ℕ) (x y : Three) (d : List ℕ) : Type 0 where
-  pub dr : ℕ
-  pub dw : ℕ
+pub record PartIn (p mul lim : ℕ) (g h gh : List ℕ) (n dr dw : ℕ) (B : List ℕ) (x y : Three) (d : List ℕ) : Type 0 where
   pub r : List ℕ
   pub w : List ℕ
   pub on : AdvanceOn p mul lim g h gh n dr dw r w B x y d
@@ -33,9 +30,7 @@ pub record PartIn (p mul lim : ℕ) (g h gh : List ℕ) (n : ℕ) (B : List ℕ)
 pub record Parting (p : ℕ) (g h gh B : List ℕ) (o : Generators) (k : Measures) : Type 0 where
   pub b : Seven
   pub loaded : SevenLoaded B b
-  pub divided : Divided p g h gh b o (record { cut = k .cut; x = k .x; y = k .y; d = k .d })
   pub lm : ℕ
   pub lu : ℕ
-  pub size-m : Size (b .m0) lm
-  pub size-u : Size (b .u) lu
+  pub divided : Divided p g h gh b o (record { cut = k .cut; x = k .x; y = k .y; d = k .d; m0 = lm; u = lu })
   pub degree : k .degree ≡ lm - lu

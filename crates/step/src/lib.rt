@@ -4,7 +4,6 @@ use basis::reduced_basis;
 use generators::divided;
 use poly::Rapid;
 use poly::rapid_of;
-use poly::size_from;
 use reduce::Bounds;
 ghost use Rattle.generators.specs.Quotients.{three};
 ghost use Rattle.generators.specs.Generated.{generators};
@@ -20,7 +19,8 @@ pub struct Measures {
     pub d: usize,
 }
 
-// The generators of the ideal divided by m, into seven zero rows: the rows of the record end before n + 1.
+// The generators of the ideal divided by m, into seven zero rows. The rows of the record end before n + 1, the length of G H; those of
+// G and H follow from the degrees of r and w, which are (g + 2h)/3 and (2g + h)/3.
 fn parted(
     p: u64,
     q: Rapid,
@@ -28,6 +28,8 @@ fn parted(
     h: &[u64; 32],
     gh: &[u64; 32],
     n: usize,
+    dr: usize,
+    dw: usize,
     b: &[u16; 119],
     nc: &mut [u64; 32],
     x: &mut [u64; 32],
@@ -37,7 +39,7 @@ fn parted(
     mb: &mut [u64; 32],
     d: &mut [u64; 32],
 ) -> Measures
-    requires { ⌜ PartIn p (q .m) (q .lim) (now g) (now h) (now gh) n (now b) (three (now nc) (now x) (now mc)) (three (now nb) (now y) (now mb)) (now d) ⌝ }
+    requires { ⌜ PartIn p (q .m) (q .lim) (now g) (now h) (now gh) n dr dw (now b) (three (now nc) (now x) (now mc)) (three (now nb) (now y) (now mb)) (now d) ⌝ }
     ensures { λ o. ⌜ Parting p (now (g .entry)) (now (h .entry)) (now (gh .entry)) (now (b .entry)) (generators (now (x .exit)) (now (y .exit)) (now (mb .exit)) (now (mc .exit)) (now (nb .exit)) (now (nc .exit)) (now (d .exit)) (o .cut)) o ⌝ }
 {
     let m0 = load(b, 0);
@@ -47,15 +49,15 @@ fn parted(
     let n1 = load(b, 4);
     let n2 = load(b, 5);
     let u = load(b, 6);
-    let lm = size_from(&m0, n + 1);
-    let lu = size_from(&u, n + 1);
     let l = gh[n];
     let k = divided(
         p,
         q,
         n + 1,
         g,
+        2 * dw + 1 - dr,
         h,
+        2 * dr + 1 - dw,
         gh,
         p - l,
         &m0,
@@ -74,7 +76,7 @@ fn parted(
         d,
     );
     Measures {
-        degree: lm - lu,
+        degree: k.m0 - k.u,
         cut: k.cut,
         x: k.x,
         y: k.y,
@@ -112,7 +114,7 @@ fn advance_in(
     requires { ⌜ AdvanceOn p (q .m) (q .lim) (now g) (now h) (now gh) n dr dw (now r) (now w) (now b) (three (now nc) (now x) (now mc)) (three (now nb) (now y) (now mb)) (now d) ⌝ }
     ensures { λ o. ⌜ Advanced p (now (g .entry)) (now (h .entry)) (now (gh .entry)) n dr dw (now (r .entry)) (now (w .entry)) (now (b .entry)) o ⌝ }
 {
-    let k = parted(p, q, g, h, gh, n, b, nc, x, mc, nb, y, mb, d);
+    let k = parted(p, q, g, h, gh, n, dr, dw, b, nc, x, mc, nb, y, mb, d);
     let f = Bounds {
         p,
         dr,

@@ -150,9 +150,9 @@ no-longer {p} i {n = n} a r s t =
     size-le ρ n r s (lt-eq (ρ .𝓥) (lt-scale (ρ .𝓥) (unit-const (ρ .𝓥) (a .v) (a .v-unit)) (size-lt ρ t)) (sym (ap (λ z. z .0) (a .u))))
 
 pub divided-lengths : {p cap : ℕ} {g h gh : List ℕ} {ie : ℕ} {b : Seven} {o o′ : Generators} {c c′ : Cuts} → GeneratorsIn p cap g h gh ie b → Divided p g h gh b o c → Divided p g h gh b o′ c′
-    → (c .x ≡ c′ .x) × (c .y ≡ c′ .y) × (c .d ≡ c′ .d)
+    → (c .x ≡ c′ .x) × (c .y ≡ c′ .y) × (c .d ≡ c′ .d) × (c .m0 ≡ c′ .m0) × (c .u ≡ c′ .u)
 divided-lengths {p} {o = o} {o′ = o′} {c = c} {c′ = c′} i s t =
     let a = divided-one o o′ i (s .are) (t .are) in
     let l : c .d ≤ c′ .d = no-longer i a (s .are .hu) (s .size-u) (t .size-u) in
     let m : c′ .d ≤ c .d = no-longer i (divided-one o′ o i (t .are) (s .are)) (t .are .hu) (t .size-u) (s .size-u) in
-    (size-one (subst (λ z. Size z (c .x)) (a .x) (s .size-x)) (t .size-x), size-one (subst (λ z. Size z (c .y)) (a .y) (s .size-y)) (t .size-y), omega arith)
+    (size-one (subst (λ z. Size z (c .x)) (a .x) (s .size-x)) (t .size-x), size-one (subst (λ z. Size z (c .y)) (a .y) (s .size-y)) (t .size-y), omega arith, size-one (s .was-m0) (t .was-m0), size-one (s .was-u) (t .was-u))

@@ -5,7 +5,7 @@ use Rattle.step.proofs.advance_in.Statement.{statement}
 use Rattle.step.proofs.advance_in.Tie as tie
 
 parted-requires : tie.Need-parted-requires
-parted-requires c κs = record { dr = _; dw = _; r = _; w = _; on = c .before .before .before .before .before .before .before .pre }
+parted-requires c κs = record { r = _; w = _; on = c .before .before .before .before .before .before .before .pre }
 
 add-t29 : tie.Need-add-t29
 add-t29 c = omega (arith, n-small (c .before .before .before .before .before .before .before .before .pre .inp) (c .parted .ensures .loaded))
@@ -22,7 +22,7 @@ reduced-basis-requires c κs =
 returns : tie.Need-returns
 returns c =
     let k = c .before .before .before .before .before .before .before .before .before .parted .ensures in
-    advanced-of (c .before .before .before .before .before .before .before .before .before .before .before .before .before .before .before .before .before .pre .inp) (k .loaded) (k .divided .are) (k .lm) (k .lu) (k .size-m) (k .size-u) _ (c .reduced-basis .ensures) (k .degree)
+    advanced-of (c .before .before .before .before .before .before .before .before .before .before .before .before .before .before .before .before .before .pre .inp) (k .loaded) (k .divided .are) (k .lm) (k .lu) (k .divided .was-m0) (k .divided .was-u) _ (c .reduced-basis .ensures) (k .degree)
 
 pub advance-in-spec : {M : Type 1} → statement M
 advance-in-spec =

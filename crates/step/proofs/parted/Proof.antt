@@ -3,9 +3,8 @@ use mathlib.Core.Path.{refl}
 use native.Mathlib.Omega.{arith}
 use borrow.Author.Needs.{needs}
 use Rattle.generators.specs.Rows.{seven}
-use Rattle.generators.proofs.Products.{m0-ends, n0-ends, u-ends}
 use Rattle.basis.specs.Store.{SevenLoaded}
-use Rattle.step.proofs.Made.{lead-low, divided-in, n-small, shorter}
+use Rattle.step.proofs.Made.{lead-low, divided-in, n-small, g-size, h-size, gh-size, dr-low, dw-low, degrees-small, shorter}
 use Rattle.step.proofs.parted.Statement.{statement}
 use Rattle.step.proofs.parted.Tie as tie
 
@@ -34,40 +33,47 @@ load-requires-6 c κs = search needs
 load-requires-7 : tie.Need-load-requires-7
 load-requires-7 c κs = search needs
 
-add-size-from : tie.Need-add-size-from
-add-size-from c = omega (arith, n-small (c .before .before .before .before .before .before .before .before .pre .on .inp) (seven-loaded (c .before)))
-
-size-from-requires : tie.Need-size-from-requires
-size-from-requires c κs = let i = divided-in (c .before .before .before .before .before .before .before .before .pre .on .inp) (seven-loaded (c .before)) in search (m0-ends i, n0-ends i)
-
-add-size-from-2 : tie.Need-add-size-from-2
-add-size-from-2 c = omega (arith, n-small (c .before .before .before .before .before .before .before .before .before .before .pre .on .inp) (seven-loaded (c .before .before .before)))
-
-size-from-requires-2 : tie.Need-size-from-requires-2
-size-from-requires-2 c κs = u-ends (divided-in (c .before .before .before .before .before .before .before .before .before .before .pre .on .inp) (seven-loaded (c .before .before .before)))
-
 mul-l : tie.Need-mul-l
-mul-l c = omega (arith, n-small (c .before .before .before .before .before .before .before .before .before .before .before .pre .on .inp) (seven-loaded (c .before .before .before .before)))
+mul-l c = omega (arith, n-small (c .before .before .before .before .before .before .before .pre .on .inp) (seven-loaded c))
 
 element-copy-out-l : tie.Need-element-copy-out-l
-element-copy-out-l c = omega (arith, n-small (c .before .before .before .before .before .before .before .before .before .before .before .pre .on .inp) (seven-loaded (c .before .before .before .before)))
+element-copy-out-l c = omega (arith, n-small (c .before .before .before .before .before .before .before .pre .on .inp) (seven-loaded c))
 
 add-divided : tie.Need-add-divided
-add-divided c = omega (arith, n-small (c .before .before .before .before .before .before .before .before .before .before .before .before .pre .on .inp) (seven-loaded (c .before .before .before .before .before)))
+add-divided c = omega (arith, n-small (c .before .before .before .before .before .before .before .before .pre .on .inp) (seven-loaded (c .before)), degrees-small (c .before .before .before .before .before .before .before .before .pre .on .inp) (seven-loaded (c .before)))
+
+mul-divided : tie.Need-mul-divided
+mul-divided c = omega (arith, n-small (c .before .before .before .before .before .before .before .before .pre .on .inp) (seven-loaded (c .before)), degrees-small (c .before .before .before .before .before .before .before .before .pre .on .inp) (seven-loaded (c .before)))
+
+add-divided-2 : tie.Need-add-divided-2
+add-divided-2 c = omega (arith, n-small (c .before .before .before .before .before .before .before .before .pre .on .inp) (seven-loaded (c .before)), degrees-small (c .before .before .before .before .before .before .before .before .pre .on .inp) (seven-loaded (c .before)))
+
+mul-divided-2 : tie.Need-mul-divided-2
+mul-divided-2 c = omega (arith, n-small (c .before .before .before .before .before .before .before .before .pre .on .inp) (seven-loaded (c .before)), degrees-small (c .before .before .before .before .before .before .before .before .pre .on .inp) (seven-loaded (c .before)))
+
+add-divided-3 : tie.Need-add-divided-3
+add-divided-3 c = omega (arith, n-small (c .before .before .before .before .before .before .before .before .pre .on .inp) (seven-loaded (c .before)), degrees-small (c .before .before .before .before .before .before .before .before .pre .on .inp) (seven-loaded (c .before)))
 
 sub-divided : tie.Need-sub-divided
-sub-divided c = lead-low (c .before .before .before .before .before .before .before .before .before .before .before .before .pre .on .inp) (seven-loaded (c .before .before .before .before .before))
+sub-divided c = omega (arith, dr-low (c .before .before .before .before .before .before .before .before .pre .on .inp) (seven-loaded (c .before)))
+
+sub-divided-2 : tie.Need-sub-divided-2
+sub-divided-2 c = omega (arith, dw-low (c .before .before .before .before .before .before .before .before .pre .on .inp) (seven-loaded (c .before)))
+
+sub-divided-3 : tie.Need-sub-divided-3
+sub-divided-3 c = lead-low (c .before .before .before .before .before .before .before .before .pre .on .inp) (seven-loaded (c .before))
 
 divided-requires : tie.Need-divided-requires
 divided-requires c κs =
-    let s = c .before .before .before .before .before .before .before .before .before .before .before .before .before .before .before .before .before .before .before .before .before .before .before .before .before .before .pre in
-    record { inp = divided-in (c .before .before .before .before .before .before .before .before .before .before .before .before .before .before .before .before .before .before .before .before .before .before .before .before .before .before .pre .on .inp) (seven-loaded (c .before .before .before .before .before .before .before .before .before .before .before .before .before .before .before .before .before .before .before)); ready = s .on .ready; blank-x = s .on .blank-x; blank-y = s .on .blank-y; blank-d = s .on .blank-d }
+    let s = c .before .before .before .before .before .before .before .before .before .before .before .before .before .before .before .before .before .before .before .before .before .before .pre in
+    let l = seven-loaded (c .before .before .before .before .before .before .before .before .before .before .before .before .before .before .before) in
+    record { inp = divided-in (s .on .inp) l; ready = s .on .ready; sg = g-size (s .on .inp) l; sh = h-size (s .on .inp) l; sgh = gh-size (s .on .inp) l; blank-x = s .on .blank-x; blank-y = s .on .blank-y; blank-d = s .on .blank-d }
 
-sub-t28 : tie.Need-sub-t28
-sub-t28 c = shorter (c .before .before .before .before .before .before .before .before .before .before .before .before .before .before .before .before .before .before .before .before .before .before .before .before .before .before .before .pre .on .inp) (seven-loaded (c .before .before .before .before .before .before .before .before .before .before .before .before .before .before .before .before .before .before .before .before)) _ _ (c .before .before .before .before .before .before .before .before .before .before .before .before .before .before .before .before .before .before .size-from .ensures) (c .before .before .before .before .before .before .before .before .before .before .before .before .before .before .before .before .size-from2 .ensures)
+sub-t27 : tie.Need-sub-t27
+sub-t27 c = shorter (c .before .before .before .before .before .before .before .before .before .before .before .before .before .before .before .before .before .before .before .before .before .before .before .before .pre .on .inp) (seven-loaded (c .before .before .before .before .before .before .before .before .before .before .before .before .before .before .before .before .before)) _ _ (c .before .divided .ensures .was-m0) (c .before .divided .ensures .was-u)
 
 returns : tie.Need-returns
-returns c = record { b = _; loaded = seven-loaded (c .before .before .before .before .before .before .before .before .before .before .before .before .before .before .before .before .before .before .before .before); divided = c .divided .ensures; lm = _; lu = _; size-m = c .before .before .before .before .before .before .before .before .before .before .before .before .before .before .before .before .before .before .size-from .ensures; size-u = c .before .before .before .before .before .before .before .before .before .before .before .before .before .before .before .before .size-from2 .ensures; degree = refl }
+returns c = record { b = _; loaded = seven-loaded (c .before .before .before .before .before .before .before .before .before .before .before .before .before .before .before .before .before); lm = _; lu = _; divided = c .before .divided .ensures; degree = refl }
 
 pub parted-spec : {M : Type 1} → statement M
 parted-spec =
@@ -80,14 +86,16 @@ parted-spec =
     load-requires-5
     load-requires-6
     load-requires-7
-    add-size-from
-    size-from-requires
-    add-size-from-2
-    size-from-requires-2
     mul-l
     element-copy-out-l
     add-divided
+    mul-divided
+    add-divided-2
     sub-divided
+    mul-divided-2
+    add-divided-3
+    sub-divided-2
+    sub-divided-3
     divided-requires
-    sub-t28
+    sub-t27
     returns)
