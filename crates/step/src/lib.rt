@@ -19,8 +19,8 @@ pub struct Measures {
     pub d: usize,
 }
 
-// The generators of the ideal divided by m, into seven zero rows. The rows of the record end before n + 1, the length of G H; those of
-// G and H follow from the degrees of r and w, which are (g + 2h)/3 and (2g + h)/3.
+// The generators of the ideal divided by m, into seven zero rows. The rows of the record end before n + 1, which is the length of G H.
+// The lengths of G and H follow from the degrees of r and w: these are (deg G + 2 deg H)/3 and (2 deg G + deg H)/3.
 fn parted(
     p: u64,
     q: Rapid,
