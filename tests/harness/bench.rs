@@ -7,6 +7,7 @@ use std::process::Command;
 use std::time::Instant;
 
 const BUDGET: u64 = 60000;
+const ROUNDS: usize = 7;
 
 /// p, G, H of walks over a range of degrees.
 const FIELDS: [(u64, &str, &str); 9] = [
@@ -33,38 +34,43 @@ fn least<T>(mut f: impl FnMut() -> T) -> (f64, T) {
     (best, last.expect("three calls"))
 }
 
+/// Steps a second of one walk of ours from the order.
 fn steps_per_second(x: &Field) -> f64 {
-    let mut start = [0; 119];
-    assert_eq!(x.order(&mut start), 0);
-    let (t, (_, steps, _)) = least(|| {
-        let mut rows = start;
-        x.walk(BUDGET, &mut rows)
-    });
-    steps as f64 / t
+    let mut rows = [0; 119];
+    assert_eq!(x.order(&mut rows), 0);
+    let t = Instant::now();
+    let (_, steps, _) = x.walk(BUDGET, &mut rows);
+    steps as f64 / t.elapsed().as_secs_f64()
 }
 
-/// The best of three runs of another walker, if it says a number.
+/// The same of another walker, if it says a number.
 fn other(program: &str, p: u64, g: &str, h: &str) -> Option<f64> {
-    let run = || -> Option<f64> {
-        let out = Command::new(program).args([&p.to_string(), g, h, &BUDGET.to_string()]).output().ok()?;
-        let text = String::from_utf8_lossy(&out.stdout).into_owned();
-        let words: Vec<&str> = text.split_whitespace().collect();
-        let i = words.iter().position(|w| w.starts_with("steps/s"))?;
-        words.get(i.checked_sub(1)?)?.parse().ok()
-    };
-    (0..3).filter_map(|_| run()).fold(None, |a, b| Some(a.map_or(b, |x: f64| x.max(b))))
+    let out = Command::new(program).args([&p.to_string(), g, h, &BUDGET.to_string()]).output().ok()?;
+    let text = String::from_utf8_lossy(&out.stdout).into_owned();
+    let words: Vec<&str> = text.split_whitespace().collect();
+    let i = words.iter().position(|w| w.starts_with("steps/s"))?;
+    words.get(i.checked_sub(1)?)?.parse().ok()
 }
 
+/// The best of some rounds, in which the walkers take turns: what disturbs the machine for a while disturbs all of them.
 fn walks(others: &[String]) {
     for (p, g, h) in FIELDS {
         let x = Field { p, g: list(g), h: list(h) };
-        let ours = steps_per_second(&x);
+        let mut ours = 0f64;
+        let mut theirs = vec![0f64; others.len()];
+        for _ in 0..ROUNDS {
+            ours = ours.max(steps_per_second(&x));
+            for (o, best) in others.iter().zip(theirs.iter_mut()) {
+                *best = best.max(other(o, p, g, h).unwrap_or(0.0));
+            }
+        }
         print!("walk p={} degrees {} {}: {:.0} steps/s", p, x.g.len() - 1, x.h.len() - 1, ours);
-        for o in others {
+        for (o, best) in others.iter().zip(&theirs) {
             let name = o.rsplit('/').next().unwrap_or(o);
-            match other(o, p, g, h) {
-                Some(v) => print!("; {} {:.0}, ratio {:.2}", name, v, ours / v),
-                None => print!("; {} says nothing", name),
+            if *best > 0.0 {
+                print!("; {} {:.0}, ratio {:.2}", name, best, ours / best);
+            } else {
+                print!("; {} says nothing", name);
             }
         }
         println!();
