@@ -1,26 +1,22 @@
 -- The record of the order, in the words of the theory.
 --   based-ends    what `Based` says of a record's rows is the end of the reduction as crate chain has it
---   based-framed, based-U, based-changed    and the rest of it: what `Rebased` of crate chain asks
 --   order-start   for an accepted field, whose series the two lists read, the record that `order` makes is the basis of the order O
 use mathlib.Core.Path.{_≡_, refl, sym, ap, ap₂, _∙_, subst}
 use mathlib.Core.List.{List}
 use Prim.Native.Nat.{ℕ}
 use native.Mathlib.Omega.{arith}
 use Rattle.ring.proofs.Laws as rg
-use Rattle.ring.specs.Ring.{Ops, CRing}
-use Rattle.valued.specs.Val.{Valued}
-use Rattle.valued.specs.Polynomial.{polys, IsUnit}
+use Rattle.valued.specs.Polynomial.{polys}
 use Rattle.valued.proofs.Degree.{lead-eq, same}
-use Rattle.valued.proofs.Polynomial.{P-path, const-unit}
-use Rattle.reading.specs.Reading.{Reading}
+use Rattle.valued.proofs.Polynomial.{P-path}
 use Rattle.reading.specs.Made.{reading}
 use Rattle.reading.specs.Row.{Reads}
-use Rattle.turn.specs.Points.{Pt, Moved}
+use Rattle.turn.specs.Points.{Moved}
 use Rattle.field.specs.Refusal.{Accepted}
-use Rattle.ideals.specs.Setting.{Setting, P}
+use Rattle.ideals.specs.Setting.{P}
 use Rattle.ideals.specs.Next.{Start}
 use Rattle.chain.proofs.Changed.{Pair, Changed}
-use Rattle.chain.proofs.Frame.{pair, Framed}
+use Rattle.chain.proofs.Frame.{pair}
 use Rattle.chain.proofs.Moved.{changed-of}
 use Rattle.chain.proofs.Correct.{Ends, order-correct}
 use Rattle.record.specs.Record.{part, setting, polyOf, basisOf}
@@ -40,20 +36,6 @@ module _ {p : ℕ} {G H : List ℕ} (A : Accepted p G H) (r w : List ℕ) (hr : 
 
   pub based-ends : {q : reduced.Pair} {d x1 y1 B : List ℕ} → BasedAt meaning q d x1 y1 B → Ends (setting A) (basisOf A B)
   based-ends b = record { u = b .u; x = b .x; y = b .y; U-lead = b .U-lead; X-M = b .X-M; Y-N = b .Y-N; u≤y = b .u≤y; X-N = b .X-N; Y-M = b .Y-M; Z-M = b .Z-M; Z-N = b .Z-N }
-
-  -- row 0 is framed by x1 and y1, U is d times a unit, and the pairs are those of q, changed
-  pub based-framed : {q : reduced.Pair} {d x1 y1 B : List ℕ} → BasedAt meaning q d x1 y1 B → Framed (setting A) (polyOf A x1) (polyOf A y1) (basisOf A B)
-  based-framed b = record { M-a = ((b .kM, b .kM-poly), P-path (reading p (A .prime) .𝓥) (b .M-a)); N-a = ((b .kN, b .kN-poly), P-path (reading p (A .prime) .𝓥) (b .N-a)) }
-
-  pub based-U : {q : reduced.Pair} {d x1 y1 B : List ℕ} → BasedAt meaning q d x1 y1 B
-      → (c : P (setting A)) × IsUnit (reading p (A .prime) .𝓥) c × (polyOf A (part 6 B) ≡ polys (reading p (A .prime) .𝓥) .ops .mul c (polyOf A d))
-  based-U b =
-      let v = reading p (A .prime) .𝓥 in
-      ((v .const (b .ν), v .const-poly (b .ν)), const-unit v _ (b .ν, b .ν-unit, v .const-lead (b .ν)), P-path v (b .U-eq))
-
-  pub based-changed : {q : reduced.Pair} {d x1 y1 B : List ℕ} → BasedAt meaning q d x1 y1 B
-      → Changed (reading p (A .prime) .𝓥) (record { b = polyOf A (q .mb); c = polyOf A (q .mc) }) (record { b = polyOf A (q .nb); c = polyOf A (q .nc) }) (pair (setting A) (basisOf A B .M)) (pair (setting A) (basisOf A B .N))
-  based-changed b = changed-of (reading p (A .prime)) _ _ _ _ (b .moved)
 
   module _ (B : List ℕ) (h : Based fieldFrame units unit nothing nothing B) where
     b : BasedAt meaning units unit nothing nothing B

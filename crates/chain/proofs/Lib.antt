@@ -10,6 +10,5 @@ pub mod Passed
 pub mod Closing
 pub mod Unit
 pub mod Rows
-pub mod Bounds
 pub mod Reduce
 pub mod Exists

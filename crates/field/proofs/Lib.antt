@@ -4,5 +4,3 @@ pub mod Parts
 pub mod Rows
 pub mod Factors
 pub mod Opening
-pub mod Held
-pub mod Examples

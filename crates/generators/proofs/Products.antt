@@ -150,9 +150,6 @@ module _ {p cap : ℕ} {g h gh : List ℕ} {ie : ℕ} {b : Seven} (i : Generator
   ends : {x : List ℕ} (k : ℕ) → Row p x → Lt (ρ .𝓥) (row ρ x) k → k ≤ cap → Cut x cap
   ends {x} k h l u = let (n, s) = sized x in let q : n ≤ k = size-le ρ k h s l in record { size = h .size; fits = i .fits; above = λ j w. s .above j (omega arith) }
 
-  pub factor-ends : {y : List ℕ} → Factor y → Cut y cap
-  factor-ends f = ends (suc (i .σ .degG + i .σ .degH)) (f .is-row) (f .low) (let q : i .σ .degG + i .σ .degH < cap = i .past in omega arith)
-
   pub m0-ends : Cut (b .m0) cap
   m0-ends = ends (suc (i .σ .degG + i .σ .degH)) (i .rows .m0) (z .m0) (let q : i .σ .degG + i .σ .degH < cap = i .past in omega arith)
 

@@ -1,5 +1,4 @@
 -- The low coefficients of a polynomial.
---   low-row      of a list's polynomial: the list
 --   low-unique   a polynomial of degree below n is its n low coefficients
 --   low-mix      of g x + h y only the low coefficients of x and y are asked for
 --   mix-law      the sums of terms are the low coefficients of g x + h y; scale-law: of s d
@@ -47,9 +46,6 @@ module _ {p : ℕ} (ρ : Reading p) where
       ∙ ap₂ (λ a b. a + const (f (N._+_ m n)) * b) (psum-split m n f) (tpow-add ρ m n)
       ∙ solve L (var 0 :+ var 1 :* var 2 :+ var 3 :* (var 4 :* var 1)) (var 0 :+ var 1 :* (var 2 :+ var 3 :* var 4)) tt
       (psum ρ n f ∷ tpow ρ n ∷ psum ρ m (λ i. f (N._+_ i n)) ∷ const (f (N._+_ m n)) ∷ tpow ρ m ∷ [])
-
-  pub low-row : (l : List ℕ) → Low ρ (length l) (row ρ l) l
-  low-row l = record { size = refl; rest = 𝟎; is-poly = 𝓥 .closed .𝟎; law = solve L (var 0) (var 0 :+ var 1 :* zer) tt (row ρ l ∷ tpow ρ (length l) ∷ []) }
 
   pub row-lt : (l : List ℕ) → Lt 𝓥 (row ρ l) (length l)
   unfolding row
