@@ -36,11 +36,13 @@ uint32_t zaminuk_step(uint64_t p, const uint64_t *g, size_t gn, const uint64_t *
 uint32_t zaminuk_walk(uint64_t p, const uint64_t *g, size_t gn, const uint64_t *h, size_t hn, uint64_t budget,
                       uint16_t rows[ZAMINUK_RECORD], uint64_t *steps, uint64_t *sum);
 
-/* Period and regulator, by at most `budget` steps from the order. */
+/* Period and regulator, by at most `budget` steps from the order. Twice the regulator is the least positive degree of a unit; with
+   refusal 10 no unit has a degree from 1 to the budget. */
 uint32_t zaminuk_from_order(uint64_t p, const uint64_t *g, size_t gn, const uint64_t *h, size_t hn, uint64_t budget,
                             uint64_t *period, uint64_t *regulator);
 
-/* The unit and its inverse: E0, E1, E2, F0, F1, F2 into rows, rn/6 coefficients each; scratch has the same length. */
+/* The fundamental unit, the smallest of positive degree with E0 monic, and its inverse: E0, E1, E2, F0, F1, F2 into rows, rn/6
+   coefficients each; scratch has the same length. */
 uint32_t zaminuk_unit(uint64_t p, const uint64_t *g, size_t gn, const uint64_t *h, size_t hn, uint64_t budget,
                       uint16_t *rows, size_t rn, uint16_t *scratch, size_t sn, uint64_t *period, uint64_t *regulator);
 

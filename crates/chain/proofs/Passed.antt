@@ -4,6 +4,7 @@
 --   Spans spans            so E, E m, E n lie in the order, span it, and their determinant is a unit, a constant that is not 0
 --   Filled chain-theorem   all of it in one theorem over the number of steps
 --   next-product           E_{j+1} = E_j M_j / U_j, an exact division
+--   product-unique product-scaled   a chain has one product, and what is scaled is a constant times it
 use mathlib.Core.Path.{_≡_, sym, ap, _∙_}
 use mathlib.Core.List.{List, [], _∷_}
 use Prim.Native.Nat.{ℕ, _≤_, _+_ as _+ⁿ_}
@@ -24,7 +25,7 @@ use Rattle.ideals.specs.Setting.{Setting, P}
 use Rattle.ideals.specs.Element.{O, sc, el-r, el-w, ev}
 use Rattle.ideals.specs.Ideal.{Basis}
 use Rattle.ideals.specs.Basis.{Good}
-use Rattle.ideals.specs.Next.{Over, Next, Whole, Start}
+use Rattle.ideals.specs.Next.{Next, At, Start}
 use Rattle.ideals.proofs.Sizes.{scE, ev-sc, sc-cancel}
 use Rattle.ideals.proofs.Values.{ev-mul, ev-one, Q-one}
 use Rattle.ideals.proofs.Lattice.{in-M, in-N, sc-mul}
@@ -54,7 +55,7 @@ module _ (S : Setting) where
   R = polys 𝓥
 
   -- ---- E · (Λ/U) = O goes on to E′ = E m
-  pub over-step : {n : ℕ} (B B′ : Basis S) (E : O S .El) → Has 𝓥 (B .U .0) n → Over S (Whole S) E B → Next S B B′ → (E′ : O S .El) × (E ⊗ B .M ≡ sc S (B .U) ⊗ E′) × Over S (Whole S) E′ B′
+  pub over-step : {n : ℕ} (B B′ : Basis S) (E : O S .El) → Has 𝓥 (B .U .0) n → At S B E → Next S B B′ → (E′ : O S .El) × (E ⊗ B .M ≡ sc S (B .U) ⊗ E′) × At S B′ E′
   over-step B B′ E hU over next = (
     E′,
     e₀,
@@ -83,7 +84,7 @@ module _ (S : Setting) where
           (solve-by (O S) (U :* (A′ :* v′)) (U :* (U′ :* z′)) (hyp (minus v′) (A :* M) (U :* A′) ∷ hyp A (M :* v′) (U′ :* u′) ∷ hyp U′ (A :* u′) (U :* z′) ∷ []) tt
           (sc S (B .U) ∷ sc S (B′ .U) ∷ B .M ∷ E ∷ E′ ∷ u ∷ v ∷ z ∷ []) (e₀, (e₁, (e₂, tt))))
 
-  pub over-start : (B : Basis S) → Start S B → Over S (Whole S) 1ₒ B
+  pub over-start : (B : Basis S) → Start S B → At S B 1ₒ
   over-start B st = record {
     into = λ v iv. (v, tt, ap (λ t. sc S t ⊗ v) (sym (st .U-one)));
     onto = λ u t. (u, st .whole u, ap (λ t. sc S t ⊗ u) (sym (st .U-one)));
@@ -93,7 +94,7 @@ module _ (S : Setting) where
   pub record Passed {B₀ : Basis S} {s n : ℕ} {B : Basis S} (c : Chain S B₀ s n B) : Type 0 where
     pub E : O S .El
     pub product : Product S c E
-    pub over : Over S (Whole S) E B
+    pub over : At S B E
     pub E-deg : Has 𝓥 (ev S E) n
     -- the cofactor's value has degree at most 0, and below 0 after a step
     pub low : Lt 𝓥 (F S E) 1
@@ -107,6 +108,13 @@ module _ (S : Setting) where
   -- one product
   pub product-unique : {B₀ : Basis S} {s n : ℕ} {B : Basis S} (c : Chain S B₀ s n B) (E E′ : O S .El) → Product S c E → Product S c E′ → E ≡ E′
   product-unique c E E′ p p′ = let (m, h) = bottoms-deg c in sc-cancel S (bottoms S c) E E′ h (p ∙ sym p′)
+
+  -- a scaled product is the constant times the product
+  pub product-scaled : {B₀ : Basis S} {s n : ℕ} {B : Basis S} (c : Chain S B₀ s n B) (a : P S) (E E′ : O S .El) →
+      sc S (bottoms S c) ⊗ E ≡ sc S a ⊗ tops S c → Product S c E′ → E ≡ sc S a ⊗ E′
+  product-scaled c a E E′ e p = sc-cancel S (bottoms S c) E (sc S a ⊗ E′) (bottoms-deg c .1)
+      (solve-by (O S) (var 0 :* var 1) (var 0 :* (var 2 :* var 3)) (hyp one (var 0 :* var 1) (var 2 :* var 4) ∷ hyp (minus (var 2)) (var 0 :* var 3) (var 4) ∷ []) tt
+      (sc S (bottoms S c) ∷ E ∷ sc S a ∷ E′ ∷ tops S c ∷ []) (e, (p, tt)))
 
   -- E′ with U E′ = E M is the product of one step more
   pub next-product : {B₀ : Basis S} {s n : ℕ} {B : Basis S} (c : Chain S B₀ s n B) (E E′ : O S .El) → Product S c E → E ⊗ B .M ≡ sc S (B .U) ⊗ E′ →
@@ -146,7 +154,7 @@ module _ (S : Setting) where
   abbrev tripleL : O S .El → O S .El → O S .El → P S → P S → P S → List (P S)
   tripleL x y z α β γ = G ∷ H ∷ α ∷ β ∷ γ ∷ x .a ∷ x .b ∷ x .c ∷ y .a ∷ y .b ∷ y .c ∷ z .a ∷ z .b ∷ z .c ∷ []
 
-  pub spans : {n : ℕ} (B : Basis S) (E e₂ e₃ : O S .El) → Has 𝓥 (B .U .0) n → Over S (Whole S) E B → E ⊗ B .M ≡ sc S (B .U) ⊗ e₂ → E ⊗ B .N ≡ sc S (B .U) ⊗ e₃ → Spans E e₂ e₃
+  pub spans : {n : ℕ} (B : Basis S) (E e₂ e₃ : O S .El) → Has 𝓥 (B .U .0) n → At S B E → E ⊗ B .M ≡ sc S (B .U) ⊗ e₂ → E ⊗ B .N ≡ sc S (B .U) ⊗ e₃ → Spans E e₂ e₃
   spans B E e₂ e₃ hU over f₂ f₃ = record { span = span; unit = unit }
     where
       span : (u : O S .El) → (α β γ : P S) × (u ≡ sc S α ⊗ E ⊕ sc S β ⊗ e₂ ⊕ sc S γ ⊗ e₃)

@@ -26,15 +26,15 @@ use Rattle.ideals.specs.Setting.{Setting, P}
 use Rattle.ideals.specs.Element.{O, sc, ev, Y, Z, norm, cof}
 use Rattle.ideals.specs.Ideal.{Basis}
 use Rattle.ideals.specs.Next.{Start}
-use Rattle.ideals.proofs.Sizes.{sc-a, sc-cancel, ev-sc, three-a}
+use Rattle.ideals.proofs.Sizes.{sc-a, sc-cancel, ev-sc, ev-flat, three-a}
 use Rattle.ideals.proofs.Values.{Q, Q-YZ, Q-mul, Q-one, ev-Q, ev-mul, ev-one, norm-mul, norm-cof, plain}
 use Rattle.ideals.proofs.Form.{has-two, has-three, form-lt}
 use Rattle.ideals.proofs.Lattice.{sc-mul}
 use Rattle.ideals.proofs.Norm.{YZ-lt, Q-deg}
 use Rattle.chain.specs.Chain.{tops, bottoms, Product, Closing}
-use Rattle.chain.specs.Unit.{UnitOf}
+use Rattle.chain.specs.Unit.{Invertible, UnitOf}
 use Rattle.chain.proofs.Walk.{same-products, closing-unique, chain-room}
-use Rattle.chain.proofs.Passed.{Passed, passed, bottoms-deg, product-unique}
+use Rattle.chain.proofs.Passed.{Passed, passed, bottoms-deg, product-unique, product-scaled}
 
 module _ (S : Setting) where
   open Setting S using (𝓥, G, H, r, w)
@@ -96,7 +96,7 @@ module _ (S : Setting) where
         go (inr (m, k)) z = other (inl (not-zero 𝓥 k))
         go (inl x) (inr (m, k)) = other (inr (not-zero 𝓥 k))
         go (inl x) (inl y) =
-            let a : Has 𝓥 (E .a .0) n = d.has-eq 𝓥 E-deg (ap₂ (λ s t. E .a .0 + s * r + t * w) x y ∙ ring₃ L (λ a r w. a :+ zer :* r :+ zer :* w := a) tt (E .a .0) r w) in
+            let a : Has 𝓥 (E .a .0) n = d.has-eq 𝓥 E-deg (ev-flat S E x y) in
             let k : Has 𝓥 (Q S E) (n +ⁿ n) = d.has-eq 𝓥 (d.has-mul 𝓥 a a) (sym (ap₂ (λ s t. plain (L .ops) (E .a .0) (s * r) (t * w)) x y ∙ ring₃ L (λ a r w. plain exprs a (zer :* r) (zer :* w) := a :* a) tt (E .a .0) r w)) in
             (0, omega (arith, d.has-unique 𝓥 k Q-E))
 
@@ -130,7 +130,7 @@ module _ (S : Setting) where
         const-path 𝓥 (d.lead-eq 𝓥 h refl ab) g
 
   -- ---- at a closing
-  pub closing-unit : (B₀ : Basis S) (st : Start S B₀) {l n : ℕ} {B : Basis S} (c : Closing S B₀ l n B) → (F : O S .El) × (passed S B₀ st (c .chain) .E ⊗ F ≡ 1ₒ)
+  pub closing-unit : (B₀ : Basis S) (st : Start S B₀) {l n : ℕ} {B : Basis S} (c : Closing S B₀ l n B) → Invertible S (passed S B₀ st (c .chain) .E)
   closing-unit B₀ st c =
       let p : Passed S (c .chain) = passed S B₀ st (c .chain) in
       let (F, i, f) = p .over .onto 1ₒ tt in
@@ -186,11 +186,7 @@ module _ (S : Setting) where
   module _ (B₀ : Basis S) (st : Start S B₀) where
     -- it is a constant times the product
     pub unit-eq : {l n : ℕ} {E F : O S .El} (u : UnitOf S B₀ l n E F) → E ≡ sc S (u .scale) ⊗ passed S B₀ st (u .closing .chain) .E
-    unit-eq {E = E} u =
-        let c = u .closing .chain in
-        let p : Passed S c = passed S B₀ st c in
-        sc-cancel S (bottoms S c) E (sc S (u .scale) ⊗ p .E) (bottoms-deg S c .1)
-        (solve-by (O S) (var 0 :* var 1) (var 0 :* (var 2 :* var 3)) (hyp one (var 0 :* var 1) (var 2 :* var 4) ∷ hyp (minus (var 2)) (var 0 :* var 3) (var 4) ∷ []) tt (sc S (bottoms S c) ∷ E ∷ sc S (u .scale) ∷ p .E ∷ tops S c ∷ []) (u .product, (p .product, tt)))
+    unit-eq {E = E} u = let c = u .closing .chain in product-scaled S c (u .scale) E (passed S B₀ st c .E) (u .product) (passed S B₀ st c .product)
 
     -- its degree is the degree sum, which is even, and E0 has it
     pub unit-degree : {l n : ℕ} {E F : O S .El} → UnitOf S B₀ l n E F → Has 𝓥 (ev S E) n × Has 𝓥 (E .a .0) n × (h : ℕ) × (n ≡ h +ⁿ h)

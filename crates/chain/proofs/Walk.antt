@@ -6,11 +6,14 @@
 --   prefix          a chain passes every smaller count, with a smaller degree sum
 --   chain-then      a chain taken up again
 --   chain-room      deg m is between 1 and deg GH: s steps have a degree sum from s to s · deg GH
+--   chain-rise same-sum   more steps have a larger degree sum, so a degree sum has one place in the chain
+--   has-step        a positive degree sum takes a step
 --   closing-unique  one start has one first closing
 --   open-more closes   what a walk does with one more step
+--   first-closing   a chain that ends with U = 1 after a step has a first closing
 use mathlib.Core.Path.{_≡_, refl, sym, ap, ap₂, _∙_, subst}
 use mathlib.Core.Logic.{_≢_}
-use Prim.Native.Nat.{ℕ, suc, _≤_, _<_, _+_ as _+ⁿ_, _-_ as _-ⁿ_}
+use Prim.Native.Nat.{ℕ, zero, suc, _≤_, _<_, _+_ as _+ⁿ_, _-_ as _-ⁿ_}
 use Prim.Native.Nat as N
 use native.Mathlib.Omega.{arith}
 use native.Mathlib.Decide.{decLe}
@@ -18,6 +21,7 @@ use Rattle.ring.specs.Ring.{Ops}
 use Rattle.valued.specs.Degree.{Has}
 use Rattle.valued.specs.Polynomial.{polys}
 use Rattle.valued.proofs.Degree as d
+use Rattle.valued.proofs.Polynomial.{poly-discrete}
 use Rattle.ideals.specs.Setting.{Setting, dGH}
 use Rattle.ideals.specs.Element.{O}
 use Rattle.ideals.specs.Ideal.{Basis}
@@ -96,6 +100,28 @@ module _ (S : Setting) where
       let e : m ≡ n = degree-unique B deg′ deg in
       (omega arith, omega arith)
 
+  -- ---- where a degree sum stands
+  pub chain-rise : (B₀ : Basis S) → Good S B₀ → {s s′ n n′ : ℕ} {B B′ : Basis S} → Chain S B₀ s n B → Chain S B₀ s′ n′ B′ → s < s′ → n < n′
+  chain-rise B₀ g c here l = absurd (omega arith)
+  chain-rise B₀ g {s} {n = n} c (then {s = s″} {d = n″} {B = B} m B′ c′ deg next good) l =
+      let (m′, deg′, pos, le) = degree-of B (chain-good B₀ g c′) in
+      let e : m′ ≡ m = degree-unique B deg′ deg in
+      elim (decLe (suc s) s″) [
+        | yes k ↦ let h : n < n″ = chain-rise B₀ g c c′ k in omega arith
+        | no k ↦ let (f, z) = same-chain B₀ g c c′ (omega arith) in omega arith
+      ]
+
+  pub same-sum : (B₀ : Basis S) → Good S B₀ → {s s′ n : ℕ} {B B′ : Basis S} → Chain S B₀ s n B → Chain S B₀ s′ n B′ → (s ≡ s′) × (B ≡ B′)
+  same-sum B₀ g {s} {s′} c c′ = let e : s ≡ s′ = go (decLe (suc s) s′) (decLe (suc s′) s) in (e, same-chain B₀ g c c′ e .1)
+    where
+      go : Dec (suc s ≤ s′) → Dec (suc s′ ≤ s) → s ≡ s′
+      go (yes k) b = let z = chain-rise B₀ g c c′ k in absurd (omega arith)
+      go (no k) (yes l) = let z = chain-rise B₀ g c′ c l in absurd (omega arith)
+      go (no k) (no l) = omega arith
+
+  pub has-step : (B₀ : Basis S) → Good S B₀ → {s n : ℕ} {B : Basis S} → Chain S B₀ s n B → 1 ≤ n → 1 ≤ s
+  has-step B₀ g {s} c l = elim (decLe 1 s) [ yes k ↦ k | no k ↦ let (f, z) = same-chain B₀ g c here (omega arith) in absurd (omega arith) ]
+
   -- a chain taken up again
   pub chain-then : {B₀ B B′ : Basis S} {s s′ n n′ : ℕ} → Chain S B₀ s n B → Chain S B s′ n′ B′ → Chain S B₀ (s +ⁿ s′) (n +ⁿ n′) B′
   chain-then {B₀} {B} {B′} {s} {s′} {n} {n′} c here = subst (λ z. Chain S B₀ z (n +ⁿ 0) B′) (omega arith) (subst (λ z. Chain S B₀ s z B′) (omega arith) c)
@@ -126,3 +152,16 @@ module _ (S : Setting) where
     | yes a ↦ free m n′ B′ some a c′
     | no a ↦ λ z. ne (ap (λ b. b .U) (same-chain B₀ g c c′ (omega arith) .1) ∙ z)
   ]
+
+  pub first-closing : (B₀ : Basis S) → Good S B₀ → {s n : ℕ} {B : Basis S} → Chain S B₀ s n B → 1 ≤ s → B .U ≡ 1ₚ →
+      (l m : ℕ) × (B′ : Basis S) × Closing S B₀ l m B′ × (l ≤ s)
+  first-closing B₀ g {s} {n} {B} c some closed = go s 0 (omega arith) (open-none B₀)
+    where
+      go : (k l : ℕ) → l +ⁿ k ≡ s → Open S B₀ l → (l m : ℕ) × (B′ : Basis S) × Closing S B₀ l m B′ × (l ≤ s)
+      go zero l e free = absurd (free s n B some (omega arith) c closed)
+      go (suc k) l e free =
+          let (m, B′, c′, le) = prefix B₀ c (suc l) (omega arith) in
+          elim (poly-discrete 𝓥 (B′ .U) 1ₚ) [
+            | yes z ↦ (suc l, m, B′, closes B₀ free c′ z, omega arith)
+            | no z ↦ go k (suc l) (omega arith) (open-more B₀ g free c′ z)
+          ]

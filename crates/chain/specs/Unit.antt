@@ -1,7 +1,9 @@
 -- The unit (document 01: "Unit").
+--   Invertible η        η is a unit of the order: it has an inverse in the order
 --   UnitOf B₀ l d E F   B₀ is the basis of the order, from which the chain closes after l steps with degree sum d; E is the product of the
 --                       m passed, scaled so that E0 is monic, and F its inverse
--- Theorems: it is determined, E0 has degree d, d is even, and how long the six rows are (proofs/Unit, proofs/Rows).
+-- Theorems: it is determined, E0 has degree d, d is even, and how long the six rows are (proofs/Unit, proofs/Rows). That it is the smallest
+-- unit, and every other a constant times a power of it: crate fundamental.
 use mathlib.Core.Path.{_≡_}
 use Prim.Native.Nat.{ℕ}
 use Rattle.ring.specs.Ring.{Ops}
@@ -18,6 +20,9 @@ module _ (S : Setting) where
   open Ops (O S .ops) using (mul as _⊗_, 𝟏 as 1ₒ)
 
   infixl 70 _⊗_
+  abbrev pub Invertible : O S .El → Type 0
+  Invertible η = (θ : O S .El) × (η ⊗ θ ≡ 1ₒ)
+
   -- "The product of the m passed from O to closing, scaled so that E0 is monic, and its inverse F"
   pub record UnitOf (B₀ : Basis S) (l d : ℕ) (E F : O S .El) : Type 0 where
     pub start : Start S B₀

@@ -1,4 +1,4 @@
--- Demand 2 holds. Each clause: a number other than the one that is told belongs to another case of the contract.
+-- Demand 2 holds: each clause is what its contract's case says.
 use mathlib.Core.Path.{_≡_, sym, ap, _∙_, subst}
 use mathlib.Core.Logic.{_⊎_, inl, inr}
 use mathlib.Core.List.{List}
@@ -26,7 +26,7 @@ use Rattle.unit.specs.Unit as unit
 use Rattle.book.proofs.Value.{book-back, book-obeys}
 use Rattle.book.proofs.Written.{writing-accepted, written-count, reads-back, one-value}
 use Rattle.demands.specs.Meaning.{BackFirst, Demand2}
-use Rattle.demands.proofs.Numbered.{numbered}
+use Rattle.demands.proofs.Cases.{walk-closed, walk-spent, told-closed, unit-made, success-unit}
 
 -- ---- the step
 module _ (p : ℕ) (G H B : List ℕ) (s : Stepped) (z : s .refusal ≡ 0) where
@@ -45,42 +45,15 @@ module _ (p : ℕ) (G H B : List ℕ) (s : Stepped) (z : s .refusal ≡ 0) where
       go (no f) = let n = ap (λ (x : Stepped). x .refusal) (h .none f) in absurd (f (sym n ∙ z))
 
 -- ---- the walk
-walk-number : (w : Walked) {k : ℕ} → w ≡ walk.refused k → w .refusal ≡ k
-walk-number w e = ap (λ (x : Walked). x .refusal) e
-
-module _ (p n : ℕ) (G H B : List ℕ) (w : Walked) where
+module _ (p n : ℕ) (G H B : List ℕ) (w : Walked) (h : walk.Walks p G H n B w) where
   abbrev Reached : Type 0
   Reached = walk.Reaches p G H B (w .steps) (w .sum) (w .basis)
 
-  closed-reaches : walk.Closed p G H n B w → Reached
-  closed-reaches c = record { is-record = c .closes .is-record; chain = λ A. c .closes .closing A .chain }
-
-  spent-reaches : walk.Spent p G H n B w → Reached
-  spent-reaches s = subst (λ k. walk.Reaches p G H B k (w .sum) (w .basis)) (sym (s .all)) (s .reaches)
-
-  walk-goes : (w .refusal ≡ 0) ⊎ (w .refusal ≡ 10) → walk.Goes p G H n B w → Reached
-  walk-goes (inl z) (walk.budget h e) = let k = walk-number w e in absurd (omega arith)
-  walk-goes (inr z) (walk.budget h e) = let k = walk-number w e in absurd (omega arith)
-  walk-goes (inl z) (walk.no-record h f e) = let k = walk-number w e in absurd (omega arith)
-  walk-goes (inr z) (walk.no-record h f e) = let k = walk-number w e in absurd (omega arith)
-  walk-goes z (walk.closed h r c) = closed-reaches c
-  walk-goes z (walk.spent h r s) = spent-reaches s
-
-  walk-basis : walk.Walks p G H n B w → (w .refusal ≡ 0) ⊎ (w .refusal ≡ 10) → Reached
-  walk-basis h z = go (ℕ-discrete (h .no) 0) z
-    where
-      small : h .no ≤ 8
-      small = numbered p G H (h .no) (h .first)
-
-      go : Dec (h .no ≡ 0) → (w .refusal ≡ 0) ⊎ (w .refusal ≡ 10) → Reached
-      go (yes e) z = walk-goes z (h .goes e)
-      go (no f) (inl e) = let k = walk-number w (h .none f) in absurd (f (sym k ∙ e))
-      go (no f) (inr e) = let k = walk-number w (h .none f) in let q = small in absurd (omega arith)
+  walk-basis : (w .refusal ≡ 0) ⊎ (w .refusal ≡ 10) → Reached
+  walk-basis (inl z) = let c = walk-closed p n G H B w h z in record { is-record = c .closes .is-record; chain = λ A. c .closes .closing A .chain }
+  walk-basis (inr z) = let s = walk-spent p n G H B w h z in subst (λ k. walk.Reaches p G H B k (w .sum) (w .basis)) (sym (s .all)) (s .reaches)
 
 -- ---- period and regulator
-told-number : (o : Told) {k : ℕ} → o ≡ walks.refusal k → o .refusal ≡ k
-told-number o e = ap (λ (x : Told). x .refusal) e
-
 -- closing is being back at the whole order, for the first time
 back-first : (S : Setting) (B₀ : Basis S) → Start S B₀ → (l d : ℕ) (B : Basis S) → Closing S B₀ l d B → BackFirst S B₀ l d
 back-first S B₀ st l d B c = record {
@@ -89,47 +62,21 @@ back-first S B₀ st l d B c = record {
   first = λ m e B′ lo hi ch s. c .none m e B′ lo hi ch (s .U-one);
 }
 
-module _ (p n : ℕ) (G H : List ℕ) (o : Told) (z : o .refusal ≡ 0) (A : Accepted p G H) (B₀ : Basis (setting A)) (st : Start (setting A) B₀) where
-  abbrev Told-back : Type 0
-  Told-back = BackFirst (setting A) B₀ (o .period .0) (o .regulator .0 + o .regulator .0)
-
-  period-goes : walks.Goes p G H n o → Told-back
-  period-goes (walks.budget h e) = let k = told-number o e in absurd (omega arith)
-  period-goes (walks.spent h B f g e) = let k = told-number o e in absurd (omega arith)
-  period-goes (walks.closed h B f c) =
-      let S = setting A in
-      let e = start-unique S (basisOf A B) B₀ (f .start A) st in
-      back-first S B₀ st _ _ _ (subst (λ X. Closing S X (o .period .0) (o .regulator .0 + o .regulator .0) (basisOf A (c .last))) e (c .closes .closing A))
-
-  period-back : walks.FromOrder p G H n o → Told-back
-  period-back h = go (ℕ-discrete (h .no) 0)
-    where
-      go : Dec (h .no ≡ 0) → Told-back
-      go (yes e) = period-goes (h .goes e)
-      go (no f) = let k = told-number o (h .none f) in absurd (f (sym k ∙ z))
+period-back : (p n : ℕ) (G H : List ℕ) (o : Told) → walks.FromOrder p G H n o → o .refusal ≡ 0 → (A : Accepted p G H) (B₀ : Basis (setting A)) → Start (setting A) B₀ →
+    BackFirst (setting A) B₀ (o .period .0) (o .regulator .0 + o .regulator .0)
+period-back p n G H o h z A B₀ st =
+    let S = setting A in
+    let (B, f, c) = told-closed p n G H o h z in
+    let e = start-unique S (basisOf A B) B₀ (f .start A) st in
+    back-first S B₀ st _ _ _ (subst (λ X. Closing S X (o .period .0) (o .regulator .0 + o .regulator .0) (basisOf A (c .last))) e (c .closes .closing A))
 
 -- ---- the unit
-module _ (p n : ℕ) (G H rows scratch rows′ scratch′ : List ℕ) (m : Made) (z : m .refusal ≡ 0) where
+module _ (p n : ℕ) (G H rows scratch rows′ scratch′ : List ℕ) (m : Made) where
   abbrev Unit-is : Type 0
   Unit-is = (c : ℕ) × ((A : Accepted p G H) (B₀ : Basis (setting A)) → Start (setting A) B₀ → UnitOf (setting A) B₀ (m .period .0) (m .regulator .0 + m .regulator .0) (unit.six A c 0 rows′) (unit.six A c (c + c + c) rows′))
 
-  unit-goes : unit.Goes p G H n rows scratch m rows′ scratch′ → Unit-is
-  unit-goes (unit.bad f r) = let k = r .number in absurd (omega arith)
-  unit-goes (unit.spent c b f r) = let k = r .number in absurd (omega arith)
-  unit-goes (unit.narrow c l d b h f g r) = let k = r .number in absurd (omega arith)
-  unit-goes (unit.made c l d b h f g r) = (
-    c,
-    λ A B₀ st.
-        subst (λ x. UnitOf (setting A) B₀ x (m .regulator .0 + m .regulator .0) (unit.six A c 0 rows′) (unit.six A c (c + c + c) rows′)) (sym (r .period))
-        (subst (λ x. UnitOf (setting A) B₀ l x (unit.six A c 0 rows′) (unit.six A c (c + c + c) rows′)) (sym (r .regulator)) (r .rows-hold .unit A B₀ st)),
-  )
-
-  unit-is : unit.Makes p G H n rows scratch m rows′ scratch′ → Unit-is
-  unit-is h = go (ℕ-discrete (h .no) 0)
-    where
-      go : Dec (h .no ≡ 0) → Unit-is
-      go (yes e) = unit-goes (h .goes e)
-      go (no f) = let k = h .none f .number in absurd (f (sym k ∙ z))
+  unit-is : unit.Makes p G H n rows scratch m rows′ scratch′ → m .refusal ≡ 0 → Unit-is
+  unit-is h z = let (c, l, d, f, r) = unit-made p n G H rows scratch rows′ scratch′ m h z in (c, λ A B₀ st. success-unit p G H rows′ m r A B₀ st)
 
 pub demand-2 : Demand2
 demand-2 = record {
@@ -137,8 +84,8 @@ demand-2 = record {
   order-basis = λ o h z. h .first z;
   step-basis = λ s h z. step-basis _ _ _ _ s z h;
   walk-basis = λ w h z. walk-basis _ _ _ _ _ w h z;
-  period = λ o h z A B₀ st. period-back _ _ _ _ o z A B₀ st h;
-  unit = λ m h z. unit-is _ _ _ _ _ _ _ _ m z h;
+  period = λ o h z A B₀ st. period-back _ _ _ _ o h z A B₀ st;
+  unit = λ m h z. unit-is _ _ _ _ _ _ _ _ m h z;
   written-accepted = λ bs o. writing-accepted bs o;
   reads-back = λ bs o. (written-count bs o, reads-back bs o);
   accepted-written = λ s b a. (book-obeys s b a, book-back s b a);

@@ -1,4 +1,6 @@
 pub mod Numbered
+pub mod Cases
 pub mod Demand1
 pub mod Demand2
 pub mod Demand3
+pub mod Smallest

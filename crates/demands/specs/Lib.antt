@@ -1,3 +1,4 @@
 pub mod Fixed
 pub mod Meaning
 pub mod Chain
+pub mod Smallest

@@ -3,7 +3,8 @@
 --   poly-only        only polynomials have all sizes at most 0 in the next ideal
 --   next-ideal       what is the next of an ideal is an ideal
 --   next-reduced     and it is reduced
---   next-same next-unique   a basis has one next
+--   over-same        E · (Λ′/U′) = Λ settles the ideal of B′ where E cancels
+--   next-same next-unique   so a basis has one next
 use mathlib.Core.Path.{_≡_, sym, ap, _∙_, subst}
 use mathlib.Core.List.{[], _∷_}
 use mathlib.Core.Logic.{_≢_}
@@ -20,7 +21,7 @@ use Rattle.ideals.specs.Setting.{Setting}
 use Rattle.ideals.specs.Element.{O, sc, el-r, el-w, ev, Y, Z, norm}
 use Rattle.ideals.specs.Ideal.{Basis, In, det, Ideal}
 use Rattle.ideals.specs.Basis.{ReducedBasis, Reduced, Good}
-use Rattle.ideals.specs.Next.{Next, Same}
+use Rattle.ideals.specs.Next.{Over, Next, Same}
 use Rattle.ideals.proofs.Sizes.{ev-sc, ev-XZ}
 use Rattle.ideals.proofs.Values.{ev-mul}
 use Rattle.ideals.proofs.Form.{has-two, has-three, form-below, form-at-most}
@@ -107,25 +108,30 @@ module _ (S : Setting) where
   pub next-reduced : (B B′ : Basis S) → Good S B → Next S B B′ → B′ .U .0 ≢ 𝟎 → det S B′ .0 ≢ 𝟎 → ReducedBasis S B′ → Reduced S B′
   next-reduced B B′ good next nz rank basis = reduced-of S B′ nz rank basis (poly-only B B′ good next)
 
-  -- The relation `Next` settles the ideal, and so its scaled reduced basis.
-  pub next-same : (B B′ B″ : Basis S) → Good S B → Next S B B′ → Next S B B″ → Same S B′ B″
-  next-same B B′ B″ good n′ n″ = record {
+  -- E · (Λ′/U′) = Λ = E · (Λ″/U″): the two ideals are one, whatever the lattice Λ
+  pub over-same : (Λ : O S .El → Type 0) (E : O S .El) → ((x y : O S .El) → E ⊗ x ≡ E ⊗ y → x ≡ y) →
+      (B′ B″ : Basis S) → Over S Λ E B′ → Over S Λ E B″ → Same S B′ B″
+  over-same Λ E cancel B′ B″ o′ o″ = record {
     into = λ v i.
-        let (u, iu, e) = n″ .into v i in
-        let (v′, i′, e′) = n′ .onto u iu in
+        let (u, iu, e) = o″ .into v i in
+        let (v′, i′, e′) = o′ .onto u iu in
         (v′, i′, equal u v v′ e e′);
     onto = λ v′ i′.
-        let (u, iu, e′) = n′ .into v′ i′ in
-        let (v, i, e) = n″ .onto u iu in
+        let (u, iu, e′) = o′ .into v′ i′ in
+        let (v, i, e) = o″ .onto u iu in
         (v, i, equal u v v′ e e′);
   }
     where
-      equal : (u v v′ : O S .El) → B .M ⊗ v ≡ sc S (B″ .U) ⊗ u → B .M ⊗ v′ ≡ sc S (B′ .U) ⊗ u → sc S (B′ .U) ⊗ v ≡ sc S (B″ .U) ⊗ v′
+      equal : (u v v′ : O S .El) → E ⊗ v ≡ sc S (B″ .U) ⊗ u → E ⊗ v′ ≡ sc S (B′ .U) ⊗ u → sc S (B′ .U) ⊗ v ≡ sc S (B″ .U) ⊗ v′
       equal u v v′ e e′ =
-          let M = var 0 in let a = var 1 in let b = var 2 in let u₀ = var 3 in let v₀ = var 4 in let v₁ = var 5 in
-          cancel-O S (B .M) _ _ (norm-M B good (small S B good) .1)
-          (solve-by (O S) (M :* (a :* v₀)) (M :* (b :* v₁)) (hyp a (M :* v₀) (b :* u₀) ∷ hyp (minus b) (M :* v₁) (a :* u₀) ∷ []) tt
-          (B .M ∷ sc S (B′ .U) ∷ sc S (B″ .U) ∷ u ∷ v ∷ v′ ∷ []) (e, (e′, tt)))
+          let A = var 0 in let a = var 1 in let b = var 2 in let u₀ = var 3 in let v₀ = var 4 in let v₁ = var 5 in
+          cancel _ _
+          (solve-by (O S) (A :* (a :* v₀)) (A :* (b :* v₁)) (hyp a (A :* v₀) (b :* u₀) ∷ hyp (minus b) (A :* v₁) (a :* u₀) ∷ []) tt
+          (E ∷ sc S (B′ .U) ∷ sc S (B″ .U) ∷ u ∷ v ∷ v′ ∷ []) (e, (e′, tt)))
+
+  -- The relation `Next` settles the ideal, and so its scaled reduced basis.
+  pub next-same : (B B′ B″ : Basis S) → Good S B → Next S B B′ → Next S B B″ → Same S B′ B″
+  next-same B B′ B″ good = over-same (In S B) (B .M) (λ x y. cancel-O S (B .M) x y (norm-M B good (small S B good) .1)) B′ B″
 
   pub next-unique : (B B′ B″ : Basis S) → Good S B → Good S B′ → Good S B″ → Next S B B′ → Next S B B″ → B′ ≡ B″
   next-unique B B′ B″ good g′ g″ n′ n″ = good-unique S B′ B″ g′ g″ (next-same B B′ B″ good n′ n″)

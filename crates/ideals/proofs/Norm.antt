@@ -1,26 +1,32 @@
 -- The norm of an element that has a value with a degree is not 0: such an element can be cancelled.
 --   X-lt YZ-lt         every size of an element is bounded
 --   F F-deg F-mul      four times the value of the cofactor, 3Y² + Z²; where m v = a u, F(m) F(v) = 4 a² F(u)
---   YZ-of              Y and Z below n, from F below 2n
+--   YZ-of X-of         Y and Z below n, from F below 2n; X below n, from ev and Z below n
 --   Below below-of     all sizes below n: from F below 2n and ev below n
 --   Q-deg norm-deg     the value of the cofactor, and the norm, have degrees
+--   ev-deg             an element whose norm is not 0 has a degree
+--   norm-sc            the norm of a polynomial is its cube
 --   cancel-O           v x = v y gives x = y where the norm of v is not 0
 --   M-not N-not        in a basis of rank 3 neither M nor N is a polynomial
 use mathlib.Core.Path.{_≡_, sym, ap, ap₂, _∙_}
+use mathlib.Core.List.{[], _∷_}
 use mathlib.Core.Logic.{_≢_, _⊎_, inl, inr}
 use Prim.Native.Nat.{ℕ, _+_ as _+ⁿ_}
 use native.Mathlib.Omega.{arith}
+use Rattle.ring.proofs.Laws as rg
 use Rattle.ring.specs.Ring.{Ops}
-use Rattle.ring.proofs.Solve.{one, zer, minus, _:+_, _:*_, _:=_, ring₂, ring₃}
+use Rattle.ring.proofs.Solve.{exprs, var, one, zer, minus, _:+_, _:*_, _:=_, solve, ring₂, ring₃}
+use Rattle.cubic.specs.Tri.{triE, normT}
 use Rattle.valued.specs.Val.{Valued}
 use Rattle.valued.specs.Degree.{HasDeg, Has, Lt}
+use Rattle.valued.specs.Polynomial.{polys}
 use Rattle.valued.proofs.Degree as d
-use Rattle.valued.proofs.Compare.{lt-unscale, has-scale, has-unscale}
-use Rattle.valued.proofs.Polynomial.{view, degree, poly-lt}
+use Rattle.valued.proofs.Compare.{lt-scale, lt-unscale, has-scale, has-unscale}
+use Rattle.valued.proofs.Polynomial.{view, degree, not-zero, poly-lt}
 use Rattle.ideals.specs.Setting.{Setting, P}
 use Rattle.ideals.specs.Element.{O, sc, ev, X, Y, Z, norm, cof}
 use Rattle.ideals.specs.Ideal.{Basis, det}
-use Rattle.ideals.proofs.Sizes.{sc-cancel, ev-XZ, Y-sc, Z-sc}
+use Rattle.ideals.proofs.Sizes.{sc-cancel, ev-flat, ev-XZ, Y-sc, Z-sc}
 use Rattle.ideals.proofs.Values.{Q, Q-YZ, Q-mul, ev-Q, norm-cof}
 use Rattle.ideals.proofs.Form.{form, form-top, form-lt, has-two, has-three}
 use Rattle.ideals.proofs.Bound.{Y-deg}
@@ -76,15 +82,13 @@ module _ (S : Setting) where
   pub YZ-of : (v : O S .El) (n : ℕ) → Lt 𝓥 (F v) (n +ⁿ n) → Lt 𝓥 (Y S v) n × Lt 𝓥 (Z S v) n
   YZ-of v n hF = let (j, hy, hz) = YZ-lt v in form-lt S j n (d.lt-up 𝓥 (j +ⁿ n) hy (omega arith)) (d.lt-up 𝓥 (j +ⁿ n) hz (omega arith)) hF
 
+  -- 3X = 2 ev − Z
+  pub X-of : (v : O S .El) (n : ℕ) → Lt 𝓥 (ev S v) n → Lt 𝓥 (Z S v) n → Lt 𝓥 (X S v) n
+  X-of v n he hz = lt-unscale 𝓥 (has-three S) (d.lt-eq 𝓥 (d.lt-add 𝓥 (lt-scale 𝓥 (has-two S) he) (d.lt-neg 𝓥 hz))
+      (ap (λ t. t + - Z S v) (ev-XZ S v) ∙ ring₂ L (λ x z. (one :+ one :+ one) :* x :+ z :+ minus z := (one :+ one :+ one) :* x) tt (X S v) (Z S v)))
+
   pub below-of : (v : O S .El) (n : ℕ) → Lt 𝓥 (F v) (n +ⁿ n) → Lt 𝓥 (ev S v) n → Below v n
-  below-of v n hF he =
-      let (y, z) = YZ-of v n hF in
-      record {
-        X-lt = lt-unscale 𝓥 (has-three S) (d.lt-eq 𝓥 (d.lt-add 𝓥 (d.lt-up 𝓥 n (d.lt-eq 𝓥 (d.lt-has-mul 𝓥 he (has-two S)) (L .laws .mul-comm _ _)) (omega arith)) (d.lt-neg 𝓥 z))
-            (ap (λ t. t + - Z S v) (ev-XZ S v) ∙ ring₂ L (λ x z. (one :+ one :+ one) :* x :+ z :+ minus z := (one :+ one :+ one) :* x) tt (X S v) (Z S v)));
-        Y-lt = y;
-        Z-lt = z;
-      }
+  below-of v n hF he = let (y, z) = YZ-of v n hF in record { X-lt = X-of v n he z; Y-lt = y; Z-lt = z }
 
   -- Q of an element that is not a polynomial has an even degree
   pub Q-deg : (v : O S .El) → (v .b .0 ≢ 𝟎) ⊎ (v .c .0 ≢ 𝟎) → (p q : ℕ) × HasDeg 𝓥 (Q S v) (p +ⁿ p) (q +ⁿ q)
@@ -97,6 +101,23 @@ module _ (S : Setting) where
   -- a non-zero norm, and cancelling
   pub norm-deg : {p q p′ q′ : ℕ} (v : O S .El) → HasDeg 𝓥 (ev S v) p q → HasDeg 𝓥 (Q S v) p′ q′ → (n : ℕ) × Has 𝓥 (norm S v .0) n
   norm-deg v h g = degree 𝓥 (norm S v) (λ e. d.has-not-zero 𝓥 (d.has-eq 𝓥 (d.has-mul 𝓥 h g) (ev-Q S v ∙ e)))
+
+  -- norm x = ev x · Q x, and where b = c = 0 the value is the polynomial a
+  pub ev-deg : {k : ℕ} (v : O S .El) → Has 𝓥 (norm S v .0) k → (p q : ℕ) × HasDeg 𝓥 (ev S v) p q
+  ev-deg {k} v h = go (view 𝓥 (v .b)) (view 𝓥 (v .c)) (view 𝓥 (v .a))
+    where
+      by-Q : (v .b .0 ≢ 𝟎) ⊎ (v .c .0 ≢ 𝟎) → (p q : ℕ) × HasDeg 𝓥 (ev S v) p q
+      by-Q nz = let (p, q, g) = Q-deg v nz in (_, _, d.has-cancel 𝓥 g (d.has-eq 𝓥 h (sym (L .laws .mul-comm _ _ ∙ ev-Q S v))))
+
+      go : (v .b .0 ≡ 𝟎) ⊎ ((n : ℕ) × Has 𝓥 (v .b .0) n) → (v .c .0 ≡ 𝟎) ⊎ ((n : ℕ) × Has 𝓥 (v .c .0) n) → (v .a .0 ≡ 𝟎) ⊎ ((n : ℕ) × Has 𝓥 (v .a .0) n) →
+          (p q : ℕ) × HasDeg 𝓥 (ev S v) p q
+      go (inr (m, g)) y z = by-Q (inl (not-zero 𝓥 g))
+      go (inl x) (inr (m, g)) z = by-Q (inr (not-zero 𝓥 g))
+      go (inl x) (inl y) (inr (m, g)) = (m, 0, d.has-eq 𝓥 g (sym (ev-flat S v x y)))
+      go (inl x) (inl y) (inl z) = absurd (not-zero 𝓥 h (sym (ev-Q S v) ∙ ap (λ t. t * Q S v) (ev-flat S v x y ∙ z) ∙ rg.zero-mul′ L (Q S v)))
+
+  pub norm-sc : (a : P S) → norm S (sc S a) ≡ polys 𝓥 .ops .mul (polys 𝓥 .ops .mul a a) a
+  norm-sc a = solve (polys 𝓥) (normT exprs (var 0) (var 1) (triE (var 2) zer zer)) (var 2 :* var 2 :* var 2) tt (G ∷ H ∷ a ∷ [])
 
   pub cancel-O : {n : ℕ} (v x y : O S .El) → Has 𝓥 (norm S v .0) n → v ⊗ x ≡ v ⊗ y → x ≡ y
   cancel-O v x y h e = sc-cancel S (norm S v) x y h (alone x ∙ ap (λ z. cof S v ⊗ z) e ∙ sym (alone y))

@@ -4,6 +4,7 @@
 --   only-of          and if it is reduced, only polynomials do
 --   OneMinimum       the papers' form: of the elements whose value and cofactor's value have degree at most 0, only constants;
 --   minimum-iff, iff-minimum   it is the same as `Reduced`
+--   bounded          so in a reduced ideal what is bounded by 1 in value and cofactor's value is a polynomial
 use mathlib.Core.Path.{_≡_, sym, ap, ap₂, _∙_}
 use mathlib.Core.Logic.{_≢_, _⊎_, inl, inr}
 use Prim.Native.Nat.{ℕ, suc, _≤_, _<_, _+_ as _+ⁿ_, _-_ as _-ⁿ_}
@@ -15,14 +16,15 @@ use Rattle.valued.specs.Val.{Valued}
 use Rattle.valued.specs.Degree.{Has, Lt, _≺_}
 use Rattle.valued.proofs.Degree as d
 use Rattle.valued.proofs.Compare.{≺-has, lt-scale, lt-unscale}
-use Rattle.valued.proofs.Polynomial.{view}
+use Rattle.valued.proofs.Polynomial.{P-path, view}
 use Rattle.ideals.specs.Setting.{Setting, P}
-use Rattle.ideals.specs.Element.{O, ev, X, Y}
+use Rattle.ideals.specs.Element.{O, sc, ev, X, Y}
 use Rattle.ideals.specs.Ideal.{Basis, In, det}
-use Rattle.ideals.specs.Basis.{ReducedBasis, Reduced}
-use Rattle.ideals.proofs.Sizes.{X-lin, Y-lin, ev-XZ}
+use Rattle.ideals.specs.Basis.{ReducedBasis, Reduced, Good}
+use Rattle.ideals.proofs.Sizes.{X-lin, Y-lin, ev-XZ, flat-sc}
 use Rattle.ideals.proofs.Form.{has-two, has-three, form-at-most}
-use Rattle.ideals.proofs.Lattice.{in-M, in-N, lin-b, lin-c}
+use Rattle.ideals.proofs.Lattice.{in-M, in-N, lin-b, lin-c, sc-mul}
+use Rattle.ideals.proofs.Check.{flat-in}
 use Rattle.ideals.proofs.Minimum.{Sized, sized}
 use Rattle.ideals.proofs.Norm.{F, Below, below-of, flat-M, flat-N}
 
@@ -125,3 +127,11 @@ module _ (S : Setting) where
   iff-minimum B nz rank basis min = reduced-of B nz rank basis (λ u hU v i b. min u hU v i
       (lt-unscale 𝓥 (has-two S) (d.lt-eq 𝓥 (d.lt-add 𝓥 (lt-scale 𝓥 (has-three S) (b .X-lt)) (b .Z-lt)) (sym (ev-XZ S v))))
       (form-at-most S (b .Y-lt) (b .Z-lt)))
+
+  -- v/U bounded by 1: v is U times a polynomial
+  pub bounded : {u : ℕ} (B : Basis S) → Good S B → Has 𝓥 (B .U .0) u → (v : O S .El) → In S B v → Lt 𝓥 (ev S v) (suc u) → Lt 𝓥 (F S v) (suc (u +ⁿ u)) →
+      (a : P S) × (v ≡ sc S (B .U) ⊗ sc S a)
+  bounded {u} B good hU v i he hF =
+      let (zb, zc) = minimum-iff B (good .ideal .U≢) (good .basis) (good .reduced) u hU v i he hF in
+      let (a, e) = flat-in S B (good .ideal .rank) v i (P-path 𝓥 zb) (P-path 𝓥 zc) in
+      (a, flat-sc S v zb zc ∙ ap (sc S) e ∙ sc-mul S (B .U) a)

@@ -4,8 +4,9 @@
 --   X-sc Y-sc Z-sc ev-sc     the sizes of a polynomial times an element, sc-a sc-b sc-c its coordinates
 --   ev-XZ two-a two-b two-c three-a   2 ev = 3X + Z, 2A = X + Z, 2Br = X + Y, 2Cw = X − Y, 3A = ev + Z
 --   O-path sc-cancel         equality of elements; a polynomial that is not 0 cancels
+--   flat-sc ev-flat          an element without r and w is a polynomial, and its value is that
 --   X-Y-det                  X(M) Y(N) − X(N) Y(M) = −2 e G H
-use mathlib.Core.Path.{_≡_, sym, ap, _∙_}
+use mathlib.Core.Path.{_≡_, refl, sym, ap, _∙_}
 use mathlib.Core.List.{List, [], _∷_}
 use Prim.Native.Nat.{ℕ}
 use Rattle.ring.specs.Ring.{Ops}
@@ -138,6 +139,13 @@ module _ (S : Setting) where
   -- a polynomial as an element
   pub ev-poly : (a : P S) → ev (sc S a) ≡ a .0
   ev-poly a = ring₃ L (λ a r w. a :+ zer :* r :+ zer :* w := a) tt (a .0) r w
+
+  -- an element without r and w is one
+  pub flat-sc : (v : O S .El) → v .b .0 ≡ 𝟎 → v .c .0 ≡ 𝟎 → v ≡ sc S (v .a)
+  flat-sc v zb zc = O-path refl (P-path 𝓥 zb) (P-path 𝓥 zc)
+
+  pub ev-flat : (v : O S .El) → v .b .0 ≡ 𝟎 → v .c .0 ≡ 𝟎 → ev v ≡ v .a .0
+  ev-flat v zb zc = ap ev (flat-sc v zb zc) ∙ ev-poly (v .a)
 
   pub X-poly : (a : P S) → X (sc S a) ≡ 𝟎
   X-poly a = ring₂ L (λ r w. zer :* r :+ zer :* w := zer) tt r w

@@ -1,10 +1,11 @@
--- The ideal divided by m, the same ideal, and the whole order: three uses of one relation.
+-- The ideal divided by m, the same ideal, and what makes an ideal the whole order: three uses of one relation.
 --   Over Λ E B′   E · (Λ′/U′) = Λ, where Λ′/U′ is the lattice of B′
 --   Next B B′     the ideal of B′ is that of B divided by m
 --   Same B B′     the ideals of B and B′ are one
+--   At B E        E · (Λ/U) = O: the ideal of B stands at E
 --   Start B       B is the scaled reduced basis of the order O itself
--- Theorems: `next-unique`, a basis has one next, and the next ideal is reduced (proofs/Divided); `unique`, one ideal has one basis
--- (proofs/Unique).
+-- Theorems: `over-same`, Λ and E settle the ideal; `next-unique`, a basis has one next, and the next ideal is reduced (proofs/Divided);
+-- `unique`, one ideal has one basis (proofs/Unique).
 use mathlib.Core.Path.{_≡_}
 use Rattle.ring.specs.Ring.{Ops}
 use Rattle.valued.specs.Polynomial.{polys}
@@ -34,6 +35,9 @@ module _ (S : Setting) where
   -- all of the order
   abbrev pub Whole : O S .El → Type 0
   Whole u = Unit {0}
+
+  abbrev pub At : Basis S → O S .El → Type 0
+  At B E = Over Whole E B
 
   pub record Start (B : Basis S) : Type 0 where
     pub good : Good S B

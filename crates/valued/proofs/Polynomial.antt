@@ -1,6 +1,7 @@
 -- Polynomials and their degrees.
 --   P-path                 equal as series is equal
 --   view degree poly-lt    a polynomial is 0 or has a degree
+--   poly-discrete          equality of polynomials is decided
 --   factor                 the degree of a factor
 --   one-of                 a constant between two monic elements of one leading coefficient is 1
 --   Unit₀ unit-of          the constant polynomial of a constant that is not 0, with its inverse
@@ -40,6 +41,12 @@ module _ (𝓥 : Valued) where
 
   pub not-zero : {x : L .El} {p q : ℕ} → HasDeg 𝓥 x p q → x ≢ 𝟎
   not-zero h e = d.has-not-zero 𝓥 (d.has-eq 𝓥 h e)
+
+  pub poly-discrete : (a b : Poly 𝓥) → Dec (a ≡ b)
+  poly-discrete a b = elim (view (a ⊞ ⊟ b)) [
+    | inl e ↦ yes (P-path (r.eq-of-sub L (a .0) (b .0) e))
+    | inr (n, h) ↦ no (λ e. not-zero h (ap (λ t. t .0 + - (b .0)) e ∙ L .laws .add-neg (b .0)))
+  ]
 
   pub poly-lt : (a : Poly 𝓥) → (m : ℕ) × Lt 𝓥 (a .0) m
   poly-lt a = elim (view a) [ inl e ↦ (0, d.lt-eq 𝓥 (𝓥 .lead-zero 0 0) (sym e)) | inr (n, h) ↦ (suc n, d.has-up 𝓥 (suc n) h (omega arith)) ]

@@ -1,0 +1,105 @@
+-- Request E8 holds: crate fundamental, of the setting of an accepted field and of what the functions answer.
+use mathlib.Core.Path.{_≡_, sym, _∙_, subst}
+use mathlib.Core.List.{List}
+use Prim.Native.Nat.{ℕ, suc, _+_, _*_, _≤_}
+use native.Mathlib.Omega.{arith}
+use lib.ListN.{length}
+use Rattle.field.specs.Refusal.{Accepted}
+use Rattle.ideals.specs.Setting.{Setting}
+use Rattle.ideals.specs.Ideal.{Basis}
+use Rattle.ideals.specs.Next.{Start}
+use Rattle.chain.specs.Chain.{Chain, Open}
+use Rattle.chain.proofs.Walk.{chain-room}
+use Rattle.chain.proofs.Exists.{order-exists, chain-exists}
+use Rattle.chain.proofs.Unit.{unit-unique}
+use Rattle.fundamental.specs.Smallest.{NoneBetween, LeastDegree}
+use Rattle.fundamental.proofs.Complete.{completeness}
+use Rattle.fundamental.proofs.Units.{unit-closes, none-below}
+use Rattle.fundamental.proofs.Fundamental.{unit-fundamental, unit-smallest, closing-least}
+use Rattle.fundamental.proofs.Agree.{least-one, smallest-one, constant-norm}
+use Rattle.record.specs.Record.{setting, basisOf}
+use Rattle.bases.specs.Answer.{IsFirst}
+use Rattle.walk.specs.Walk as walk
+use Rattle.walk.proofs.Walk.{closes-one}
+use Rattle.walks.specs.declared.Told.{Told}
+use Rattle.walks.specs.Order as walks
+use Rattle.walks.proofs.Order.{first-one}
+use Rattle.unit.specs.declared.Made.{Made}
+use Rattle.unit.specs.Unit.{Makes, Success, six}
+use Rattle.demands.specs.Smallest.{SmallestRows, SmallestUnit}
+use Rattle.demands.proofs.Cases.{walk-closed, walk-spent, told-closed, told-spent, told-accepted, unit-made, unit-accepted, success-unit}
+
+halves : (a b : ℕ) → a + a ≡ b + b → a ≡ b
+halves a b e = omega arith
+
+-- ---- what the functions answer
+unit-rows : (p n : ℕ) (G H rows scratch rows′ scratch′ : List ℕ) (m : Made) → Makes p G H n rows scratch m rows′ scratch′ → m .refusal ≡ 0 → SmallestRows p G H m rows′
+unit-rows p n G H rows scratch rows′ scratch′ m h z =
+    let (c, l, d, f, r) = unit-made p n G H rows scratch rows′ scratch′ m h z in
+    let made = λ (A : Accepted p G H). let (B₀, st) = order-exists (setting A) in success-unit p G H rows′ m r A B₀ st in
+    record {
+      c = c;
+      long = r .rows-hold .whole;
+      smallest = λ A. unit-smallest (setting A) (made A);
+      fundamental = λ A. unit-fundamental (setting A) (made A);
+    }
+
+-- an open chain of n steps has a degree sum of n or more
+open-none : (S : Setting) (B₀ : Basis S) → Start S B₀ → (n : ℕ) → Open S B₀ n → NoneBetween S (suc n)
+open-none S B₀ st n free η inv p q h lo hi =
+    let (m, B, c) = chain-exists S B₀ (st .good) n in
+    let (l, k) = chain-room S B₀ (st .good) c in
+    none-below S B₀ st c free η inv p q h lo (omega arith)
+
+-- ---- two walks that close
+told-agree : (p n n′ : ℕ) (G H : List ℕ) (o o′ : Told) → walks.FromOrder p G H n o → o .refusal ≡ 0 → walks.FromOrder p G H n′ o′ → o′ .refusal ≡ 0 → o ≡ o′
+told-agree p n n′ G H o o′ h z h′ z′ =
+    let A = told-accepted p n G H o h z in
+    let (B, f, c) = told-closed p n G H o h z in
+    let (B′, f′, c′) = told-closed p n′ G H o′ h′ z′ in
+    let same : walk.Closes p G H B (o′ .period .0) (o′ .regulator .0 + o′ .regulator .0) (c′ .last)
+    = subst (λ b. walk.Closes p G H b (o′ .period .0) (o′ .regulator .0 + o′ .regulator .0) (c′ .last)) (first-one A B′ B f′ f) (c′ .closes) in
+    let (x, y, e) = closes-one p G H A B (f .is-record) (c .closes) same in
+    let r = halves (o .regulator .0) (o′ .regulator .0) y in
+    λ i. record { refusal = (z ∙ sym z′) i; period = record { 0 = x i }; regulator = record { 0 = r i } }
+
+module _ (p n n′ : ℕ) (G H rows scratch r s rows′ scratch′ r′ s′ : List ℕ) (m m′ : Made) where
+  -- the rows hold one unit, whatever their lengths
+  made-agree : {c l d c′ l′ d′ : ℕ} → Success p G H l d c scratch m r s → Success p G H l′ d′ c′ scratch′ m′ r′ s′ → Accepted p G H →
+      (m ≡ m′) × ((A : Accepted p G H) → (six A c 0 r ≡ six A c′ 0 r′) × (six A c (c + c + c) r ≡ six A c′ (c′ + c′ + c′) r′))
+  made-agree x x′ A₀ =
+      let (B₀, st) = order-exists (setting A₀) in
+      let (el, ed, eE, eF) = unit-unique (setting A₀) B₀ st (success-unit p G H r m x A₀ B₀ st) (success-unit p G H r′ m′ x′ A₀ B₀ st) in
+      let er = halves (m .regulator .0) (m′ .regulator .0) ed in (
+        λ i. record { refusal = (x .number ∙ sym (x′ .number)) i; period = record { 0 = el i }; regulator = record { 0 = er i } },
+        λ A. let (B₁, st₁) = order-exists (setting A) in let (a, b, e, f) = unit-unique (setting A) B₁ st₁ (success-unit p G H r m x A B₁ st₁) (success-unit p G H r′ m′ x′ A B₁ st₁) in (e, f),
+      )
+
+  units-agree : Makes p G H n rows scratch m r s → m .refusal ≡ 0 → Makes p G H n′ rows′ scratch′ m′ r′ s′ → m′ .refusal ≡ 0 → (c c′ : ℕ) → length r ≡ 6 * c → length r′ ≡ 6 * c′ →
+      (m ≡ m′) × ((A : Accepted p G H) → (six A c 0 r ≡ six A c′ 0 r′) × (six A c (c + c + c) r ≡ six A c′ (c′ + c′ + c′) r′))
+  units-agree h z h′ z′ c c′ e e′ =
+      let (c₁, l, d, f, x) = unit-made p n G H rows scratch r s m h z in
+      let (c₂, l′, d′, f′, x′) = unit-made p n′ G H rows′ scratch′ r′ s′ m′ h′ z′ in
+      let a : length r ≡ 6 * c₁ = x .rows-hold .whole in
+      let b : length r′ ≡ 6 * c₂ = x′ .rows-hold .whole in
+      let k : c₁ ≡ c = omega arith in
+      let k′ : c₂ ≡ c′ = omega arith in
+      made-agree (subst (λ t. Success p G H l d t scratch m r s) k x) (subst (λ t. Success p G H l′ d′ t scratch′ m′ r′ s′) k′ x′) (unit-accepted p n G H rows scratch r s m h z)
+
+pub smallest-unit : SmallestUnit
+smallest-unit = record {
+  fundamental = λ A B₀ u. unit-fundamental (setting A) u;
+  closing-least = λ A B₀ st c. closing-least (setting A) st c;
+  complete = λ A. completeness (setting A);
+  unit-rows = λ m h z. unit-rows _ _ _ _ _ _ _ _ m h z;
+  regulator = λ o h z A. let (B, f, c) = told-closed _ _ _ _ o h z in closing-least (setting A) (f .start A) (c .closes .closing A);
+  walk-sum = λ w f h z A. closing-least (setting A) (f .start A) (walk-closed _ _ _ _ _ w h z .closes .closing A);
+  regulator-open = λ o h z A. let (B, f, g) = told-spent _ _ _ _ o h z in open-none (setting A) (basisOf A B) (f .start A) _ (g A);
+  walk-open = λ w f h z A. let s = walk-spent _ _ _ _ _ w h z in none-below (setting A) _ (f .start A) (s .reaches .chain A) (s .none A);
+  closes = λ A B₀ st η inv h l. unit-closes (setting A) B₀ st η inv h l;
+  least-one = λ A. least-one (setting A);
+  smallest-one = λ A a b. smallest-one (setting A) a b;
+  constant-norm = λ A B₀ u x c h. constant-norm (setting A) (unit-fundamental (setting A) u .least) x c h;
+  walks-agree = λ o o′ h z h′ z′. told-agree _ _ _ _ _ o o′ h z h′ z′;
+  units-agree = λ m m′ h z h′ z′ c c′ e e′. units-agree _ _ _ _ _ _ _ _ _ _ _ _ _ m m′ h z h′ z′ c c′ e e′;
+}

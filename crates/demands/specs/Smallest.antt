@@ -1,0 +1,109 @@
+-- Request E8: "for every accepted field and every closing walk, no unit of the order has a degree strictly between 0 and that of E, and every
+-- unit is a non-zero constant times a power of E, negative powers and the zeroth included."
+--   SmallestRows p G H m rows   rows beside the answer m hold the smallest unit and its inverse, and every unit is a constant times a power of it
+--   SmallestUnit                the request: of every closing chain, of what the functions answer, of what refusal 10 says, and what follows
+-- How to read it: A says that the field is accepted, `setting A` is the field with its series; a unit of the order is `Invertible`, and its
+-- degree is that of its series. `UnitOf B₀ l d E F`: from the order's basis B₀ the chain closes first after l steps, with the degree sum d, and
+-- E is the unit, F its inverse. `Fundamental`, `Smallest`, `LeastDegree` and `NoneBetween` are in crate fundamental, specs/Smallest.antt.
+-- The theorem `smallest-unit` is in proofs/Smallest.antt.
+use mathlib.Core.Path.{_≡_}
+use mathlib.Core.List.{List}
+use Prim.Native.Nat.{ℕ, suc, _+_, _*_, _≤_, _<_}
+use lib.ListN.{length}
+use Rattle.valued.specs.Degree.{Has}
+use Rattle.valued.specs.Polynomial.{IsUnit}
+use Rattle.field.specs.Refusal.{Accepted}
+use Rattle.ideals.specs.Setting.{P}
+use Rattle.ideals.specs.Element.{O, sc, ev, norm}
+use Rattle.ideals.specs.Ideal.{Basis}
+use Rattle.ideals.specs.Next.{Start}
+use Rattle.chain.specs.Chain.{Closing}
+use Rattle.chain.specs.Unit.{Invertible, UnitOf}
+use Rattle.fundamental.specs.Complete.{Completeness}
+use Rattle.fundamental.specs.Smallest.{NoneBetween, LeastDegree, Smallest, Fundamental}
+use Rattle.record.specs.Record.{setting}
+use Rattle.bases.specs.Answer.{IsFirst}
+use Rattle.walk.specs.declared.Walked.{Walked}
+use Rattle.walk.specs.Walk.{Walks}
+use Rattle.walks.specs.declared.Told.{Told}
+use Rattle.walks.specs.Order.{FromOrder}
+use Rattle.unit.specs.declared.Made.{Made}
+use Rattle.unit.specs.Unit.{Makes, six}
+
+pub record SmallestRows (p : ℕ) (G H : List ℕ) (m : Made) (rows : List ℕ) : Type 0 where
+  -- six rows of c numbers: E0, E1, E2, F0, F1, F2
+  pub c : ℕ
+  pub long : length rows ≡ 6 * c
+  -- E is "the smallest unit of positive degree with E0 monic", and its degree twice the regulator
+  pub smallest : (A : Accepted p G H) → Smallest (setting A) (six A c 0 rows) (m .regulator .0 + m .regulator .0)
+  pub fundamental : (A : Accepted p G H) → Fundamental (setting A) (six A c 0 rows) (six A c (c + c + c) rows) (m .regulator .0 + m .regulator .0)
+
+pub record SmallestUnit : Type 0 where
+  -- of every closing walk from the order of an accepted field: E the unit, F its inverse, d its degree
+  pub fundamental :
+      {p : ℕ} {G H : List ℕ} (A : Accepted p G H) (B₀ : Basis (setting A)) {l d : ℕ} {E F : O (setting A) .El} →
+      UnitOf (setting A) B₀ l d E F →
+      Fundamental (setting A) E F d
+  -- the degree sum of a closing chain from the order is the least positive degree of a unit
+  pub closing-least :
+      {p : ℕ} {G H : List ℕ} (A : Accepted p G H) (B₀ : Basis (setting A)) → Start (setting A) B₀ →
+      {l d : ℕ} {B : Basis (setting A)} → Closing (setting A) B₀ l d B →
+      LeastDegree (setting A) d
+  -- the general form: a reduced ideal J with E·J = O and deg E ≥ 0 stands in the chain
+  pub complete : {p : ℕ} {G H : List ℕ} (A : Accepted p G H) → Completeness (setting A)
+  -- "the rows returned are the smallest unit of positive degree with E0 monic"
+  pub unit-rows :
+      {p n : ℕ} {G H rows scratch rows′ scratch′ : List ℕ} (m : Made) →
+      Makes p G H n rows scratch m rows′ scratch′ → m .refusal ≡ 0 →
+      SmallestRows p G H m rows′
+  -- "the regulator returned is half the least positive degree of a unit"
+  pub regulator :
+      {p n : ℕ} {G H : List ℕ} (o : Told) →
+      FromOrder p G H n o → o .refusal ≡ 0 →
+      (A : Accepted p G H) → LeastDegree (setting A) (o .regulator .0 + o .regulator .0)
+  -- the degree sum of a walk from the order's record that closes is that degree
+  pub walk-sum :
+      {p n : ℕ} {G H B : List ℕ} (w : Walked) → IsFirst p G H B →
+      Walks p G H n B w → w .refusal ≡ 0 →
+      (A : Accepted p G H) → LeastDegree (setting A) (w .sum)
+  -- refusal 10: no unit has a degree from 1 to the budget, or from 1 to the degree sum that a walk hands out
+  pub regulator-open :
+      {p n : ℕ} {G H : List ℕ} (o : Told) →
+      FromOrder p G H n o → o .refusal ≡ 10 →
+      (A : Accepted p G H) → NoneBetween (setting A) (suc n)
+  pub walk-open :
+      {p n : ℕ} {G H B : List ℕ} (w : Walked) → IsFirst p G H B →
+      Walks p G H n B w → w .refusal ≡ 10 →
+      (A : Accepted p G H) → NoneBetween (setting A) (suc (w .sum))
+  -- the chain closes where the order has a unit of positive degree, and with no larger degree sum
+  pub closes :
+      {p : ℕ} {G H : List ℕ} (A : Accepted p G H) (B₀ : Basis (setting A)) → Start (setting A) B₀ →
+      {n : ℕ} (η : O (setting A) .El) → Invertible (setting A) η → Has (setting A .𝓥) (ev (setting A) η) n → 1 ≤ n →
+      (l d : ℕ) × (B : Basis (setting A)) × Closing (setting A) B₀ l d B × (d ≤ n)
+  -- the least positive degree is one, and so is the smallest unit
+  pub least-one :
+      {p : ℕ} {G H : List ℕ} (A : Accepted p G H) (c d : ℕ) →
+      LeastDegree (setting A) c → LeastDegree (setting A) d →
+      c ≡ d
+  pub smallest-one :
+      {p : ℕ} {G H : List ℕ} (A : Accepted p G H) {c d : ℕ} {E E′ : O (setting A) .El} →
+      Smallest (setting A) E c → Smallest (setting A) E′ d →
+      (c ≡ d) × (E ≡ E′)
+  -- "an element of the order of constant norm and of degree 2R is our E up to a constant"
+  pub constant-norm :
+      {p : ℕ} {G H : List ℕ} (A : Accepted p G H) (B₀ : Basis (setting A)) {l d : ℕ} {E F : O (setting A) .El} →
+      UnitOf (setting A) B₀ l d E F →
+      (x : O (setting A) .El) → IsUnit (setting A .𝓥) (norm (setting A) x) → Has (setting A .𝓥) (ev (setting A) x) d →
+      (c : P (setting A)) × IsUnit (setting A .𝓥) c × (x ≡ O (setting A) .ops .mul (sc (setting A) c) E)
+  -- "two walks that close agree": whatever their budgets, and for a unit the room
+  pub walks-agree :
+      {p n n′ : ℕ} {G H : List ℕ} (o o′ : Told) →
+      FromOrder p G H n o → o .refusal ≡ 0 →
+      FromOrder p G H n′ o′ → o′ .refusal ≡ 0 →
+      o ≡ o′
+  pub units-agree :
+      {p n n′ : ℕ} {G H rows scratch r s rows′ scratch′ r′ s′ : List ℕ} (m m′ : Made) →
+      Makes p G H n rows scratch m r s → m .refusal ≡ 0 →
+      Makes p G H n′ rows′ scratch′ m′ r′ s′ → m′ .refusal ≡ 0 →
+      (c c′ : ℕ) → length r ≡ 6 * c → length r′ ≡ 6 * c′ →
+      (m ≡ m′) × ((A : Accepted p G H) → (six A c 0 r ≡ six A c′ 0 r′) × (six A c (c + c + c) r ≡ six A c′ (c′ + c′ + c′) r′))
