@@ -1,0 +1,50 @@
+-- The orders of two accepted pairs of one field correspond.
+--   carried       what carries over corresponds
+--   prime-one     two proofs that p is prime are one
+--   corresponds   for two accepted pairs of one field
+use mathlib.Core.Path.{_≡_, sym, subst}
+use mathlib.Core.HLevel.{⊥-prop}
+use mathlib.Core.List.{List}
+use Prim.Native.Nat.{ℕ, suc}
+use native.Mathlib.Bridge.{le-prop}
+use Rattle.fp.specs.Fp.{Prime}
+use Rattle.valued.specs.Val.{Valued}
+use Rattle.valued.specs.Polynomial.{polys}
+use Rattle.valued.proofs.Degree.{has-eq}
+use Rattle.reading.specs.Made.{reading}
+use Rattle.field.specs.Refusal.{Accepted}
+use Rattle.cubicfield.proofs.Root as root
+use Rattle.record.specs.Record.{setting}
+use Rattle.onefield.specs.OneField.{OneField}
+use Rattle.onefield.specs.Corresponds.{Corresponds}
+use Rattle.onefield.specs.Side.{Side, at}
+use Rattle.onefield.specs.Carries.{Carries}
+use Rattle.onefield.proofs.Inverse.{back, ev-kept}
+use Rattle.onefield.proofs.OneField.{carries}
+
+pub carried : (𝓥 : Valued) {s s′ : Side 𝓥} → Carries s s′ → Corresponds (at s) (at s′)
+carried 𝓥 c = record {
+  to = c .to;
+  from = c .from;
+  to-from = c .to-from;
+  from-to = c .from-to;
+  to-one = c .poly (polys 𝓥 .ops .𝟏);
+  from-one = back 𝓥 c .poly (polys 𝓥 .ops .𝟏);
+  to-mul = c .mul;
+  from-mul = back 𝓥 c .mul;
+  to-deg = λ {p} {q} u h. has-eq 𝓥 h (sym (ev-kept 𝓥 c u));
+  from-deg = λ {p} {q} v h. has-eq 𝓥 h (sym (ev-kept 𝓥 (back 𝓥 c) v));
+}
+
+pub prime-one : {p : ℕ} (a b : Prime p) → a ≡ b
+prime-one {p} a b = λ i. record {
+  big = le-prop {n = suc 1} {m = p} (a .big) (b .big) i;
+  only = λ d h l z. ⊥-prop (a .only d h l z) (b .only d h l z) i;
+}
+
+-- both settings at the first pair's proof that p is prime; then the second at its own
+pub corresponds : {p : ℕ} {G H G′ H′ : List ℕ} (A : Accepted p G H) (A′ : Accepted p G′ H′)
+    → OneField p G H G′ H′ → Corresponds (setting A) (setting A′)
+corresponds {p} A A′ o =
+    subst (λ pr. Corresponds (setting A) (root.setting A′ pr)) (prime-one (A .prime) (A′ .prime))
+    (carried (reading p (A .prime) .𝓥) (carries A A′ o (A .prime)))

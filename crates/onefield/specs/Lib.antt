@@ -1,0 +1,4 @@
+pub mod OneField
+pub mod Corresponds
+pub mod Side
+pub mod Carries
