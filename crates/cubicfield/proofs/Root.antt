@@ -24,8 +24,8 @@ use Rattle.reading.specs.Made.{reading, cube-roots}
 use Rattle.reading.specs.Roots.{CubeRoots}
 use Rattle.reading.specs.Row.{row}
 use Rattle.poly.specs.Factors.{polynomial}
-use Rattle.field.specs.Refusal.{Degree, Accepted}
-use Rattle.field.proofs.Accept.{degree-size, degree-has}
+use Rattle.field.specs.Refusal.{Accepted}
+use Rattle.field.proofs.Accept.{degree-size, degree-lead, degree-has}
 use Rattle.reading.proofs.Rows.{size-lead}
 use Rattle.ideals.specs.Setting.{Setting}
 use Rattle.ideals.proofs.Roots.{roots-unique}
@@ -66,10 +66,6 @@ module _ {p : ℕ} {G H : List ℕ} (A : Accepted p G H) (pr : Prime p) where
   abbrev top-D : ℕ
   top-D = (lg * (lh * lh)) % p
 
-  -- a leading coefficient is not 0
-  top-not : {l : List ℕ} {d : ℕ} → Degree p l d → cast (getD l d 0) ≢ 0ᵏ
-  top-not {l} {d} h e = h .last (ρ .cast-small (getD l d 0) (h .each d (let w : length l ≡ suc d = h .whole in omega arith)) e)
-
   pub leadR : K .El
   leadR = cast (powMod p top-D (third p))
 
@@ -90,7 +86,7 @@ module _ {p : ℕ} {G H : List ℕ} (A : Accepted p G H) (pr : Prime p) where
 
   pub leadR-not : leadR ≢ 0ᵏ
   leadR-not e =
-      k-domain 𝓥 (cast lg) (cast lh *ᵏ cast lh) (top-not (A .listG)) (k-domain 𝓥 (cast lh) (cast lh) (top-not (A .listH)) (top-not (A .listH)))
+      k-domain 𝓥 (cast lg) (cast lh *ᵏ cast lh) (degree-lead pr (A .listG)) (k-domain 𝓥 (cast lh) (cast lh) (degree-lead pr (A .listH)) (degree-lead pr (A .listH)))
       (sym cube-is ∙ ap (λ x. x *ᵏ x *ᵏ x) e ∙ ring₁ K (λ x. zer :* zer :* zer := zer) tt 0ᵏ)
 
   pub G-has : Has 𝓥 (row ρ G) (A .degG)

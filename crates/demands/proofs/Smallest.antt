@@ -18,6 +18,7 @@ use Rattle.fundamental.proofs.Units.{unit-closes, none-below}
 use Rattle.fundamental.proofs.Fundamental.{unit-fundamental, unit-smallest, closing-least}
 use Rattle.fundamental.proofs.Agree.{least-one, smallest-one, constant-norm}
 use Rattle.record.specs.Record.{setting, basisOf}
+use Rattle.onefield.proofs.Least.{least-agree}
 use Rattle.bases.specs.Answer.{IsFirst}
 use Rattle.walk.specs.Walk as walk
 use Rattle.walk.proofs.Walk.{closes-one}
@@ -100,6 +101,7 @@ smallest-unit = record {
   least-one = λ A. least-one (setting A);
   smallest-one = λ A a b. smallest-one (setting A) a b;
   constant-norm = λ A B₀ u x c h. constant-norm (setting A) (unit-fundamental (setting A) u .least) x c h;
+  one-field = least-agree;
   walks-agree = λ o o′ h z h′ z′. told-agree _ _ _ _ _ o o′ h z h′ z′;
   units-agree = λ m m′ h z h′ z′ c c′ e e′. units-agree _ _ _ _ _ _ _ _ _ _ _ _ _ m m′ h z h′ z′ c c′ e e′;
 }

@@ -22,6 +22,7 @@ use Rattle.chain.specs.Unit.{Invertible, UnitOf}
 use Rattle.fundamental.specs.Complete.{Completeness}
 use Rattle.fundamental.specs.Smallest.{NoneBetween, LeastDegree, Smallest, Fundamental}
 use Rattle.record.specs.Record.{setting}
+use Rattle.onefield.specs.OneField.{OneField}
 use Rattle.bases.specs.Answer.{IsFirst}
 use Rattle.walk.specs.declared.Walked.{Walked}
 use Rattle.walk.specs.Walk.{Walks}
@@ -95,6 +96,11 @@ pub record SmallestUnit : Type 0 where
       UnitOf (setting A) B₀ l d E F →
       (x : O (setting A) .El) → IsUnit (setting A .𝓥) (norm (setting A) x) → Has (setting A .𝓥) (ev (setting A) x) d →
       (c : P (setting A)) × IsUnit (setting A .𝓥) c × (x ≡ O (setting A) .ops .mul (sc (setting A) c) E)
+  -- "for two pairs of one field the least degrees agree"
+  pub one-field :
+      {p : ℕ} {G H G′ H′ : List ℕ} (A : Accepted p G H) (A′ : Accepted p G′ H′) → OneField p G H G′ H′ →
+      (c d : ℕ) → LeastDegree (setting A) c → LeastDegree (setting A′) d →
+      c ≡ d
   -- "two walks that close agree": whatever their budgets, and for a unit the room
   pub walks-agree :
       {p n n′ : ℕ} {G H : List ℕ} (o o′ : Told) →

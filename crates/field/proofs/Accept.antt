@@ -1,7 +1,8 @@
 -- The number is 0 exactly for the accepted fields.
 --   accepted                            number 0: accepted
 --   accepted-none                       accepted: number 0
---   degree-size, degree-has             the trimmed length of a list of coefficients, and the degree of its polynomial
+--   degree-size, degree-lead, degree-has   of a list of coefficients: its trimmed length, its leading coefficient, which is not 0, and the
+--                                       degree of its polynomial
 --   stop-p, stop-lists, pass-lists      the rows put together
 --   shaped                              what rows 1 to 6 leave to rows 7 and 8
 -- What is not at fault is good, since the faults 1 and 3 are of things that are decided, and the others are negations themselves.
@@ -65,11 +66,11 @@ degree-size {p} {d} {l} s =
       top = λ h. let w : suc d - 1 ≡ d = omega arith in λ z. s .last (ap (λ n. getD l n 0) (sym w) ∙ z);
     }
 
+pub degree-lead : {p d : ℕ} {l : List ℕ} (pr : Prime p) → Degree p l d → reading p pr .cast (getD l d 0) ≢ reading p pr .𝓥 .K .ops .𝟎
+degree-lead {p} {d} {l} pr s z = let e : length l ≡ suc d = s .whole in s .last (reading p pr .cast-small (getD l d 0) (s .each d (omega arith)) z)
+
 pub degree-has : {p d : ℕ} {l : List ℕ} (pr : Prime p) → Degree p l d → Has (reading p pr .𝓥) (row (reading p pr) l) d
-degree-has {p} {d} {l} pr s =
-    let ρ = reading p pr in
-    let e : length l ≡ suc d = s .whole in
-    (ρ .cast (getD l d 0), (λ z. s .last (ρ .cast-small (getD l d 0) (s .each d (omega arith)) z)), size-lead ρ (degree-size s))
+degree-has {p} {d} {l} pr s = let ρ = reading p pr in (ρ .cast (getD l d 0), degree-lead pr s, size-lead ρ (degree-size s))
 
 -- ---- the rows put together: a row's number stops the table, 0 hands it on
 module _ (p : ℕ) (G H : List ℕ) where

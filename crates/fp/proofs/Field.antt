@@ -1,11 +1,12 @@
 -- The integers mod a prime are a field.
+--   prime-one     two proofs that p is prime are one
 --   Fld p         the ring, at a prime
 --   inverse       what is not 0 has an inverse: inv a = − (p / a) · inv (p mod a)
 --   cancel-zero   no zero divisors
 --   field p       the field: equality is decided, and `inverse`
 use mathlib.Core.Path.{_≡_, sym, ap, _∙_}
 use mathlib.Core.Logic.{_≢_}
-use mathlib.Core.HLevel.{Σ-prop-discrete}
+use mathlib.Core.HLevel.{Σ-prop-discrete, ⊥-prop}
 use mathlib.Core.List.{[], _∷_}
 use Prim.Native.Nat.{ℕ, zero, suc, _*_, _/_, _%_, _<_, _≤_}
 use native.Mathlib.Nat.{mod-lt, mod-eq-of-lt, mod-add-div}
@@ -17,6 +18,9 @@ use Rattle.ring.specs.Field.{Field}
 use Rattle.ring.proofs.Solve.{var, one, zer, minus, _:+_, _:*_, hyp, solve-by}
 use Rattle.fp.specs.Fp.{F, cls, Prime}
 use Rattle.fp.proofs.Ring.{F-path, ring, cls-add, cls-mul, cls-p, cls-val}
+
+pub prime-one : {p : ℕ} (a b : Prime p) → a ≡ b
+prime-one {p} a b = λ i. record { big = le-prop {n = suc 1} {m = p} (a .big) (b .big) i; only = λ d h l z. ⊥-prop (a .only d h l z) (b .only d h l z) i }
 
 module _ (p : ℕ) (pr : Prime p) where
   abbrev pub ppos : 0 < p

@@ -24,7 +24,7 @@ use Rattle.reading.specs.Made.{reading}
 use Rattle.reading.specs.Row.{tab, tpow, psum, coefs, row}
 use Rattle.reading.specs.Sum.{sumTo, termAt}
 use Rattle.reading.proofs.Tab.{Filled, filled-end, length-tab, at-tab, past-tab}
-use Rattle.reading.proofs.Rows.{psum-ext, psum-plus, psum-poly, psum-lt, psum-cut, tpow-add, tpow-lead, row-tab, row-upto}
+use Rattle.reading.proofs.Rows.{psum-ext, psum-scale, psum-plus, psum-poly, psum-lt, psum-cut, tpow-add, tpow-lead, row-tab, row-upto}
 use Rattle.reading.proofs.Product.{product-law}
 use Rattle.long.specs.Long.{Low, ScaleIn, Scaled, MixIn, Mixed, TimesIn, Times}
 
@@ -134,14 +134,12 @@ module _ {p : ℕ} (ρ : Reading p) where
   times-law {n} x y l w = let e = alone (row ρ x) (row ρ y) in low-unique w (lt-eq 𝓥 (product-lt n x y l) (sym e)) ∙ e
 
   pub scale-law : (s : ℕ) (d : List ℕ) → row ρ (tab (length d) (λ i. N._*_ (getD d i 0) s % p)) ≡ const (cast s) * row ρ d
-  unfolding row psum
-  scale-law s d = row-tab ρ (length d) (λ i. N._*_ (getD d i 0) s % p) ∙ go (length d)
-    where
-      go : (n : ℕ) → psum ρ n (λ i. cast (N._*_ (getD d i 0) s % p)) ≡ const (cast s) * psum ρ n (coefs ρ d)
-      go zero = solve L zer (var 0 :* zer) tt (const (cast s) ∷ [])
-      go (suc n) =
-          ap₂ (λ a b. a + b * tpow ρ n) (go n) (ap const (ρ .cast-mod (N._*_ (getD d n 0) s) ∙ ρ .cast-mul (getD d n 0) s) ∙ ρ .const-mul (cast (getD d n 0)) (cast s))
-          ∙ solve L (var 0 :* var 1 :+ var 2 :* var 0 :* var 3) (var 0 :* (var 1 :+ var 2 :* var 3)) tt (const (cast s) ∷ psum ρ n (coefs ρ d) ∷ const (cast (getD d n 0)) ∷ tpow ρ n ∷ [])
+  unfolding row
+  scale-law s d =
+      row-tab ρ (length d) (λ i. N._*_ (getD d i 0) s % p)
+      ∙ psum-ext ρ (length d) (λ i. cast (N._*_ (getD d i 0) s % p)) (λ i. cast s *ᵏ coefs ρ d i)
+      (λ i u. ρ .cast-mod (N._*_ (getD d i 0) s) ∙ ρ .cast-mul (getD d i 0) s ∙ K .laws .mul-comm (cast (getD d i 0)) (cast s))
+      ∙ psum-scale ρ (length d) (cast s) (coefs ρ d)
 
 -- what the loops of `scale` and `mix` end with
 pub below : (p n : ℕ) (f : ℕ → ℕ) (d : List ℕ) → 0 < p → ((i : ℕ) → f i < p) → d ≡ tab n f → (i : ℕ) → getD d i 0 < p

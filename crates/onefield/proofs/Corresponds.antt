@@ -1,13 +1,10 @@
 -- The orders of two accepted pairs of one field correspond.
 --   carried       what carries over corresponds
---   prime-one     two proofs that p is prime are one
 --   corresponds   for two accepted pairs of one field
-use mathlib.Core.Path.{_≡_, sym, subst}
-use mathlib.Core.HLevel.{⊥-prop}
+use mathlib.Core.Path.{sym, subst}
 use mathlib.Core.List.{List}
-use Prim.Native.Nat.{ℕ, suc}
-use native.Mathlib.Bridge.{le-prop}
-use Rattle.fp.specs.Fp.{Prime}
+use Prim.Native.Nat.{ℕ}
+use Rattle.fp.proofs.Field.{prime-one}
 use Rattle.valued.specs.Val.{Valued}
 use Rattle.valued.specs.Polynomial.{polys}
 use Rattle.valued.proofs.Degree.{has-eq}
@@ -34,12 +31,6 @@ carried 𝓥 c = record {
   from-mul = back 𝓥 c .mul;
   to-deg = λ {p} {q} u h. has-eq 𝓥 h (sym (ev-kept 𝓥 c u));
   from-deg = λ {p} {q} v h. has-eq 𝓥 h (sym (ev-kept 𝓥 (back 𝓥 c) v));
-}
-
-pub prime-one : {p : ℕ} (a b : Prime p) → a ≡ b
-prime-one {p} a b = λ i. record {
-  big = le-prop {n = suc 1} {m = p} (a .big) (b .big) i;
-  only = λ d h l z. ⊥-prop (a .only d h l z) (b .only d h l z) i;
 }
 
 -- both settings at the first pair's proof that p is prime; then the second at its own

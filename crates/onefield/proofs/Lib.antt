@@ -3,3 +3,4 @@ pub mod Pairs
 pub mod Lists
 pub mod OneField
 pub mod Corresponds
+pub mod Least

@@ -1,11 +1,10 @@
 -- Lists that agree after they are made monic.
---   psum-scale   a constant times a sum of terms
 --   monic-poly   the polynomial of a list is its leading coefficient times that of the list made monic
 --   agree-poly   the polynomials of two lists that agree differ by a constant that is not 0
 use mathlib.Core.Path.{_≡_, sym, ap, ap₂, _∙_}
 use mathlib.Core.Logic.{_≢_}
 use mathlib.Core.List.{List, [], _∷_}
-use Prim.Native.Nat.{ℕ, zero, suc}
+use Prim.Native.Nat.{ℕ, suc}
 use Prim.Native.Nat as N
 use native.Mathlib.Omega.{arith}
 use lib.ListN.{length, getD}
@@ -18,10 +17,11 @@ use Rattle.valued.specs.Polynomial.{polys, Poly, IsUnit}
 use Rattle.valued.proofs.Polynomial.{P-path, const-unit}
 use Rattle.reading.specs.Reading.{Reading}
 use Rattle.reading.specs.Made.{reading}
-use Rattle.reading.specs.Row.{tpow, psum, coefs, row}
-use Rattle.reading.proofs.Rows.{psum-ext}
+use Rattle.reading.specs.Row.{psum, coefs, row}
+use Rattle.reading.proofs.Rows.{psum-ext, psum-scale}
 use Rattle.poly.specs.Factors.{polynomial}
 use Rattle.field.specs.Refusal.{Degree}
+use Rattle.field.proofs.Accept.{degree-lead}
 use Rattle.cubicfield.proofs.Begin.{same-cast}
 use Rattle.onefield.specs.OneField.{leading, Monic, Agree}
 
@@ -37,13 +37,6 @@ module _ (p : ℕ) (pr : Prime p) where
 
   infixl 60 _+_
   infixl 70 _*_ _⊠_ _*ᵏ_
-  psum-scale : (n : ℕ) (k : K .El) (f : ℕ → K .El) → psum ρ n (λ i. k *ᵏ f i) ≡ const k * psum ρ n f
-  unfolding psum
-  psum-scale zero k f = sym (rg.mul-zero L (const k))
-  psum-scale (suc n) k f =
-      ap₂ (λ x y. x + y * tpow ρ n) (psum-scale n k f) (ρ .const-mul k (f n))
-      ∙ solve L (var 0 :* var 1 :+ var 0 :* var 2 :* var 3) (var 0 :* (var 1 :+ var 2 :* var 3)) tt (const k ∷ psum ρ n f ∷ const (f n) ∷ tpow ρ n ∷ [])
-
   -- ---- the leading coefficient
   abbrev lc : List ℕ → Poly 𝓥
   lc l = (const (cast (leading l)), 𝓥 .const-poly (cast (leading l)))
@@ -52,7 +45,7 @@ module _ (p : ℕ) (pr : Prime p) where
   leading-not {l} {n} h z =
       let e : length l ≡ suc n = h .whole in
       let f : N._-_ (length l) 1 ≡ n = omega arith in
-      h .last (ρ .cast-small (getD l n 0) (h .each n (omega arith)) (ap (λ i. cast (getD l i 0)) (sym f) ∙ z))
+      degree-lead pr h (ap (λ i. cast (getD l i 0)) (sym f) ∙ z)
 
   lc-unit : {l : List ℕ} {n : ℕ} → Degree p l n → IsUnit 𝓥 (lc l)
   lc-unit {l} h = const-unit 𝓥 (lc l) (cast (leading l), leading-not h, 𝓥 .const-lead (cast (leading l)))
@@ -64,7 +57,7 @@ module _ (p : ℕ) (pr : Prime p) where
       (ap (λ n. psum ρ n (coefs ρ l)) (sym (h .long))
       ∙ psum-ext ρ (length m) (coefs ρ l) (λ i. cast (leading l) *ᵏ coefs ρ m i)
       (λ i u. sym (same-cast ρ (N._*_ (leading l) (getD m i 0)) (getD l i 0) (h .times i)) ∙ ρ .cast-mul (leading l) (getD m i 0))
-      ∙ psum-scale (length m) (cast (leading l)) (coefs ρ m))
+      ∙ psum-scale ρ (length m) (cast (leading l)) (coefs ρ m))
 
   -- l′ = (lc l′ / lc l) l, where q and q′ are the inverses of lc l and lc l′
   pub agree-poly : {l l′ : List ℕ} {n n′ : ℕ} → Degree p l n → Degree p l′ n′ → Agree p l l′

@@ -3,7 +3,7 @@
 --   leading l       the last entry of a list: its leading coefficient
 --   Monic p l m     m is l made monic: as long, numbers below p, leading coefficient 1, and lc(l) · m = l mod p
 --   Agree p l l′    l and l′ agree after both are made monic
---   OneField        the pairs G, H and G′, H′ agree, in one order or the other
+--   OneField        the pairs G, H and G′, H′ agree, in one order or the other (a book still tells its bodies apart by the lists themselves)
 -- In proofs/: Lists (`agree-poly`: polynomials of lists that agree differ by a constant that is not 0), OneField (`carries`: the order of
 -- the one accepted pair goes to that of the other), Corresponds (`corresponds`: the two orders correspond).
 use mathlib.Core.Path.{_≡_}

@@ -47,6 +47,13 @@ module _ {p : ℕ} (ρ : Reading p) where
   psum-ext zero f g h = refl
   psum-ext (suc n) f g h = ap₂ (λ x y. x + const y * tpow ρ n) (psum-ext n f g (λ i l. h i (omega arith))) (h n (omega arith))
 
+  pub psum-scale : (n : ℕ) (k : K .El) (f : ℕ → K .El) → psum ρ n (λ i. k *ᵏ f i) ≡ const k * psum ρ n f
+  unfolding psum
+  psum-scale zero k f = sym (r.mul-zero L (const k))
+  psum-scale (suc n) k f =
+      ap₂ (λ x y. x + y * tpow ρ n) (psum-scale n k f) (ρ .const-mul k (f n))
+      ∙ solve L (var 0 :* var 1 :+ var 0 :* var 2 :* var 3) (var 0 :* (var 1 :+ var 2 :* var 3)) tt (const k ∷ psum ρ n f ∷ const (f n) ∷ tpow ρ n ∷ [])
+
   pub psum-cut : (n j : ℕ) (f : ℕ → K .El) → ((i : ℕ) → n ≤ i → f i ≡ 0ᵏ) → psum ρ (N._+_ j n) f ≡ psum ρ n f
   unfolding psum
   psum-cut n zero f h = ap (λ m. psum ρ m f) (zero-add n)
