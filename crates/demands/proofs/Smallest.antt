@@ -28,7 +28,7 @@ use Rattle.walks.proofs.Order.{first-one}
 use Rattle.unit.specs.declared.Made.{Made}
 use Rattle.unit.specs.Unit.{Makes, Success, six}
 use Rattle.demands.specs.Smallest.{SmallestRows, SmallestUnit}
-use Rattle.demands.proofs.Cases.{walk-closed, walk-spent, told-closed, told-spent, told-accepted, unit-made, unit-accepted, success-unit}
+use Rattle.demands.proofs.Cases.{walk-closed, walk-spent, told-closed, told-spent, told-accepted, unit-made, unit-spent, unit-narrow, unit-accepted, success-unit}
 
 halves : (a b : ℕ) → a + a ≡ b + b → a ≡ b
 halves a b e = omega arith
@@ -97,6 +97,12 @@ smallest-unit = record {
   walk-sum = λ w f h z A. closing-least (setting A) (f .start A) (walk-closed _ _ _ _ _ w h z .closes .closing A);
   regulator-open = λ o h z A. let (B, f, g) = told-spent _ _ _ _ o h z in open-none (setting A) (basisOf A B) (f .start A) _ (g A);
   walk-open = λ w f h z A. let s = walk-spent _ _ _ _ _ w h z in none-below (setting A) _ (f .start A) (s .reaches .chain A) (s .none A);
+  unit-open = λ m h z A. let (B₀, st) = order-exists (setting A) in open-none (setting A) B₀ st _ (unit-spent _ _ _ _ _ _ _ _ m h z A B₀ st);
+  unit-narrow = λ m h z c e A.
+      let (c′, l, d, t, f, g) = unit-narrow _ _ _ _ _ _ _ _ m h z in
+      let (B₀, st) = order-exists (setting A) in
+      let e′ = t .whole in
+      (d, closing-least (setting A) st (f A B₀ st .1), omega arith);
   closes = λ A B₀ st η inv h l. unit-closes (setting A) B₀ st η inv h l;
   least-one = λ A. least-one (setting A);
   smallest-one = λ A a b. smallest-one (setting A) a b;

@@ -67,7 +67,7 @@ pub record SmallestUnit : Type 0 where
       {p n : ℕ} {G H B : List ℕ} (w : Walked) → IsFirst p G H B →
       Walks p G H n B w → w .refusal ≡ 0 →
       (A : Accepted p G H) → LeastDegree (setting A) (w .sum)
-  -- refusal 10: no unit has a degree from 1 to the budget, or from 1 to the degree sum that a walk hands out
+  -- refusal 10: no unit has a degree from 1 to the budget, or from 1 to the degree sum that a walk hands out; refusal 11: none has one below c
   pub regulator-open :
       {p n : ℕ} {G H : List ℕ} (o : Told) →
       FromOrder p G H n o → o .refusal ≡ 10 →
@@ -76,6 +76,15 @@ pub record SmallestUnit : Type 0 where
       {p n : ℕ} {G H B : List ℕ} (w : Walked) → IsFirst p G H B →
       Walks p G H n B w → w .refusal ≡ 10 →
       (A : Accepted p G H) → NoneBetween (setting A) (suc (w .sum))
+  pub unit-open :
+      {p n : ℕ} {G H rows scratch rows′ scratch′ : List ℕ} (m : Made) →
+      Makes p G H n rows scratch m rows′ scratch′ → m .refusal ≡ 10 →
+      (A : Accepted p G H) → NoneBetween (setting A) (suc n)
+  pub unit-narrow :
+      {p n : ℕ} {G H rows scratch rows′ scratch′ : List ℕ} (m : Made) →
+      Makes p G H n rows scratch m rows′ scratch′ → m .refusal ≡ 11 →
+      (c : ℕ) → length rows ≡ 6 * c →
+      (A : Accepted p G H) → (d : ℕ) × LeastDegree (setting A) d × (c ≤ d)
   -- the chain closes where the order has a unit of positive degree, and with no larger degree sum
   pub closes :
       {p : ℕ} {G H : List ℕ} (A : Accepted p G H) (B₀ : Basis (setting A)) → Start (setting A) B₀ →
