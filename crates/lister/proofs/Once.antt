@@ -1,7 +1,7 @@
 -- One outcome for each input.
 --   lists-one    two answers to a line are equal
 --   answer-one   of `answer`: the place after the answer, and what the slice holds
---   steps-one, passes-one   of a step, and of `pass` (of `finish`: placed-unique of crate text)
+--   steps-one, passes-one   of a step, and of `pass` (of `finish`: placed-unique of crate text_put)
 --   output-one   two outputs to an input are equal
 use mathlib.Core.Path.{_≡_, refl, sym, ap, ap₂, _∙_, subst}
 use mathlib.Core.List.{List, [], _∷_, _++_}
@@ -10,15 +10,14 @@ use Prim.Native.Nat.{ℕ, zero, suc, _+_, _≤_, _<_}
 use native.Mathlib.Omega.{arith}
 use native.Mathlib.Decide.{ℕ-discrete, decLt}
 use lib.ListN.{length, take}
-use Rattle.text.specs.Grammar.{Reads}
-use Rattle.text.specs.Print.{Put, line-text, refused-text}
-use Rattle.text.specs.Lines.{Line, whole, broken}
-use Rattle.text.specs.Feed.{Answered, no-line, whole-line, broken-line, Output}
-use Rattle.text.specs.declared.cut.Step.{Step}
-use Rattle.text.specs.declared.cut.Step.the-variants.{Whole, Broken, Pending}
-use Rattle.text.proofs.Puts.{placed-unique}
-use Rattle.text.proofs.Steps.{cut-unique}
-use Rattle.text.proofs.Writings.{reads-unique}
+use Rattle.text_put.specs.Print.{Put, line-text, refused-text}
+use Rattle.text_put.proofs.Puts.{placed-unique}
+use Rattle.text_cut.specs.Lines.{Line, whole, broken}
+use Rattle.text_cut.specs.Feed.{Answered, no-line, whole-line, broken-line}
+use Rattle.text_cut.specs.declared.Step.{Step}
+use Rattle.text_cut.specs.declared.Step.the-variants.{Whole, Broken, Pending}
+use Rattle.text_cut.proofs.Steps.{cut-unique}
+use Rattle.text_read.proofs.Writings.{reads-unique}
 use Rattle.unit.specs.declared.Made.{Made}
 use Rattle.unit.specs.Unit.{Makes}
 use Rattle.unit.proofs.Once.{makes-one, Same}

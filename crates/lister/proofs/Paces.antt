@@ -1,5 +1,5 @@
 -- The lister's way through a piece.
---   Stride k s d g r k' d'   a step from g to r, in the terms of crate text: lines met, their answers, at most `room` bytes
+--   Stride k s d g r k' d'   a step from g to r, in the terms of crate text_cut: lines met, their answers, at most `room` bytes
 --   stride                   a step is one
 --   Pace k s d g r k' d'     some steps, each answer put whole
 --   way-pace, passes-pace    such a way is one; where there is room for an answer, it goes forward
@@ -9,14 +9,14 @@ use mathlib.Core.List.{List, _++_}
 use Prim.Native.Nat.{ℕ, zero, suc, _+_, _-_, _≤_, _<_}
 use native.Mathlib.Omega.{arith}
 use lib.ListN.{length, take, length-append}
-use Rattle.text.specs.Print.{Put, refused-text}
-use Rattle.text.specs.Tells.{CutTells}
-use Rattle.text.specs.Feed.{Served, end-text}
-use Rattle.text.specs.declared.cut.Step.{Step}
-use Rattle.text.specs.declared.cut.Step.the-variants.{Whole, Broken, Pending}
-use Rattle.text.proofs.Puts.{placed-none, placed-same, put-fits}
-use Rattle.text.proofs.Serves.{served-none, served-whole, served-broken, served-pending, served-then}
-use Rattle.text.proofs.Steps.{whole-step, broken-step}
+use Rattle.text_put.specs.Print.{Put, refused-text}
+use Rattle.text_put.proofs.Puts.{placed-none, placed-same, put-fits}
+use Rattle.text_cut.specs.Tells.{CutTells}
+use Rattle.text_cut.specs.Feed.{Served, end-text}
+use Rattle.text_cut.specs.declared.Step.{Step}
+use Rattle.text_cut.specs.declared.Step.the-variants.{Whole, Broken, Pending}
+use Rattle.text_cut.proofs.Serves.{served-none, served-whole, served-broken, served-pending, served-then}
+use Rattle.text_cut.proofs.Steps.{whole-step, broken-step}
 use Rattle.lister.specs.declared.Going.{Going}
 use Rattle.lister.specs.Listing.{room, Lists, Answer, Does, Steps, Way, here, more, Passes}
 use Rattle.lister.proofs.Short.{refused-short, lists-short}

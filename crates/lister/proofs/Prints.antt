@@ -5,9 +5,8 @@ use mathlib.Core.List.{List, [], _∷_, _++_}
 use Prim.Native.Nat.{ℕ, zero, suc, _+_, _-_, _≤_}
 use native.Mathlib.Omega.{arith}
 use lib.ListN.{length, take, drop}
-use Rattle.text.specs.Grammar.{semicolon, newline}
-use Rattle.text.specs.Print.{Put, number-text, list-text, refused-text}
-use Rattle.text.proofs.Puts.{put-then}
+use Rattle.text_put.specs.Print.{semicolon, newline, Put, number-text, list-text, refused-text}
+use Rattle.text_put.proofs.Puts.{put-then}
 use Rattle.reading.specs.Row.{Size}
 use Rattle.six.specs.Six.{cut}
 use Rattle.six.proofs.Parts.{mid, mid-cut}

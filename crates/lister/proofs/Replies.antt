@@ -8,13 +8,13 @@ use Prim.Native.Nat.{ℕ, _+_, _≤_}
 use native.Mathlib.Omega.{arith}
 use lib.ListN.{length, take, drop, length-append}
 use lib.Seq.{take-at}
-use Rattle.text.specs.Print.{Put, line-text, refused-text}
-use Rattle.text.specs.Tells.{ReadAs, ParseTells}
-use Rattle.text.specs.declared.read.Line.{Line}
-use Rattle.text.specs.declared.read.Parsed.{Parsed}
-use Rattle.text.specs.declared.read.Parsed.the-variants.{Read, Malformed}
-use Rattle.text.proofs.Answers.{malformed-means}
-use Rattle.text.proofs.Writings.{line-is-text}
+use Rattle.text_put.specs.Print.{Put, line-text, refused-text}
+use Rattle.text_read.specs.Tells.{ReadAs, ParseTells}
+use Rattle.text_read.specs.declared.Line.{Line}
+use Rattle.text_read.specs.declared.Parsed.{Parsed}
+use Rattle.text_read.specs.declared.Parsed.the-variants.{Read, Malformed}
+use Rattle.text_read.proofs.Answers.{malformed-means}
+use Rattle.text_read.proofs.Writings.{line-is-text}
 use Rattle.unit.specs.Unit.{Makes}
 use Rattle.lister.specs.Text.{made-text}
 use Rattle.lister.specs.Listing.{budget, blank, Lists, malformed, read, Told, Answer}

@@ -8,10 +8,9 @@ use native.Mathlib.Omega.{arith}
 use native.Mathlib.Decide.{ℕ-discrete}
 use lib.ListN.{length, getD, take, replicate, length-append, length-take, length-replicate}
 use lib.Seq.{getD-take}
-use Rattle.text.specs.Grammar.{comma, semicolon, newline, Reads}
-use Rattle.text.specs.Print.{number-text, join, list-text, line-text, refused-text}
-use Rattle.text.proofs.Inverse.{text-numeral}
-use Rattle.text.proofs.Writings.{Small, line-is-text, reads-below}
+use Rattle.text_put.specs.Print.{comma, semicolon, newline, number-text, join, list-text, refused-text}
+use Rattle.text_read.proofs.Inverse.{text-numeral}
+use Rattle.text_read.proofs.Writings.{Small, line-is-text, reads-below}
 use Rattle.reading.specs.Row.{Size}
 use Rattle.reading.proofs.Floors.{sized}
 use Rattle.reading.proofs.Tab.{length-tab, at-tab}

@@ -10,18 +10,18 @@
 --   Ends d n r d'            the answer at the input's end: refused 12 where a line is pending
 -- Theorems: proofs/Once: `lists-one`, `answer-one`, one answer to a line; `passes-one`, one outcome of the steps; `output-one`, one output
 -- to an input. proofs/Short: `lists-short`, an answer has at most `room` bytes. proofs/Paces: `passes-pace`, the lines met are answered
--- in order, each answer whole. That they are the lines of the input, whatever the pieces: `fed-lines` and `fed-output` of crate text.
+-- in order, each answer whole. That they are the lines of the input, whatever the pieces: `fed-lines` and `fed-output` of crate text_cut.
 use mathlib.Core.Path.{_≡_}
 use mathlib.Core.Logic.{_⊎_}
 use mathlib.Core.List.{List}
 use Prim.Native.Nat.{ℕ, suc, _+_, _≤_, _<_}
 use lib.ListN.{length, take, replicate}
-use Rattle.text.specs.Grammar.{Reads}
-use Rattle.text.specs.Print.{Put, line-text, refused-text}
-use Rattle.text.specs.Tells.{CutTells}
-use Rattle.text.specs.Feed.{end-text}
-use Rattle.text.specs.declared.cut.Step.{Step}
-use Rattle.text.specs.declared.cut.Step.the-variants.{Whole, Broken, Pending}
+use Rattle.text_put.specs.Print.{Put, line-text, refused-text}
+use Rattle.text_cut.specs.Tells.{CutTells}
+use Rattle.text_cut.specs.Feed.{end-text}
+use Rattle.text_cut.specs.declared.Step.{Step}
+use Rattle.text_cut.specs.declared.Step.the-variants.{Whole, Broken, Pending}
+use Rattle.text_read.specs.Grammar.{Reads}
 use Rattle.unit.specs.declared.Made.{Made}
 use Rattle.unit.specs.Unit.{Makes}
 use Rattle.lister.specs.Text.{made-text}

@@ -7,8 +7,7 @@
 -- Laws: proofs/Trims, proofs/Prints.
 use mathlib.Core.List.{List, [], _∷_, _++_}
 use Prim.Native.Nat.{ℕ, zero, suc}
-use Rattle.text.specs.Grammar.{semicolon, newline}
-use Rattle.text.specs.Print.{number-text, list-text, refused-text}
+use Rattle.text_put.specs.Print.{semicolon, newline, number-text, list-text, refused-text}
 use Rattle.six.specs.Six.{cut}
 use Rattle.unit.specs.declared.Made.{Made}
 

@@ -2,13 +2,12 @@
 ghost use Prim.Native.Nat.{_≤_};
 ghost use mathlib.Core.List.{_∷_};
 ghost use lib.ListN.{length};
-ghost use Rattle.text.specs.Grammar.{semicolon};
-ghost use Rattle.text.specs.Print.{Put, number-text, list-text};
+ghost use Rattle.text_put.specs.Print.{semicolon, Put, number-text, list-text};
 ghost use Rattle.six.specs.Six.{cut};
 ghost use Rattle.lister.specs.Text.{trim, rows-text, made-text};
 ghost use Rattle.lister.specs.Listing.{Told, Answer, Steps, Passes, Ends};
-use text::cut::Step;
-use text::read::Parsed;
+use text_cut::Step;
+use text_read::Parsed;
 use unit::Made;
 
 // No answer is longer.
@@ -25,8 +24,8 @@ pub struct Going {
 fn put_count(out: &mut [u8], at: usize, n: u64) -> usize
     ensures { λ r. ⌜ Put (now (out .entry)) at (semicolon ∷ number-text n) r (now (out .exit)) ⌝ }
 {
-    let to = text::put::put_byte(out, at, b';');
-    text::put::put_number(out, to, n)
+    let to = text_put::put_byte(out, at, b';');
+    text_put::put_number(out, to, n)
 }
 
 // A field of the answer that is a row of the unit.
@@ -34,8 +33,8 @@ fn put_row(out: &mut [u8], at: usize, row: &[u16]) -> usize
     ensures { λ r. ⌜ Put (now (out .entry)) at (semicolon ∷ list-text (trim (now (row .entry)))) r (now (out .exit)) ⌝ }
 {
     let n = long::size(row);
-    let to = text::put::put_byte(out, at, b';');
-    text::put::put_list(out, to, row, n)
+    let to = text_put::put_byte(out, at, b';');
+    text_put::put_list(out, to, row, n)
 }
 
 // The three rows of the unit, and the newline.
@@ -46,7 +45,7 @@ fn put_rows(out: &mut [u8], at: usize, rows: &[u16]) -> usize
     let a = put_row(out, at, &rows[0..1024]);
     let b = put_row(out, a, &rows[1024..2048]);
     let c = put_row(out, b, &rows[2048..3072]);
-    text::put::put_byte(out, c, b'\n')
+    text_put::put_byte(out, c, b'\n')
 }
 
 // What `unit` answered, printed behind the line.
@@ -56,11 +55,11 @@ fn put_made(out: &mut [u8], at: usize, line: &[u8], m: Made, rows: &[u16]) -> us
 {
     let refusal = m.refusal;
     if refusal != 0 {
-        return text::put::put_refused(out, at, refusal as u64);
+        return text_put::put_refused(out, at, refusal as u64);
     }
     let period = m.period;
     let regulator = m.regulator;
-    let a = text::put::put_bytes(out, at, line);
+    let a = text_put::put_bytes(out, at, line);
     let b = put_count(out, a, period.0);
     let c = put_count(out, b, regulator.0);
     put_rows(out, c, rows)
@@ -83,9 +82,9 @@ pub fn answer(line: &[u8], out: &mut [u8], at: usize) -> usize
 {
     let mut g = [0u64; 128];
     let mut h = [0u64; 128];
-    let r = text::read::parse(line, &mut g, &mut h);
+    let r = text_read::parse(line, &mut g, &mut h);
     let Parsed::Read(l) = r else {
-        return text::put::put_refused(out, at, 12);
+        return text_put::put_refused(out, at, 12);
     };
     let ng = l.ng;
     let nh = l.nh;
@@ -99,7 +98,7 @@ fn step(kept: &mut [u8], s: &[u8], out: &mut [u8], g: Going) -> Going
     let at = g.at;
     let n = g.n;
     let to = g.to;
-    let c = text::cut::cut(kept, n, s, at);
+    let c = text_cut::cut(kept, n, s, at);
     match c {
         Step::Whole(m, next) => {
             let w = answer(&kept[..m], out, to);
@@ -110,7 +109,7 @@ fn step(kept: &mut [u8], s: &[u8], out: &mut [u8], g: Going) -> Going
             }
         }
         Step::Broken(next) => {
-            let w = text::put::put_refused(out, to, 12);
+            let w = text_put::put_refused(out, to, 12);
             Going {
                 at: next,
                 n: 0,
@@ -154,5 +153,5 @@ pub fn finish(out: &mut [u8], n: usize) -> usize
     if n == 0 {
         return 0;
     }
-    text::put::put_refused(out, 0, 12)
+    text_put::put_refused(out, 0, 12)
 }

@@ -8,12 +8,12 @@ use mathlib.Core.List.{List, [], _++_, append-assoc, append-nil}
 use Prim.Native.Nat.{ℕ, _+_, _≤_, min, max}
 use native.Mathlib.Omega.{arith}
 use lib.ListN.{length}
-use Rattle.text.specs.Lines.{Line}
-use Rattle.text.specs.Feed.{Fed, start, next-piece, Answered, no-line, Output, end-text}
-use Rattle.text.specs.Print.{Put}
-use Rattle.text.proofs.Puts.{placed-same}
-use Rattle.text.proofs.Feeds.{answered-append, fed-output}
-use Rattle.text.proofs.Serves.{same-lines}
+use Rattle.text_put.specs.Print.{Put}
+use Rattle.text_put.proofs.Puts.{placed-same}
+use Rattle.text_cut.specs.Lines.{Line}
+use Rattle.text_cut.specs.Feed.{Fed, start, next-piece, Answered, no-line, Output, end-text}
+use Rattle.text_cut.proofs.Feeds.{answered-append, fed-output}
+use Rattle.text_cut.proofs.Serves.{same-lines}
 use Rattle.lister.specs.declared.Going.{Going}
 use Rattle.lister.specs.Listing.{Lists, Passes}
 use Rattle.lister.proofs.Paces.{Pace, passes-pace}

@@ -8,8 +8,8 @@ use mathlib.Core.Bool.{true}
 use mathlib.Core.List.{List, [], _++_}
 use Prim.Native.Nat.{ℕ}
 use lib.ListN.{length}
-use Rattle.text.specs.Lines.{Line}
-use Rattle.text.specs.Feed.{Fed, Answered}
+use Rattle.text_cut.specs.Lines.{Line}
+use Rattle.text_cut.specs.Feed.{Fed, Answered}
 use Rattle.lister.specs.Listing.{Lists}
 use Rattle.units.specs.declared.Standing.{Standing}
 

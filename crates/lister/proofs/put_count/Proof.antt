@@ -1,5 +1,5 @@
 -- `lister::put_count` meets its contract.
-use Rattle.text.proofs.Puts.{put-then}
+use Rattle.text_put.proofs.Puts.{put-then}
 use borrow.Author.Needs.{needs}
 use Rattle.lister.proofs.put_count.Statement.{statement}
 use Rattle.lister.proofs.put_count.Tie as tie

@@ -1,7 +1,7 @@
 -- `lister::step` meets its contract.
 use mathlib.Core.Path.{refl, sym}
 use lib.Seq.{length-take-le}
-use Rattle.text.proofs.Steps.{whole-step}
+use Rattle.text_cut.proofs.Steps.{whole-step}
 use Rattle.lister.proofs.Paces.{steps-by}
 use borrow.Author.Needs.{needs}
 use Rattle.lister.proofs.step.Statement.{statement}

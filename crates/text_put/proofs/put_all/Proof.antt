@@ -1,0 +1,67 @@
+-- `text_put::put_all` meets its contract. The invariant: the first i numbers are put, and i is not 0. It is said from the state
+-- after the first number on, which is where the loop starts.
+use Prim.Native.Nat.{ℕ, _≤_, _<_, _-_}
+use mathlib.Core.List.{List}
+use native.Mathlib.Omega.{arith}
+use lib.ListN.{length, take}
+use Rattle.text_put.specs.Print.{Put, list-text}
+use Rattle.text_put.proofs.Puts.{placed-same}
+use Rattle.text_put.proofs.Texts.{list-none, list-first, list-more, list-all}
+use borrow.Author.Needs.{needs}
+use Rattle.text_put.proofs.put_all.Statement.{statement}
+use Rattle.text_put.proofs.put_all.Tie as tie
+
+abbrev Inv-loop : tie.InvT-loop
+Inv-loop out₀ at l to₀ i₀ out to i =
+    (0 < i) × (i ≤ length l) × ((d : List ℕ) (a : ℕ) → Put d a (list-text (take 1 l)) to₀ out₀ → Put d a (list-text (take i l)) to out)
+
+abbrev μ-loop : tie.MeasureT-loop
+μ-loop out₀ at l to₀ i₀ out to i = length l - i
+
+returns : tie.Need-returns Inv-loop μ-loop
+returns c = list-none (c .before .before .before .args .l .now) (c .if1 .taken)
+
+shared-slice-read-put-number : tie.Need-shared-slice-read-put-number Inv-loop μ-loop
+shared-slice-read-put-number c = search needs
+
+cast-put-number : tie.Need-cast-put-number Inv-loop μ-loop
+cast-put-number c = omega (arith, c .shared-slice-known2 .given 0)
+
+put-number-requires : tie.Need-put-number-requires Inv-loop μ-loop
+put-number-requires c κs = search needs
+
+loop-holds : tie.Need-loop-holds Inv-loop μ-loop
+loop-holds c = (omega arith, omega arith, λ d a q. q)
+
+put-byte-requires : tie.Need-put-byte-requires Inv-loop μ-loop
+put-byte-requires c κs = search needs
+
+mul-put-number : tie.Need-mul-put-number Inv-loop μ-loop
+mul-put-number c = search needs
+
+shared-slice-read-put-number-2 : tie.Need-shared-slice-read-put-number-2 Inv-loop μ-loop
+shared-slice-read-put-number-2 c = search needs
+
+cast-put-number-2 : tie.Need-cast-put-number-2 Inv-loop μ-loop
+cast-put-number-2 c = omega (arith, c .shared-slice-known3 .given (c .before .before .before .before .before .before .before .loop .i))
+
+put-number-requires-2 : tie.Need-put-number-requires-2 Inv-loop μ-loop
+put-number-requires-2 c κs = search needs
+
+add-i : tie.Need-add-i Inv-loop μ-loop
+add-i c = search needs
+
+loop-less : tie.Need-loop-less Inv-loop μ-loop
+loop-less c = search needs
+
+loop-again : tie.Need-loop-again Inv-loop μ-loop
+loop-again c = (omega arith, omega arith, λ d a q. list-more (c .before .before .before .before .before .before .before .before .before .before .before .before .before .before .before .before .before .before .before .args .l .now) (c .before .before .before .before .before .before .before .before .before .before .loop .i) (omega arith) (omega arith) (c .before .before .before .before .before .before .before .before .before .before .loop .inv .2 d a q) (c .before .before .before .before .before .before .before .put-byte .ensures) (c .before .before .put-number2 .ensures))
+
+same-length : tie.Need-same-length Inv-loop μ-loop
+same-length c = placed-same (c .before .loop .inv .2 (c .before .before .before .before .before .before .before .before .before .before .args .out .now) (c .before .before .before .before .before .before .before .before .before .before .args .at) (list-first (c .before .before .before .before .before .before .before .before .before .before .args .l .now) (omega arith) (c .before .before .before .before .put-number .ensures)))
+
+returns-2 : tie.Need-returns-2 Inv-loop μ-loop
+returns-2 c = list-all (c .before .before .before .before .before .before .before .before .before .before .args .l .now) (c .before .loop .i) (omega arith) (c .before .loop .inv .2 (c .before .before .before .before .before .before .before .before .before .before .args .out .now) (c .before .before .before .before .before .before .before .before .before .before .args .at) (list-first (c .before .before .before .before .before .before .before .before .before .before .args .l .now) (omega arith) (c .before .before .before .before .put-number .ensures)))
+
+pub put-all-spec : {M : Type 1} → statement M
+put-all-spec = tie.close (tie.spec Inv-loop μ-loop returns shared-slice-read-put-number cast-put-number put-number-requires loop-holds put-byte-requires mul-put-number shared-slice-read-put-number-2 cast-put-number-2 put-number-requires-2 add-i loop-less loop-again same-length returns-2)

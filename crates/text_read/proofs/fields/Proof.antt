@@ -1,0 +1,37 @@
+-- `text_read::fields` meets its contract.
+use native.Mathlib.Omega.{arith}
+use Rattle.text_put.specs.Print.{semicolon}
+use Rattle.text_read.proofs.Parts.{not-one, not-two, not-four, three-parts}
+use borrow.Author.Needs.{needs}
+use Rattle.text_read.proofs.fields.Statement.{statement}
+use Rattle.text_read.proofs.fields.Tie as tie
+
+find-requires : tie.Need-find-requires
+find-requires c κs = search needs
+
+returns : tie.Need-returns
+returns c = not-one semicolon (c .before .before .before .args .line .now) (c .before .find .result) (c .before .find .ensures) (omega arith)
+
+add-find : tie.Need-add-find
+add-find c = search needs
+
+find-requires-2 : tie.Need-find-requires-2
+find-requires-2 c κs = search needs
+
+returns-2 : tie.Need-returns-2
+returns-2 c = not-two semicolon (c .before .before .before .before .before .args .line .now) (c .before .before .before .find .result) (c .before .before .before .find .ensures) (omega arith) (c .before .find2 .result) (c .before .find2 .ensures) (omega arith)
+
+add-find-2 : tie.Need-add-find-2
+add-find-2 c = search needs
+
+find-requires-3 : tie.Need-find-requires-3
+find-requires-3 c κs = search needs
+
+returns-3 : tie.Need-returns-3
+returns-3 c = not-four semicolon (c .before .before .before .before .before .before .before .args .line .now) (c .before .before .before .before .before .find .result) (c .before .before .before .before .before .find .ensures) (omega arith) (c .before .before .before .find2 .result) (c .before .before .before .find2 .ensures) (omega arith) (c .before .find3 .result) (c .before .find3 .ensures) (omega arith)
+
+returns-4 : tie.Need-returns-4
+returns-4 c = (let h = c .before .before .before .find2 .ensures in omega arith, omega arith, three-parts semicolon (c .before .before .before .before .before .before .before .args .line .now) (c .before .before .before .before .before .find .result) (c .before .before .before .before .before .find .ensures) (omega arith) (c .before .before .before .find2 .result) (c .before .before .before .find2 .ensures) (omega arith) (c .before .find3 .result) (c .before .find3 .ensures) (omega arith))
+
+pub fields-spec : {M : Type 1} → statement M
+fields-spec = tie.close (tie.spec find-requires returns add-find find-requires-2 returns-2 add-find-2 find-requires-3 returns-3 returns-4)
