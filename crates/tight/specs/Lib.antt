@@ -29,8 +29,9 @@
 --   book_add      may_add, add: verdict-one, added-one (book_add/proofs/One)
 --   book_attest   attest: attestation-one (book_attest/proofs/One)
 --   book_write    write_body: wrote-one (book_write/proofs/One)
---   text          put_byte, put_bytes, put_number, put_list, put_refused: placed-unique (text/proofs/Puts); cut: cut-unique (text/proofs/Steps);
---                 number, list_size, parse: number-unique, size-unique, parse-unique (text/proofs/Answers)
+--   text_put      put_byte, put_bytes, put_number, put_list, put_refused: placed-unique (text_put/proofs/Puts)
+--   text_cut      cut: cut-unique (text_cut/proofs/Steps)
+--   text_read     number, list_size, parse: number-unique, size-unique, parse-unique (text_read/proofs/Answers)
 --   lister        answer, pass, finish: answer-one, passes-one (lister/proofs/Once), placed-unique
 --   capi          zaminuk_refusal, zaminuk_series, zaminuk_check: refusal-one, answer-one, checks-one as above; zaminuk_order, zaminuk_step,
 --                 zaminuk_walk, zaminuk_from_order, zaminuk_unit: order-tells-one, step-tells-one, walk-tells-one, from-order-tells-one,
