@@ -1,15 +1,32 @@
-// Whole inputs of the lister against whole outputs: at once, in pieces of odd sizes and, where the input is short, byte by byte.
+// Whole inputs of the lister against whole outputs: at once, in pieces of odd sizes through a pipe and, where the input is short, in
+// pieces that are each one read.
 use crate::vectors::{ensure, names, Tally, Verdict};
 use std::fs;
 use std::io::{Read, Write};
-use std::process::{Command, Stdio};
-use std::thread;
+use std::iter;
+use std::os::fd::OwnedFd;
+use std::os::unix::net::UnixDatagram;
+use std::process::{Child, Command, Stdio};
+use std::thread::{self, JoinHandle};
 
 const PROGRAM: &str = "target/bin/units";
 
-/// What the program writes when its input comes in pieces of these sizes, over and over.
+fn start(input: Stdio) -> Child {
+    Command::new(PROGRAM).stdin(input).stdout(Stdio::piped()).spawn().expect("the lister")
+}
+
+/// All that the program writes while it is fed.
+fn output(mut child: Child, feeder: JoinHandle<()>) -> Vec<u8> {
+    let mut out = Vec::new();
+    child.stdout.take().expect("its output").read_to_end(&mut out).expect("readable output");
+    feeder.join().expect("the feeder");
+    child.wait().expect("an end");
+    out
+}
+
+/// What the program writes when its input comes through a pipe in pieces of these sizes, over and over.
 fn listed(input: &[u8], sizes: &'static [usize]) -> Vec<u8> {
-    let mut child = Command::new(PROGRAM).stdin(Stdio::piped()).stdout(Stdio::piped()).spawn().expect("the lister");
+    let mut child = start(Stdio::piped());
     let mut to = child.stdin.take().expect("its input");
     let input = input.to_vec();
     let feeder = thread::spawn(move || {
@@ -22,18 +39,30 @@ fn listed(input: &[u8], sizes: &'static [usize]) -> Vec<u8> {
             at = end;
         }
     });
-    let mut out = Vec::new();
-    child.stdout.take().expect("its output").read_to_end(&mut out).expect("readable output");
-    feeder.join().expect("the feeder");
-    child.wait().expect("an end");
-    out
+    output(child, feeder)
 }
 
-fn compare(input: &[u8], right: &[u8], sizes: &'static [usize]) -> Verdict {
-    let out = listed(input, sizes);
+/// What it writes when every read brings one piece of this size. A pipe may join pieces; a datagram is one read, and an empty one
+/// reads as the input's end.
+fn listed_by_reads(input: &[u8], size: usize) -> Vec<u8> {
+    let (to, from) = UnixDatagram::pair().expect("two sockets");
+    let child = start(Stdio::from(OwnedFd::from(from)));
+    let input = input.to_vec();
+    let feeder = thread::spawn(move || {
+        let end: &[u8] = &[];
+        for piece in input.chunks(size).chain(iter::once(end)) {
+            if to.send(piece).is_err() {
+                break;
+            }
+        }
+    });
+    output(child, feeder)
+}
+
+fn compare(out: &[u8], right: &[u8]) -> Verdict {
     let same = |(a, b): (&[u8], &[u8])| a == b;
     let n = out.split(|&b| b == b'\n').zip(right.split(|&b| b == b'\n')).take_while(|&x| same(x)).count();
-    ensure(out == right, || format!("pieces of {:?}: output differs from line {} on", sizes, n + 1))
+    ensure(out == right, || format!("output differs from line {} on", n + 1))
 }
 
 /// One input, and the output beside it.
@@ -42,10 +71,12 @@ pub fn file(path: &str) -> (usize, usize) {
     let name = path.rsplit_once('.').map_or(path, |(name, _)| name);
     let right = fs::read(format!("{}.out", name)).expect("the output beside it");
     let mut t = Tally::new();
-    t.count(|| "the whole".into(), compare(&input, &right, &[1 << 20]));
-    t.count(|| "pieces".into(), compare(&input, &right, &[1, 254, 3, 4097, 255, 70000, 256, 2]));
-    if input.len() < 2000 {
-        t.count(|| "bytes".into(), compare(&input, &right, &[1]));
+    t.count(|| "the whole".into(), compare(&listed(&input, &[1 << 20]), &right));
+    t.count(|| "pieces".into(), compare(&listed(&input, &[1, 254, 3, 4097, 255, 70000, 256, 2]), &right));
+    if input.len() < 4000 {
+        for size in [1, 2, 7, 254, 255, 256, 257] {
+            t.count(|| format!("reads of {}", size), compare(&listed_by_reads(&input, size), &right));
+        }
     }
     t.done(path)
 }
@@ -60,7 +91,7 @@ pub fn examples(dir: &str) -> (usize, usize) {
     }
     let read = |name: &str| fs::read(format!("{}/{}", dir, name)).expect("an example").repeat(4000);
     let mut t = Tally::new();
-    t.count(|| "the whole".into(), compare(&read("fields.txt"), &read("fields.out"), &[1 << 20]));
+    t.count(|| "the whole".into(), compare(&listed(&read("fields.txt"), &[1 << 20]), &read("fields.out")));
     let (a, b) = t.done("16,000 lines");
     (passed + a, failed + b)
 }

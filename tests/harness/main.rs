@@ -6,6 +6,7 @@ mod bench;
 mod books;
 mod lister;
 mod plain;
+mod units;
 mod vectors;
 
 fn main() {

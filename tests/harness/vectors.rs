@@ -1,6 +1,6 @@
 // Vector files by name. A file whose kind is not known is reported and skipped.
 use crate::api::{Field, Record};
-use crate::{books, lister};
+use crate::{books, lister, units};
 use std::fs;
 
 /// What a case says went wrong, or nothing.
@@ -22,7 +22,7 @@ pub fn list(s: &str) -> Vec<u64> {
     s.split(',').map(|x| x.parse().expect("a number")).collect()
 }
 
-fn narrow(l: &[u64]) -> Vec<u16> {
+pub fn narrow(l: &[u64]) -> Vec<u16> {
     l.iter().map(|&x| x as u16).collect()
 }
 
@@ -30,7 +30,7 @@ pub fn field(f: &[&str]) -> Field {
     Field { p: f[0].parse().expect("p"), g: list(f[1]), h: list(f[2]) }
 }
 
-fn number(s: &str) -> u64 {
+pub fn number(s: &str) -> u64 {
     s.parse().expect("a number")
 }
 
@@ -54,6 +54,17 @@ fn record(rows: &[&str]) -> Record {
     r
 }
 
+/// p;G;H;refusal
+fn opening_case(line: &str) -> Verdict {
+    let f: Vec<&str> = line.split(';').collect();
+    let x = field(&f);
+    let no = x.refusal();
+    ensure(u64::from(no) == number(f[3]), || format!("{} for {}", no, f[3]))?;
+    // The order is refused alike, and writes only where the field is accepted.
+    let mut rows = patterned();
+    ensure(x.order(&mut rows) == no && (no == 0) == (rows != patterned()), || "the order refuses otherwise or writes".into())
+}
+
 /// p;G;H;k;r;w
 fn series_case(line: &str) -> Verdict {
     let f: Vec<&str> = line.split(';').collect();
@@ -72,7 +83,29 @@ fn series_case(line: &str) -> Verdict {
     ensure((no == 1 || no == 2) && r == pattern(k + 1) && w == pattern(k), || "p + 1 is not refused with nothing written".into())
 }
 
-/// p;G;H;0 or 9;119 numbers
+/// p;G;H;length of r;length of w;refusal
+fn series_refused_case(line: &str) -> Verdict {
+    let f: Vec<&str> = line.split(';').collect();
+    let (n, m) = (number(f[3]) as usize, number(f[4]) as usize);
+    let (mut r, mut w) = (pattern(n), pattern(m));
+    let no = field(&f).series(&mut r, &mut w);
+    ensure(u64::from(no) == number(f[5]), || format!("{} for {}", no, f[5]))?;
+    ensure(r == pattern(n) && w == pattern(m), || "a refusal writes".into())
+}
+
+/// p;G;H;refusal, or p;G;H;0;rows of the order
+fn order_case(line: &str) -> Verdict {
+    let f: Vec<&str> = line.split(';').collect();
+    let x = field(&f);
+    let mut rows = patterned();
+    let no = x.order(&mut rows);
+    ensure(u64::from(no) == number(f[3]), || format!("{} for {}", no, f[3]))?;
+    let right = if no == 0 { record(&f[4..11]) } else { patterned() };
+    ensure(rows == right, || "other rows".into())?;
+    ensure(x.check(&rows) == no, || "the check says otherwise".into())
+}
+
+/// p;G;H;refusal or 0;119 numbers
 fn basis_case(line: &str) -> Verdict {
     let f: Vec<&str> = line.split(';').collect();
     let x = field(&f);
@@ -87,6 +120,16 @@ fn basis_case(line: &str) -> Verdict {
     let mut to = rows;
     let told = x.walk(0, &mut to);
     ensure(told == (if no == 0 { 10 } else { no }, 0, 0) && to == rows, || format!("a walk with budget 0 tells {:?}", told))
+}
+
+/// p;G;H;start rows;refusal;degree;end rows
+fn step_case(line: &str) -> Verdict {
+    let f: Vec<&str> = line.split(';').collect();
+    let mut rows = record(&f[3..10]);
+    let told = field(&f).step(&mut rows);
+    let right = (number(f[10]) as u32, number(f[11]));
+    ensure(told == right, || format!("{:?} for {:?}", told, right))?;
+    ensure(rows == record(&f[12..19]), || "another basis".into())
 }
 
 /// A walk from a record, in one piece and in two, and step by step where it is short.
@@ -110,9 +153,11 @@ fn walk_from(x: &Field, start: &Record, budget: u64, right: (u32, u64, u64), end
         }
         ensure(sum == right.2 && rows == *end, || "step by step it differs".into())?;
     }
+    // 14 comes after 1 to 8, and before the others.
+    let first = if (1..=8).contains(&right.0) { right.0 } else { 14 };
     let mut rows = *start;
     let told = x.walk(1000001, &mut rows);
-    ensure(told == (14, 0, 0) && rows == *start, || "a budget of 1,000,001 is not refused 14 with nothing written".into())
+    ensure(told == (first, 0, 0) && rows == *start, || format!("a budget of 1,000,001 is not refused {} with nothing written", first))
 }
 
 /// p;G;H;B;refusal;steps;sum;end rows, from the order
@@ -140,42 +185,6 @@ fn walk_from_case(line: &str) -> Verdict {
     let f: Vec<&str> = line.split(';').collect();
     let right = (number(f[11]) as u32, number(f[12]), number(f[13]));
     walk_from(&field(&f), &record(&f[3..10]), number(f[10]), right, &record(&f[14..21]))
-}
-
-/// p;G;H;period;sum;E0;E1;E2;F0;F1;F2
-fn unit_case(line: &str) -> Verdict {
-    let f: Vec<&str> = line.split(';').collect();
-    let x = field(&f);
-    let (period, sum) = (number(f[3]), number(f[4]));
-    let untouched = |c: usize, budget: u64, right: u32| -> Verdict {
-        let (mut rows, mut scratch) = (pattern(6 * c), pattern(6 * c));
-        let told = x.unit(budget, &mut rows, &mut scratch);
-        let same = rows == pattern(6 * c) && scratch == pattern(6 * c);
-        ensure(told == (right, 0, 0) && same, || format!("{:?} for {} with c = {}, budget {}", told, right, c, budget))
-    };
-    let least = sum as usize + 1;
-    for c in [least, least + 3] {
-        let (mut rows, mut scratch) = (pattern(6 * c), pattern(6 * c));
-        let told = x.unit(period, &mut rows, &mut scratch);
-        ensure(told == (0, period, sum / 2), || format!("{:?}", told))?;
-        let mut right = vec![0; 6 * c];
-        for i in 0..6 {
-            for (j, v) in list(f[5 + i]).iter().enumerate() {
-                right[i * c + j] = *v as u16;
-            }
-        }
-        ensure(rows == right, || "other rows".into())?;
-        ensure(scratch.iter().all(|&v| v == 0), || "the scratch is not zero".into())?;
-    }
-    untouched(least - 1, period, 11)?;
-    untouched(0, period, 11)?;
-    untouched(0, period - 1, 10)?;
-    untouched(least, period - 1, 10)?;
-    untouched(4097, period, 14)?;
-    untouched(least, 1000001, 14)?;
-    let (mut rows, mut scratch) = (pattern(6 * least), pattern(6 * least + 6));
-    let told = x.unit(period, &mut rows, &mut scratch);
-    ensure(told == (14, 0, 0) && rows == pattern(6 * least) && scratch == pattern(6 * least + 6), || "unequal lengths are not refused 14".into())
 }
 
 /// A walk from the order with no limit: taken up again wherever its budget is spent.
@@ -255,11 +264,17 @@ pub fn folder(dir: &str) -> (usize, usize) {
         let path = format!("{}/{}", dir, name);
         let kind = name.splitn(2, '-').nth(1).unwrap_or("");
         let (a, b) = match kind {
+            "openings.txt" => lines(&path, opening_case),
             "series.txt" => lines(&path, series_case),
+            "series-refused.txt" => lines(&path, series_refused_case),
+            "orders.txt" => lines(&path, order_case),
             "bases.txt" => lines(&path, basis_case),
+            "steps.txt" => lines(&path, step_case),
             "walks.txt" => lines(&path, walk_case),
             "walks-from.txt" => lines(&path, walk_from_case),
-            "units.txt" => lines(&path, unit_case),
+            "units.txt" => lines(&path, units::unit_case),
+            "unit-calls.txt" => lines(&path, units::call_case),
+            "unit-lengths.txt" => lines(&path, units::lengths_case),
             "periods.txt" => lines(&path, period_case),
             "books.txt" => books::file(&path),
             k if k.starts_with("lister") && k.ends_with(".in") => lister::file(&path),
