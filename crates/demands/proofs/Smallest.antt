@@ -37,12 +37,11 @@ halves a b e = omega arith
 unit-rows : (p n : ℕ) (G H rows scratch rows′ scratch′ : List ℕ) (m : Made) → Makes p G H n rows scratch m rows′ scratch′ → m .refusal ≡ 0 → SmallestRows p G H m rows′
 unit-rows p n G H rows scratch rows′ scratch′ m h z =
     let (c, l, d, f, r) = unit-made p n G H rows scratch rows′ scratch′ m h z in
-    let made = λ (A : Accepted p G H). let (B₀, st) = order-exists (setting A) in success-unit p G H rows′ m r A B₀ st in
     record {
       c = c;
       long = r .rows-hold .whole;
-      smallest = λ A. unit-smallest (setting A) (made A);
-      fundamental = λ A. unit-fundamental (setting A) (made A);
+      smallest = λ A. let (B₀, st) = order-exists (setting A) in unit-smallest (setting A) (success-unit p G H rows′ m r A B₀ st);
+      fundamental = λ A. let (B₀, st) = order-exists (setting A) in unit-fundamental (setting A) (success-unit p G H rows′ m r A B₀ st);
     }
 
 -- an open chain of n steps has a degree sum of n or more
