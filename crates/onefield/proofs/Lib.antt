@@ -4,3 +4,4 @@ pub mod Lists
 pub mod OneField
 pub mod Corresponds
 pub mod Least
+pub mod Example

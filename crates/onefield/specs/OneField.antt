@@ -5,7 +5,8 @@
 --   Agree p l l′    l and l′ agree after both are made monic
 --   OneField        the pairs G, H and G′, H′ agree, in one order or the other (a book still tells its bodies apart by the lists themselves)
 -- In proofs/: Lists (`agree-poly`: polynomials of lists that agree differ by a constant that is not 0), OneField (`carries`: the order of
--- the one accepted pair goes to that of the other), Corresponds (`corresponds`: the two orders correspond).
+-- the one accepted pair goes to that of the other), Corresponds (`corresponds`: the two orders correspond), Least (`least-agree`: their units
+-- have one least positive degree), Example (`twice-in-the-table`: the field that stood in a table twice).
 use mathlib.Core.Path.{_≡_}
 use mathlib.Core.List.{List}
 use mathlib.Core.Logic.{_⊎_}
