@@ -5,7 +5,7 @@ use std::io::{Read, Write};
 use std::process::{Command, Stdio};
 use std::thread;
 
-const PROGRAM: &str = "target/bin/units";
+const PROGRAM: &str = "./units";
 
 /// What the program writes when its input comes in pieces of these sizes, over and over.
 fn listed(input: &[u8], sizes: &'static [usize]) -> Vec<u8> {
