@@ -25,7 +25,8 @@ fn listed(input: &[u8], sizes: &'static [usize]) -> Vec<u8> {
     let mut out = Vec::new();
     child.stdout.take().expect("its output").read_to_end(&mut out).expect("readable output");
     feeder.join().expect("the feeder");
-    child.wait().expect("an end");
+    let end = child.wait().expect("an end");
+    assert!(end.success(), "the lister ended with {}", end);
     out
 }
 
