@@ -1,5 +1,6 @@
 // The C interface of the library, declared once, and a safe function for each entry point. A slice passes as pointer and length,
 // an array of fixed length as pointer alone.
+#[cfg(target_arch = "x86_64")]
 mod c {
     #[rustfmt::skip]
     extern "C" {
@@ -22,6 +23,11 @@ mod c {
         pub fn zaminuk_body_list(body: *const u8, n: usize, k: usize, out: *mut u64, on: usize, said: *mut u64);
     }
 }
+
+// The library is x86-64 code. On other machines a process that runs under an emulator has it, and the same functions ask that process.
+#[cfg(not(target_arch = "x86_64"))]
+#[path = "remote.rs"]
+mod c;
 
 /// A basis: M0, M1, M2, N0, N1, N2, U, 17 coefficients each.
 pub type Record = [u16; 119];

@@ -9,18 +9,21 @@ use std::os::unix::net::UnixDatagram;
 use std::process::{Child, Command, Stdio};
 use std::thread::{self, JoinHandle};
 
-const PROGRAM: &str = "target/bin/units";
+const PROGRAM: &str = "./units";
 
 fn start(input: Stdio) -> Child {
     Command::new(PROGRAM).stdin(input).stdout(Stdio::piped()).spawn().expect("the lister")
 }
 
-/// All that the program writes while it is fed.
+/// All that the program writes while it is fed; a program that fails is no pass, whatever it wrote before.
 fn output(mut child: Child, feeder: JoinHandle<()>) -> Vec<u8> {
     let mut out = Vec::new();
     child.stdout.take().expect("its output").read_to_end(&mut out).expect("readable output");
     feeder.join().expect("the feeder");
-    child.wait().expect("an end");
+    let end = child.wait().expect("an end");
+    if !end.success() {
+        out.extend_from_slice(format!("\nthe lister ended with {}", end).as_bytes());
+    }
     out
 }
 
