@@ -35,7 +35,7 @@ use Rattle.chain.specs.Chain.{Chain}
 use Rattle.chain.specs.Unit.{UnitOf}
 use Rattle.chain.proofs.Walk.{chain-good}
 use Rattle.chain.proofs.Passed.{Passed, passed, rows, spans}
-use Rattle.chain.proofs.Unit.{large, Q-F, ev-F, closing-pos, unit-degree}
+use Rattle.chain.proofs.Unit.{large, Q-F, inverse-has, closing-pos, unit-degree}
 
 module _ (S : Setting) where
   open Setting S using (𝓥, G, H, r, w)
@@ -69,7 +69,7 @@ module _ (S : Setting) where
   unit-rows E F′ n h inverse hE l e =
       let (y, z, a) = large S E F′ inverse hE l in (
         fit-below E (suc n) (below-of S E (suc n) (d.lt-up 𝓥 (suc n +ⁿ suc n) (form-below S y z) (omega arith)) (d.has-up 𝓥 (suc n) hE (omega arith))),
-        fit-below F′ (suc h) (below-of S F′ (suc h) (𝓥 .lead-up (suc h +ⁿ suc h) 0 (F-deg S F′ (Q-F S E F′ inverse hE) .2) (omega arith)) (𝓥 .lead-up (suc h) 0 (ev-F S E F′ inverse hE .2) (omega arith))),
+        fit-below F′ (suc h) (below-of S F′ (suc h) (𝓥 .lead-up (suc h +ⁿ suc h) 0 (F-deg S F′ (Q-F S E F′ inverse hE) .2) (omega arith)) (𝓥 .lead-up (suc h) 0 (inverse-has S E F′ inverse hE .2) (omega arith))),
       )
 
   pub unit-fits : (B₀ : Basis S) → Start S B₀ → {l n : ℕ} {E F : O S .El} → UnitOf S B₀ l n E F → (c : ℕ) → (n < c → Fit c E × Fit c F) × (Fit c E → n < c)

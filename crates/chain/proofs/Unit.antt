@@ -2,7 +2,7 @@
 --   norm-eq Q-E half       for E F = 1: the norms are units, the cofactor's value has the opposite degree, and the degree is even
 --   large                  a unit of positive degree: Y and Z lie below 0, and E0 has the degree of E
 --   inverse-cof cof-inverse   F = cof(E)/N(E), and where N(E) is a unit that is the inverse
---   inverse-unique         one inverse
+--   inverse-has inverse-unique   the inverse has the opposite degree, and it is one
 --   scale-to scale-unique  one constant gives a size of an element a wanted leading coefficient
 --   closing-unit closing-norm   the product at a closing has an inverse, and its norm is a unit
 --   unit-made              the unit as it is computed
@@ -64,6 +64,10 @@ module _ (S : Setting) where
         ap (λ t. t ⊗ F) (sym (norm-cof S E))
         ∙ solve-by (O S) (var 0 :* var 1 :* var 2) (var 1) (hyp (var 1) (var 0 :* var 2) one ∷ []) tt (E ∷ cof S E ∷ F ∷ []) (inverse, tt)
 
+    -- of the opposite degree
+    pub inverse-has : {p q : ℕ} → HasDeg 𝓥 (ev S E) p q → HasDeg 𝓥 (ev S F) q p
+    inverse-has {p} {q} h = d.has-move 𝓥 q p (d.has-cancel 𝓥 h (d.has-eq 𝓥 (d.has-one 𝓥) (sym (sym (ev-mul S E F) ∙ ap (ev S) inverse ∙ ev-one S)))) (omega arith)
+
     -- one inverse
     pub inverse-unique : (F′ : O S .El) → E ⊗ F′ ≡ 1ₒ → F ≡ F′
     inverse-unique F′ e = solve-by (O S) (var 1) (var 2) (hyp (var 2) (var 0 :* var 1) one ∷ hyp (minus (var 1)) (var 0 :* var 2) one ∷ []) tt (E ∷ F ∷ F′ ∷ []) (inverse, (e, tt))
@@ -75,13 +79,9 @@ module _ (S : Setting) where
       ∙ ap (λ t. t ⊗ sc S ν) (norm-cof S E) ∙ sym (sc-mul S (norm S E) ν) ∙ ap (sc S) (sym e)
 
   module _ (E F : O S .El) {n : ℕ} (inverse : E ⊗ F ≡ 1ₒ) (E-deg : Has 𝓥 (ev S E) n) where
-    -- ev(cof E) has the opposite degree
+    -- ev(cof E) has the opposite degree, and ev(cof F) the degree itself
     pub Q-E : HasDeg 𝓥 (Q S E) 0 n
     Q-E = d.has-move 𝓥 0 n (d.has-cancel 𝓥 E-deg (d.has-eq 𝓥 (unit-const 𝓥 (norm S E) (norm-unit E F inverse)) (sym (ev-Q S E)))) (omega arith)
-
-    -- and so have the sizes of F
-    pub ev-F : HasDeg 𝓥 (ev S F) 0 n
-    ev-F = d.has-move 𝓥 0 n (d.has-cancel 𝓥 E-deg (d.has-eq 𝓥 (d.has-one 𝓥) (sym (sym (ev-mul S E F) ∙ ap (ev S) inverse ∙ ev-one S)))) (omega arith)
 
     pub Q-F : HasDeg 𝓥 (Q S F) n 0
     Q-F = d.has-move 𝓥 n 0 (d.has-cancel 𝓥 Q-E (d.has-eq 𝓥 (d.has-one 𝓥) (sym (sym (Q-mul S E F) ∙ ap (Q S) inverse ∙ Q-one S)))) (omega arith)

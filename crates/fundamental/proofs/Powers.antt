@@ -27,8 +27,9 @@ use Rattle.ideals.proofs.Sizes.{ev-sc}
 use Rattle.ideals.proofs.Values.{ev-mul, ev-one}
 use Rattle.ideals.proofs.Lattice.{sc-mul}
 use Rattle.chain.specs.Unit.{Invertible}
+use Rattle.chain.proofs.Unit.{inverse-has}
 use Rattle.fundamental.specs.Smallest.{NoneBetween, power, Powers}
-use Rattle.fundamental.proofs.Units.{unit-flip, unit-times, unit-has, unit-constant, inverse-has}
+use Rattle.fundamental.proofs.Units.{unit-flip, unit-times, unit-has, unit-constant}
 
 module _ (S : Setting) where
   open Setting S using (𝓥)

@@ -1,6 +1,6 @@
 -- Units of the order, their degrees and their places in the chain.
 --   unit-flip unit-times norm-invertible   the inverse is a unit, so is a product, and so is what has a constant norm
---   unit-has            every unit has a degree, and its inverse the opposite one
+--   unit-has            every unit has a degree
 --   unit-reached        a unit of degree n ≥ 0 is a constant times the product of a chain with the degree sum n that is back at the order
 --   unit-constant       a unit of degree 0 is a constant
 --   same-degree         two units of one degree differ by a constant
@@ -23,13 +23,13 @@ use Rattle.ideals.specs.Setting.{Setting, P}
 use Rattle.ideals.specs.Element.{O, sc, ev, norm, cof}
 use Rattle.ideals.specs.Ideal.{Basis}
 use Rattle.ideals.specs.Next.{Start}
-use Rattle.ideals.proofs.Values.{ev-mul, ev-one}
+use Rattle.ideals.proofs.Values.{ev-mul}
 use Rattle.ideals.proofs.Norm.{ev-deg}
 use Rattle.chain.specs.Chain.{Chain, here, tops, bottoms, Open, Closing}
 use Rattle.chain.specs.Unit.{Invertible}
 use Rattle.chain.proofs.Walk.{same-chain, same-products, prefix, chain-room, chain-rise, has-step, first-closing}
 use Rattle.chain.proofs.Exists.{order-exists}
-use Rattle.chain.proofs.Unit.{norm-unit, cof-inverse}
+use Rattle.chain.proofs.Unit.{norm-unit, cof-inverse, inverse-has}
 use Rattle.fundamental.specs.Complete.{Reached}
 use Rattle.fundamental.specs.Smallest.{NoneBetween}
 use Rattle.fundamental.proofs.At.{at-start}
@@ -51,9 +51,6 @@ module _ (S : Setting) where
 
   pub norm-invertible : (η : O S .El) → IsUnit 𝓥 (norm S η) → Invertible S η
   norm-invertible η (ν, e) = (sc S ν ⊗ cof S η, cof-inverse S η ν e)
-
-  pub inverse-has : {p q : ℕ} (η θ : O S .El) → η ⊗ θ ≡ 1ₒ → HasDeg 𝓥 (ev S η) p q → HasDeg 𝓥 (ev S θ) q p
-  inverse-has {p} {q} η θ e h = d.has-move 𝓥 q p (d.has-cancel 𝓥 h (d.has-eq 𝓥 (d.has-one 𝓥) (sym (sym (ev-mul S η θ) ∙ ap (ev S) e ∙ ev-one S)))) (omega arith)
 
   pub unit-has : (η : O S .El) → Invertible S η → (p q : ℕ) × HasDeg 𝓥 (ev S η) p q
   unit-has η (θ, e) = ev-deg S η (unit-const 𝓥 (norm S η) (norm-unit S η θ e))
@@ -93,7 +90,7 @@ module _ (S : Setting) where
   pub same-degree : {p q : ℕ} (η ζ : O S .El) → Invertible S η → Invertible S ζ → HasDeg 𝓥 (ev S η) p q → HasDeg 𝓥 (ev S ζ) p q →
       (c : P S) × IsUnit 𝓥 c × (η ≡ sc S c ⊗ ζ)
   same-degree η ζ inv (ξ, f) h g =
-      let h₀ : Has 𝓥 (ev S (η ⊗ ξ)) 0 = d.has-move 𝓥 0 0 (d.has-eq 𝓥 (d.has-mul 𝓥 h (inverse-has ζ ξ f g)) (sym (ev-mul S η ξ))) (omega arith) in
+      let h₀ : Has 𝓥 (ev S (η ⊗ ξ)) 0 = d.has-move 𝓥 0 0 (d.has-eq 𝓥 (d.has-mul 𝓥 h (inverse-has S ζ ξ f g)) (sym (ev-mul S η ξ))) (omega arith) in
       let (c, u, e) = unit-constant (η ⊗ ξ) (unit-times η ξ inv (ζ, unit-flip f)) h₀ in
       let a = var 0 in let b = var 1 in let b′ = var 2 in let k = var 3 in
       (c, u, solve-by (O S) a (k :* b) (hyp (minus a) (b :* b′) one ∷ hyp b (a :* b′) k ∷ []) tt (η ∷ ζ ∷ ξ ∷ sc S c ∷ []) (f, (e, tt)))
