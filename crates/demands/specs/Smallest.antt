@@ -35,7 +35,7 @@ pub record SmallestRows (p : ℕ) (G H : List ℕ) (m : Made) (rows : List ℕ) 
   -- six rows of c numbers: E0, E1, E2, F0, F1, F2
   pub c : ℕ
   pub long : length rows ≡ 6 * c
-  -- E is "the smallest unit of positive degree with E0 monic", and its degree twice the regulator
+  -- E is the smallest unit of positive degree with E0 monic, and its degree is twice the regulator
   pub smallest : (A : Accepted p G H) → Smallest (setting A) (six A c 0 rows) (m .regulator .0 + m .regulator .0)
   pub fundamental : (A : Accepted p G H) → Fundamental (setting A) (six A c 0 rows) (six A c (c + c + c) rows) (m .regulator .0 + m .regulator .0)
 
@@ -52,17 +52,17 @@ pub record SmallestUnit : Type 0 where
       LeastDegree (setting A) d
   -- the general form: a reduced ideal J with E·J = O and deg E ≥ 0 stands in the chain
   pub complete : {p : ℕ} {G H : List ℕ} (A : Accepted p G H) → Completeness (setting A)
-  -- "the rows returned are the smallest unit of positive degree with E0 monic"
+  -- the rows that `unit` returns are the smallest unit of positive degree with E0 monic, and its inverse
   pub unit-rows :
       {p n : ℕ} {G H rows scratch rows′ scratch′ : List ℕ} (m : Made) →
       Makes p G H n rows scratch m rows′ scratch′ → m .refusal ≡ 0 →
       SmallestRows p G H m rows′
-  -- "the regulator returned is half the least positive degree of a unit"
+  -- the regulator that `from_order` returns is half the least positive degree of a unit
   pub regulator :
       {p n : ℕ} {G H : List ℕ} (o : Told) →
       FromOrder p G H n o → o .refusal ≡ 0 →
       (A : Accepted p G H) → LeastDegree (setting A) (o .regulator .0 + o .regulator .0)
-  -- the degree sum of a walk from the order's record that closes is that degree
+  -- the degree sum that `walk` returns from the order's record, when it closes, is that degree
   pub walk-sum :
       {p n : ℕ} {G H B : List ℕ} (w : Walked) → IsFirst p G H B →
       Walks p G H n B w → w .refusal ≡ 0 →
@@ -99,18 +99,18 @@ pub record SmallestUnit : Type 0 where
       {p : ℕ} {G H : List ℕ} (A : Accepted p G H) {c d : ℕ} {E E′ : O (setting A) .El} →
       Smallest (setting A) E c → Smallest (setting A) E′ d →
       (c ≡ d) × (E ≡ E′)
-  -- "an element of the order of constant norm and of degree 2R is our E up to a constant"
+  -- an element of the order of constant norm and of the unit's degree is the unit up to a constant
   pub constant-norm :
       {p : ℕ} {G H : List ℕ} (A : Accepted p G H) (B₀ : Basis (setting A)) {l d : ℕ} {E F : O (setting A) .El} →
       UnitOf (setting A) B₀ l d E F →
       (x : O (setting A) .El) → IsUnit (setting A .𝓥) (norm (setting A) x) → Has (setting A .𝓥) (ev (setting A) x) d →
       (c : P (setting A)) × IsUnit (setting A .𝓥) c × (x ≡ O (setting A) .ops .mul (sc (setting A) c) E)
-  -- "for two pairs of one field the least degrees agree"
+  -- the least degrees of two pairs of one field agree
   pub one-field :
       {p : ℕ} {G H G′ H′ : List ℕ} (A : Accepted p G H) (A′ : Accepted p G′ H′) → OneField p G H G′ H′ →
       (c d : ℕ) → LeastDegree (setting A) c → LeastDegree (setting A′) d →
       c ≡ d
-  -- "two walks that close agree": whatever their budgets, and for a unit the room
+  -- two walks that close agree, whatever their budgets, and so do two units, whatever their room
   pub walks-agree :
       {p n n′ : ℕ} {G H : List ℕ} (o o′ : Told) →
       FromOrder p G H n o → o .refusal ≡ 0 →

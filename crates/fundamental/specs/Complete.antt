@@ -1,8 +1,8 @@
 -- The chain from the order is complete.
 --   Reached B₀ J E n   the chain from B₀ passes the basis J with the degree sum n, and E is a non-zero constant times the product of the m
 --                      passed up to there
---   Completeness       "A reduced ideal J with E·J = O and deg E ≥ 0 is a member of the chain, at the one place with that degree, and E is
---                      the product of the minima passed there up to a constant"
+--   Completeness       a reduced ideal J with E·J = O and deg E ≥ 0 is a member of the chain, at the one place with that degree, and E is
+--                      the product of the minima passed there up to a constant
 -- The chain may close on its way, as often as it likes: nothing here asks that it does. Theorem `completeness` (proofs/Complete).
 use mathlib.Core.Path.{_≡_}
 use Prim.Native.Nat.{ℕ}
@@ -30,19 +30,19 @@ module _ (S : Setting) where
     pub product : sc S (bottoms S chain) ⊗ E ≡ sc S scale ⊗ tops S chain
 
   pub record Completeness : Type 0 where
-    -- "A reduced ideal J with E·J = O and deg E ≥ 0 is a member of the chain"
+    -- a reduced ideal J with E·J = O and deg E ≥ 0 is a member of the chain
     pub member :
         (B₀ : Basis S) → Start S B₀ →
         (J : Basis S) → Good S J →
         (E : O S .El) → At S J E →
         (n : ℕ) → Has 𝓥 (ev S E) n →
         Reached B₀ J E n
-    -- "at the one place with that degree"
+    -- at the one place with that degree
     pub one-place :
         (B₀ : Basis S) → Start S B₀ →
         {s s′ n : ℕ} {B B′ : Basis S} → Chain S B₀ s n B → Chain S B₀ s′ n B′ →
         (s ≡ s′) × (B ≡ B′)
-    -- "and E is the product of the minima passed there up to a constant"
+    -- and E is the product of the minima passed there up to a constant
     pub up-to-a-constant :
         (B₀ J : Basis S) (E Eⱼ : O S .El) {n : ℕ} (r : Reached B₀ J E n) → Product S (r .chain) Eⱼ →
         E ≡ sc S (r .scale) ⊗ Eⱼ

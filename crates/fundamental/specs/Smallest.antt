@@ -6,7 +6,7 @@
 --   power E F i         E^i for any integer i, where F is the inverse of E
 --   Powers E F          every unit of the order is a non-zero constant times a power of E, with one exponent and one constant
 --   Fundamental E F d   F is the inverse of E, E has the least positive degree, and the units are the constants times the powers of E
--- "Unit of the order" is an element with an inverse in the order, `Invertible`. Its degree is that of its series: p − q, which may be
+-- A unit of the order is an element with an inverse in the order, `Invertible`. Its degree is that of its series: p − q, which may be
 -- negative. Theorems: every unit has a degree (proofs/Units, `unit-has`); the unit of every closing chain is fundamental (proofs/Fundamental,
 -- `unit-fundamental`); the smallest unit is one, and so is the least degree (proofs/Agree).
 use mathlib.Core.Path.{_≡_}
@@ -25,7 +25,7 @@ module _ (S : Setting) where
   open Ops (O S .ops) using (mul as _⊗_, 𝟏 as 1ₒ)
 
   infixl 70 _⊗_
-  -- "no unit of the order has a degree strictly between 0 and d": 0 < p − q < d
+  -- "no unit of the order has a degree strictly between 0 and that of E": 0 < p − q < d
   abbrev pub NoneBetween : ℕ → Type 0
   NoneBetween d = (η : O S .El) → Invertible S η → (p q : ℕ) → HasDeg 𝓥 (ev S η) p q → q < p → p < q + d → ⊥
 
@@ -48,9 +48,9 @@ module _ (S : Setting) where
   power E F (negsuc k) = pow (O S) F (suc k)
 
   pub record Powers (E F : O S .El) : Type 0 where
-    -- "every unit of the order is a non-zero constant times a power of E, negative powers and the zeroth included"
+    -- "every unit is a non-zero constant times a power of E, negative powers and the zeroth included"
     pub every : (η : O S .El) → Invertible S η → (i : ℤ) × (c : P S) × IsUnit 𝓥 c × (η ≡ sc S c ⊗ power E F i)
-    -- "and exponent and constant are one"
+    -- with one exponent and one constant
     pub one-way : (i j : ℤ) (b c : P S) → IsUnit 𝓥 b → IsUnit 𝓥 c → sc S b ⊗ power E F i ≡ sc S c ⊗ power E F j → (i ≡ j) × (b ≡ c)
 
   pub record Fundamental (E F : O S .El) (d : ℕ) : Type 0 where
