@@ -1,30 +1,29 @@
 -- Two outcomes of a function of the C interface that meet its contract are equal: results and lent arrays.
 --   order-tells-one, step-tells-one, walk-tells-one, from-order-tells-one, unit-tells-one
---   check-says-one, ask-says-one, list-says-one, write-says-one, add-says-one, attest-says-one
+--   check-says-one, list-says-one, write-says-one, add-says-one, attest-says-one
+-- Of asking for an entry, which only passes on: ask-says-one in book_asked/proofs/Once.antt.
 use mathlib.Core.Path.{_≡_, _∙_, sym, ap, subst}
-use mathlib.Core.Logic.{inl, inr}
 use mathlib.Core.List.{List}
 use Prim.Native.Nat.{ℕ, zero, suc}
 use native.Mathlib.Omega.{arith}
-use native.Mathlib.Decide.{ℕ-discrete}
-use Rattle.book_body.specs.Said.{Said}
 use Rattle.book_body.specs.Body.{Body}
 use Rattle.book_body.proofs.One.{list-one}
-use Rattle.book.proofs.One.{tells-one, ask-one}
+use Rattle.book.proofs.One.{tells-one}
 use Rattle.book_write.proofs.One.{write-one}
 use Rattle.book_add.proofs.One.{add-one}
 use Rattle.book_attest.proofs.One.{attest-one}
+use Rattle.book_said.proofs.Same.{same-numbers}
 use Rattle.bases.specs.declared.Ordered.{Ordered}
 use Rattle.bases.proofs.Answer.{orders-one}
 use Rattle.stepped.specs.declared.Stepped.{Stepped}
 use Rattle.stepped.proofs.Answers.{answers-one}
-use Rattle.walk.specs.declared.Walked.{Walked}
 use Rattle.walk.proofs.Walk.{walks-one}
+use Rattle.walk_in_place.proofs.Once.{puts-one}
 use Rattle.walks.specs.declared.Told.{Told}
 use Rattle.walks.proofs.Order.{from-order-one}
 use Rattle.unit.proofs.Once.{makes-one}
-use Rattle.capi.specs.Told.{Left, OrderTells, StepTells, Ends, WalkTells, FromOrderTells, UnitTells}
-use Rattle.capi.specs.Books.{numbers, Place, found, none, CheckSays, AskSays, ListSays, WriteSays, AddSays, AttestSays}
+use Rattle.capi.specs.Told.{Left, OrderTells, StepTells, WalkTells, FromOrderTells, UnitTells}
+use Rattle.capi.specs.Books.{CheckSays, ListSays, WriteSays, AddSays, AttestSays}
 
 -- ---- what is lent
 left-one : (n : ℕ) {a b b′ x x′ : List ℕ} → x ≡ x′ → Left n a b x → Left n a b′ x′ → b ≡ b′
@@ -46,26 +45,8 @@ step-tells-one {a = a} {n = n} {b′ = b′} t u =
       left-one n (ap (λ (s : Stepped). s .basis) e) (t .rows) (subst (λ k. Left k a b′ (u .s .basis)) (sym m) (u .rows)),
     )
 
-ends-one : (n : ℕ) {a b b′ x x′ : List ℕ} → x ≡ x′ → Ends n a b x → Ends n a b′ x′ → b ≡ b′
-ends-one n {b = b} {b′ = b′} f l l′ = at-zero (ℕ-discrete n 0)
-  where
-    at-ten : (n ≡ 0 → ⊥) → Dec (n ≡ 10) → b ≡ b′
-    at-ten z (yes e) = l .stored (inr e) ∙ f ∙ sym (l′ .stored (inr e))
-    at-ten z (no w) = l .kept z w ∙ sym (l′ .kept z w)
-
-    at-zero : Dec (n ≡ 0) → b ≡ b′
-    at-zero (yes e) = l .stored (inl e) ∙ f ∙ sym (l′ .stored (inl e))
-    at-zero (no z) = at-ten z (ℕ-discrete n 10)
-
 pub walk-tells-one : {p k : ℕ} {G H a : List ℕ} {n n′ s s′ d d′ : ℕ} {b b′ : List ℕ} → WalkTells p G H k a n s d b → WalkTells p G H k a n′ s′ d′ b′ → (n ≡ n′) × (s ≡ s′) × (d ≡ d′) × (b ≡ b′)
-walk-tells-one {a = a} {n = n} {b′ = b′} t u =
-    let e = walks-one _ _ _ _ _ (t .o) (u .o) (t .walks) (u .walks) in
-    let m = t .number ∙ ap (λ (o : Walked). o .refusal) e ∙ sym (u .number) in (
-      m,
-      t .steps-is ∙ ap (λ (o : Walked). o .steps) e ∙ sym (u .steps-is),
-      t .sum-is ∙ ap (λ (o : Walked). o .sum) e ∙ sym (u .sum-is),
-      ends-one n (ap (λ (o : Walked). o .basis) e) (t .rows) (subst (λ k. Ends k a b′ (u .o .basis)) (sym m) (u .rows)),
-    )
+walk-tells-one t u = puts-one (walks-one _ _ _ _ _ (t .o) (u .o) (t .walks) (u .walks)) (t .puts) (u .puts)
 
 pub from-order-tells-one : {p : ℕ} {G H : List ℕ} {k n n′ l l′ r r′ : ℕ} → FromOrderTells p G H k n l r → FromOrderTells p G H k n′ l′ r′ → (n ≡ n′) × (l ≡ l′) × (r ≡ r′)
 from-order-tells-one t u =
@@ -86,22 +67,8 @@ unit-tells-one t u =
     )
 
 -- ---- books
-same-numbers : {x y : Said} {o o′ : List ℕ} → x ≡ y → o ≡ numbers x → o′ ≡ numbers y → o ≡ o′
-same-numbers e a b = a ∙ ap numbers e ∙ sym b
-
-place-one : {s : List ℕ} {i a a′ l l′ : ℕ} → Place s i a l → Place s i a′ l′ → (a ≡ a′) × (l ≡ l′)
-place-one (found _ _ a l) (found _ _ a′ l′) = (a ∙ sym a′, l ∙ sym l′)
-place-one (none _ a l) (none _ a′ l′) = (a ∙ sym a′, l ∙ sym l′)
-place-one (found w h _ _) (none f _ _) = absurd (f w h)
-place-one (none f _ _) (found w h _ _) = absurd (f w h)
-
 pub check-says-one : {s o o′ : List ℕ} → CheckSays s o → CheckSays s o′ → o ≡ o′
 check-says-one {s} t u = same-numbers (tells-one s (t .tells) (u .tells)) (t .written) (u .written)
-
-pub ask-says-one : {s : List ℕ} {i a a′ l l′ : ℕ} {o o′ : List ℕ} → AskSays s i a l o → AskSays s i a′ l′ o′ → (a ≡ a′) × (l ≡ l′) × (o ≡ o′)
-ask-says-one {s} t u =
-    let w = place-one (t .place) (u .place) in
-    (w .0, w .1, same-numbers (ask-one s (t .tells) (u .tells)) (t .written) (u .written))
 
 pub list-says-one : {s : List ℕ} {k : ℕ} {d e e′ o o′ : List ℕ} → ListSays s k d e o → ListSays s k d e′ o′ → (e ≡ e′) × (o ≡ o′)
 list-says-one t u = let w = list-one (t .tells) (u .tells) in (w .1, same-numbers (w .0) (t .written) (u .written))

@@ -2,13 +2,12 @@
 --   Left n a b x         what is lent: without a refusal it holds x afterwards, with one it is as it was
 --   OrderTells           the record of the order, into a lent array
 --   StepTells            the next record in place of the old one, and the degree of the m divided by
---   Ends n a b x         of a walk, what is lent: it holds x afterwards where the walk closed or its budget was spent, else it is as it was
 --   WalkTells            the last record in place of the first one, steps and degree sum
 --   FromOrderTells       period and regulator of the walk from the order
 --   UnitTells            the unit and its inverse in the lent slices, period and regulator
--- In proofs/Once.antt: two outcomes that meet one of them are equal.
+-- In proofs/Once.antt: two outcomes that meet one of them are equal. `Puts`, what a walk puts in place, is in walk_in_place/specs/Puts.antt.
 use mathlib.Core.Path.{_≡_}
-use mathlib.Core.Logic.{_≢_, _⊎_}
+use mathlib.Core.Logic.{_≢_}
 use mathlib.Core.List.{List}
 use Prim.Native.Nat.{ℕ}
 use Rattle.bases.specs.declared.Ordered.{Ordered}
@@ -17,6 +16,7 @@ use Rattle.stepped.specs.declared.Stepped.{Stepped}
 use Rattle.stepped.specs.Answer.{Answers}
 use Rattle.walk.specs.declared.Walked.{Walked}
 use Rattle.walk.specs.Walk.{Walks}
+use Rattle.walk_in_place.specs.Puts.{Puts}
 use Rattle.walks.specs.declared.Told.{Told}
 use Rattle.walks.specs.Order.{FromOrder}
 use Rattle.unit.specs.declared.Made.{Made}
@@ -39,17 +39,10 @@ pub record StepTells (p : ℕ) (G H before : List ℕ) (n degree : ℕ) (after :
   pub degree-is : degree ≡ s .degree
   pub rows : Left n before after (s .basis)
 
-pub record Ends (n : ℕ) (before after x : List ℕ) : Type 0 where
-  pub stored : (n ≡ 0) ⊎ (n ≡ 10) → after ≡ x
-  pub kept : n ≢ 0 → n ≢ 10 → after ≡ before
-
 pub record WalkTells (p : ℕ) (G H : List ℕ) (budget : ℕ) (before : List ℕ) (n steps sum : ℕ) (after : List ℕ) : Type 0 where
   pub o : Walked
   pub walks : Walks p G H budget before o
-  pub number : n ≡ o .refusal
-  pub steps-is : steps ≡ o .steps
-  pub sum-is : sum ≡ o .sum
-  pub rows : Ends n before after (o .basis)
+  pub puts : Puts o before n steps sum after
 
 pub record FromOrderTells (p : ℕ) (G H : List ℕ) (budget n period regulator : ℕ) : Type 0 where
   pub o : Told

@@ -4,15 +4,12 @@ ghost use Rattle.field.specs.Refusal.{Refusal};
 ghost use Rattle.series.specs.Answer.{Answer};
 ghost use Rattle.bases.specs.Answer.{Checks};
 ghost use mathlib.Core.Path.{_≡_};
-ghost use Rattle.book.specs.Answer.{reasonSays, answerSays, requestSays};
 ghost use Rattle.book.specs.Book.{count};
 ghost use Rattle.book_body.specs.Body.{bodyOf};
-ghost use Rattle.book_body.specs.Code.{gotSays};
-ghost use Rattle.book_write.specs.Write.{bodyFrom, wroteSays};
-ghost use Rattle.book_add.specs.Add.{addedSays};
-ghost use Rattle.book_attest.specs.Attest.{attestSays};
+ghost use Rattle.book_write.specs.Write.{bodyFrom};
+ghost use Rattle.book_asked.specs.Place.{AskSays};
 ghost use Rattle.capi.specs.Told.{OrderTells, StepTells, WalkTells, FromOrderTells, UnitTells};
-ghost use Rattle.capi.specs.Books.{numbers, CheckSays, AskSays, ListSays, WriteSays, AddSays, AttestSays};
+ghost use Rattle.capi.specs.Books.{CheckSays, ListSays, WriteSays, AddSays, AttestSays};
 
 // The number of the first refusal of p, G, H; 0 where the field is accepted.
 #[no_mangle]
@@ -91,19 +88,7 @@ pub extern "C" fn zaminuk_walk(
 {
     let from = *rows;
     let o = walks::walk(p, g, h, from, budget);
-    let n = o.refusal;
-    *steps = o.steps;
-    *sum = o.sum;
-    let b = o.basis;
-    if n == 0 {
-        *rows = b;
-        return n;
-    }
-    if n == 10 {
-        *rows = b;
-        return n;
-    }
-    n
+    walk_in_place::put(o, rows, steps, sum)
 }
 
 // The walk of at most `budget` steps from the order: its refusal; period and regulator, 0 beside a refusal.
@@ -148,89 +133,13 @@ pub extern "C" fn zaminuk_unit(
     o.refusal
 }
 
-// A reason in numbers.
-fn reason_row(why: book::Reason) -> [u64; 5]
-    ensures { λ o. ⌜ o ≡ numbers (reasonSays why) ⌝ }
-{
-    match why {
-        book::Reason::Mark => [13, 1, 0, 0, 0],
-        book::Reason::Contents => [13, 2, 0, 0, 0],
-        book::Reason::BodyRule(i) => [13, 3, i as u64, 0, 0],
-        book::Reason::Field(i, n) => [13, 4, i as u64, n as u64, 0],
-        book::Reason::Twice(i, j) => [13, 5, i as u64, j as u64, 0],
-    }
-}
-
-fn answer_row(a: book::Answer) -> [u64; 5]
-    ensures { λ o. ⌜ o ≡ numbers (answerSays a) ⌝ }
-{
-    match a {
-        book::Answer::Yes => [0, 0, 0, 0, 0],
-        book::Answer::Refused(why) => reason_row(why),
-    }
-}
-
-fn request_row(a: book::Request) -> [u64; 5]
-    ensures { λ o. ⌜ o ≡ numbers (requestSays a) ⌝ }
-{
-    match a {
-        book::Request::There => [0, 0, 0, 0, 0],
-        book::Request::Refused(why) => reason_row(why),
-        book::Request::NoEntry => [14, 0, 0, 0, 0],
-    }
-}
-
-fn got_row(a: book_body::Got) -> [u64; 5]
-    ensures { λ o. ⌜ o ≡ numbers (gotSays a) ⌝ }
-{
-    match a {
-        book_body::Got::Length(n) => [0, 0, 0, 0, n as u64],
-        book_body::Got::NoList => [14, 0, 0, 0, 0],
-        book_body::Got::Short => [11, 0, 0, 0, 0],
-    }
-}
-
-fn wrote_row(a: book_write::Wrote) -> [u64; 5]
-    ensures { λ o. ⌜ o ≡ numbers (wroteSays a) ⌝ }
-{
-    match a {
-        book_write::Wrote::Length(n) => [0, 0, 0, 0, n as u64],
-        book_write::Wrote::FieldRefused(k) => [k as u64, 0, 0, 0, 0],
-        book_write::Wrote::RuleBroken => [13, 3, 0, 0, 0],
-        book_write::Wrote::Short => [11, 0, 0, 0, 0],
-    }
-}
-
-fn added_row(a: book_add::Added) -> [u64; 5]
-    ensures { λ o. ⌜ o ≡ numbers (addedSays a) ⌝ }
-{
-    match a {
-        book_add::Added::Length(n) => [0, 0, 0, 0, n as u64],
-        book_add::Added::LengthOut => [14, 0, 0, 0, 0],
-        book_add::Added::Refused(why) => reason_row(why),
-        book_add::Added::Known => [15, 0, 0, 0, 0],
-        book_add::Added::Short => [11, 0, 0, 0, 0],
-    }
-}
-
-fn attest_row(a: book_attest::Attestation) -> [u64; 5]
-    ensures { λ o. ⌜ o ≡ numbers (attestSays a) ⌝ }
-{
-    match a {
-        book_attest::Attestation::Yes => [0, 0, 0, 0, 1],
-        book_attest::Attestation::No => [0, 0, 0, 0, 0],
-        book_attest::Attestation::Refused(why) => reason_row(why),
-        book_attest::Attestation::NoEntry => [14, 0, 0, 0, 0],
-    }
-}
-
 // Checks a book: five numbers, the refusal, the inner reason, its entry, its other number, the result.
 #[no_mangle]
 pub extern "C" fn zaminuk_book_check(book: &[u8], said: &mut [u64; 5])
     ensures { λ _. ⌜ CheckSays (now (book .entry)) (now (said .exit)) ⌝ }
 {
     let a = book::check(book);
-    let o = answer_row(a);
+    let o = book_said::answer_row(a);
     *said = o;
 }
 
@@ -253,16 +162,7 @@ pub extern "C" fn zaminuk_book_ask(
 )
     ensures { λ _. ⌜ AskSays (now (book .entry)) i (now (start .exit)) (now (size .exit)) (now (said .exit)) ⌝ }
 {
-    let a = book::ask_answer(book, i);
-    let o = request_row(a);
-    if o[0] == 0 {
-        *start = book_bytes::four(book, 6 + 8 * i);
-        *size = book_bytes::four(book, 10 + 8 * i);
-    } else {
-        *start = 0;
-        *size = 0;
-    }
-    *said = o;
+    book_asked::ask(book, i, start, size, said);
 }
 
 // Attests entry i: the result is 1 for yes.
@@ -271,7 +171,7 @@ pub extern "C" fn zaminuk_book_attest(book: &[u8], i: usize, said: &mut [u64; 5]
     ensures { λ _. ⌜ AttestSays (now (book .entry)) i (now (said .exit)) ⌝ }
 {
     let a = book_attest::attest(book, i);
-    let o = attest_row(a);
+    let o = book_said::attest_row(a);
     *said = o;
 }
 
@@ -298,7 +198,7 @@ pub extern "C" fn zaminuk_body_list(body: &[u8], k: usize, out: &mut [u64], said
     ensures { λ _. ⌜ ListSays (now (body .entry)) k (now (out .entry)) (now (out .exit)) (now (said .exit)) ⌝ }
 {
     let a = book_body::list_of(body, k, out);
-    let o = got_row(a);
+    let o = book_said::got_row(a);
     *said = o;
 }
 
@@ -318,7 +218,7 @@ pub extern "C" fn zaminuk_book_write(
     ensures { λ _. ⌜ WriteSays (bodyFrom p (now (g .entry)) (now (h .entry)) period (now (a .entry)) (now (b .entry)) (now (c .entry))) (now (out .entry)) (now (out .exit)) (now (said .exit)) ⌝ }
 {
     let w = book_write::write_body(p, g, h, counts::Period(period), a, b, c, out);
-    let o = wrote_row(w);
+    let o = book_said::wrote_row(w);
     *said = o;
 }
 
@@ -328,6 +228,6 @@ pub extern "C" fn zaminuk_book_add(out: &mut [u8], n: usize, body: &[u8], said: 
     ensures { λ _. ⌜ AddSays (now (out .entry)) n (now (body .entry)) (now (out .exit)) (now (said .exit)) ⌝ }
 {
     let a = book_add::add(out, n, body);
-    let o = added_row(a);
+    let o = book_said::added_row(a);
     *said = o;
 }

@@ -1,4 +1,4 @@
--- Asking through the C interface: whether the entry is there is read off the first of the five numbers.
+-- Whether the entry is there is read off the first of the five numbers.
 use mathlib.Core.Path.{_≡_, _∙_, sym, ap}
 use mathlib.Core.List.{List}
 use Prim.Native.Nat.{ℕ, _<_}
@@ -9,7 +9,8 @@ use Rattle.book.specs.Book.{Accepted, count, startAt, lengthAt}
 use Rattle.book.specs.Answer.{AskTells}
 use Rattle.book.proofs.Facts.{few-of}
 use Rattle.book.proofs.Asking.{told-there, told-none}
-use Rattle.capi.specs.Books.{numbers, Place, found, none, AskSays}
+use Rattle.book_said.specs.Numbers.{numbers}
+use Rattle.book_asked.specs.Place.{found, none, AskSays}
 
 module _ (s : List ℕ) (i : ℕ) (x : Said) (o : List ℕ) (t : AskTells s i x) (e : o ≡ numbers x) where
   number-is : x .number ≡ getD o 0 0

@@ -1,10 +1,10 @@
 -- `answer_row` gives the numbers of document 01.
 use mathlib.Core.Path.{_∙_, sym, ap}
 use Rattle.book.specs.Answer.{answerSays}
-use Rattle.capi.specs.Books.{numbers}
+use Rattle.book_said.specs.Numbers.{numbers}
 use borrow.Author.Needs.{needs}
-use Rattle.capi.proofs.answer_row.Statement.{statement}
-use Rattle.capi.proofs.answer_row.Tie as tie
+use Rattle.book_said.proofs.answer_row.Statement.{statement}
+use Rattle.book_said.proofs.answer_row.Tie as tie
 
 enum-told : tie.Need-enum-told
 enum-told c = search needs

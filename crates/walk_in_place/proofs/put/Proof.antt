@@ -1,17 +1,11 @@
--- `zaminuk_walk` meets its contract.
+-- `put` meets its contract.
 use mathlib.Core.Path.{refl}
 use mathlib.Core.Logic.{inl, inr}
-use borrow.Author.Needs.{needs}
-use Rattle.capi.proofs.zaminuk_walk.Statement.{statement}
-use Rattle.capi.proofs.zaminuk_walk.Tie as tie
-
-walk-requires : tie.Need-walk-requires
-walk-requires c κs = search needs
+use Rattle.walk_in_place.proofs.put.Statement.{statement}
+use Rattle.walk_in_place.proofs.put.Tie as tie
 
 returns : tie.Need-returns
 returns c = record {
-  o = _;
-  walks = c .before .before .walk .ensures;
   number = refl;
   steps-is = refl;
   sum-is = refl;
@@ -20,8 +14,6 @@ returns c = record {
 
 returns-2 : tie.Need-returns-2
 returns-2 c = record {
-  o = _;
-  walks = c .before .before .before .walk .ensures;
   number = refl;
   steps-is = refl;
   sum-is = refl;
@@ -30,8 +22,6 @@ returns-2 c = record {
 
 returns-3 : tie.Need-returns-3
 returns-3 c = record {
-  o = _;
-  walks = c .before .before .before .walk .ensures;
   number = refl;
   steps-is = refl;
   sum-is = refl;
@@ -41,5 +31,5 @@ returns-3 c = record {
   };
 }
 
-pub zaminuk-walk-spec : {M : Type 1} → statement M
-zaminuk-walk-spec = tie.close (tie.spec walk-requires returns returns-2 returns-3)
+pub put-spec : {M : Type 1} → statement M
+put-spec = tie.close (tie.spec returns returns-2 returns-3)

@@ -1,10 +1,10 @@
--- `zaminuk_book_ask` meets its contract.
+-- `ask` meets its contract.
 use mathlib.Core.Path.{refl}
-use Rattle.capi.proofs.Asked.{near, asked-there, asked-none}
+use Rattle.book_asked.proofs.Asked.{near, asked-there, asked-none}
 use native.Mathlib.Omega.{arith}
 use borrow.Author.Needs.{needs}
-use Rattle.capi.proofs.zaminuk_book_ask.Statement.{statement}
-use Rattle.capi.proofs.zaminuk_book_ask.Tie as tie
+use Rattle.book_asked.proofs.ask.Statement.{statement}
+use Rattle.book_asked.proofs.ask.Tie as tie
 
 ask-answer-requires : tie.Need-ask-answer-requires
 ask-answer-requires c κs = search needs
@@ -39,8 +39,8 @@ returns c = asked-there _ _ _ _ (c .before .before .before .before .ask-answer .
 returns-2 : tie.Need-returns-2
 returns-2 c = asked-none _ _ _ _ (c .before .before .ask-answer .ensures) (c .before .request-row .ensures) (c .if1 .left) _ _ refl refl
 
-pub zaminuk-book-ask-spec : {M : Type 1} → statement M
-zaminuk-book-ask-spec =
+pub ask-spec : {M : Type 1} → statement M
+ask-spec =
     tie.close
     (tie.spec
     ask-answer-requires
