@@ -18,6 +18,7 @@
 --   bases         first: first-one (Steps); order, check: orders-one, checks-one (bases/proofs/Answer)
 --   step, stepped     advanced: advanced-one; next: next-one (Steps); step: answers-one (stepped/proofs/Answers)
 --   walk, walks   go: go-one; walked: walked-one (Steps); from_order, walk: from-order-one, walks-one (walks/proofs, walk/proofs)
+--   walk_in_place     put: puts-one (walk_in_place/proofs/Once)
 --   long          size: size-one (Poly); mix, times, for a prime p: mix-one, times-one; scale: scale-one; quotient, where there is one that
 --                 fits: quotient-one (Long)
 --   six           monic, invert: monic-one, invert-one; turn, where `Turnable`: turn-one (Long)
@@ -28,6 +29,7 @@
 --   book          check, ask_answer: check-one, ask-answer-one (Bytes); ask, earlier, judge: part-one, earliest-one, judge-one (book/proofs/One)
 --   book_add      may_add, add: verdict-one, added-one (book_add/proofs/One)
 --   book_attest   attest: attestation-one (book_attest/proofs/One)
+--   book_asked    ask: ask-says-one (book_asked/proofs/Once)
 --   book_write    write_body: wrote-one (book_write/proofs/One)
 --   text_put      put_byte, put_bytes, put_number, put_list, put_refused: placed-unique (text_put/proofs/Puts)
 --   text_cut      cut: cut-unique (text_cut/proofs/Steps)
@@ -35,7 +37,7 @@
 --   lister        answer, pass, finish: answer-one, passes-one (lister/proofs/Once), placed-unique
 --   capi          zaminuk_refusal, zaminuk_series, zaminuk_check: refusal-one, answer-one, checks-one as above; zaminuk_order, zaminuk_step,
 --                 zaminuk_walk, zaminuk_from_order, zaminuk_unit: order-tells-one, step-tells-one, walk-tells-one, from-order-tells-one,
---                 unit-tells-one; zaminuk_book_check, _ask, _attest, _write, _add, zaminuk_body_list: check-says-one, ask-says-one,
---                 attest-says-one, write-says-one, add-says-one, list-says-one (capi/proofs/Once)
+--                 unit-tells-one; zaminuk_book_check, _attest, _write, _add, zaminuk_body_list: check-says-one, attest-says-one,
+--                 write-says-one, add-says-one, list-says-one (capi/proofs/Once); zaminuk_book_ask: ask-says-one as above
 pub mod Turnable
 pub mod UpTo
