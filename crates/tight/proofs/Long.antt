@@ -18,7 +18,7 @@ use Rattle.reading.proofs.Tab.{length-tab, at-tab, past-tab}
 use Rattle.reading.proofs.Unique.{list-unique}
 use Rattle.long.specs.Long.{Quotient, Mixed, Times, Scaled}
 use Rattle.six.specs.Six.{cut, Turn, MonicIn, MonicMade}
-use Rattle.six.specs.Inverse.{element, InvertIn, Inverted}
+use Rattle.six_invert.specs.Inverse.{element, InvertIn, Inverted}
 use Rattle.tight.specs.Turnable.{at, Turnable}
 use Rattle.tight.proofs.Rows.{by-list, low-one}
 
