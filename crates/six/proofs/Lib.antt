@@ -2,5 +2,3 @@ pub mod Parts
 pub mod Rows
 pub mod Multiply
 pub mod InPlace
-pub mod Cofactors
-pub mod Inverting

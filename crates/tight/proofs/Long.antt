@@ -1,4 +1,4 @@
--- Crates long and six: the final contents of the lent slices. `size` of long: `size-one` in Poly.
+-- Crates long, six and six_invert: the final contents of the lent slices. `size` of long: `size-one` in Poly.
 --   cut-one   the numbers of a row inside a slice are settled by its polynomial
 use mathlib.Core.Path.{_≡_, sym, ap, _∙_, subst}
 use mathlib.Core.List.{List}
@@ -18,7 +18,7 @@ use Rattle.reading.proofs.Tab.{length-tab, at-tab, past-tab}
 use Rattle.reading.proofs.Unique.{list-unique}
 use Rattle.long.specs.Long.{Quotient, Mixed, Times, Scaled}
 use Rattle.six.specs.Six.{cut, Turn, MonicIn, MonicMade}
-use Rattle.six.specs.Inverse.{element, InvertIn, Inverted}
+use Rattle.six_invert.specs.Inverse.{element, InvertIn, Inverted}
 use Rattle.tight.specs.Turnable.{at, Turnable}
 use Rattle.tight.proofs.Rows.{by-list, low-one}
 
@@ -93,6 +93,7 @@ monic-one {p} {c} {n} {rows} {rows′} {rows″} g h k = ext-getD 0 rows′ rows
     go i (yes l) = h .at i l ∙ ap (λ m. (getD rows i 0 * m) % p) same ∙ sym (k .at i l)
     go i (no l) = h .rest i (omega arith) ∙ sym (k .rest i (omega arith))
 
+-- ---- six_invert
 -- the norm is a constant that is not 0: it has an inverse
 pub invert-one : {p c k : ℕ} {g h gh ngh rows s rows′ s′ rows″ s″ : List ℕ} → InvertIn p c k g h gh ngh rows s
     → Inverted p c g h rows s rows′ s′ → Inverted p c g h rows s rows″ s″ → (rows′ ≡ rows″) × (s′ ≡ s″)

@@ -21,7 +21,8 @@
 --   walk_in_place     put: puts-one (walk_in_place/proofs/Once)
 --   long          size: size-one (Poly); mix, times, for a prime p: mix-one, times-one; scale: scale-one; quotient, where there is one that
 --                 fits: quotient-one (Long)
---   six           monic, invert: monic-one, invert-one; turn, where `Turnable`: turn-one (Long)
+--   six           monic: monic-one; turn, where `Turnable`: turn-one (Long)
+--   six_invert    invert: invert-one (Long)
 --   unit          unit: makes-one (unit/proofs/Once)
 --   book_bytes    same_list: decides-one (Tests); read_list, put_two, put_four, put_list, copy_in, lift: put-one (Bytes)
 --   book_body     body_rule, one_field, unit_list, first_list: decides-one (Tests); field_refusal, period_of: field-refusal-one, period-of-one (Bytes);

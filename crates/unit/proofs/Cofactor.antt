@@ -1,4 +1,4 @@
--- The inverse from the cofactor: the opened field meets what `six::invert` asks, and what it hands out is cof(E)/N(E).
+-- The inverse from the cofactor: the opened field meets what `six_invert::invert` asks, and what it hands out is cof(E)/N(E).
 --   with-prime       an accepted field, with another proof that p is prime
 --   invert-in        what `invert` asks
 --   inverses         what it hands out
@@ -25,8 +25,8 @@ use Rattle.stepped.proofs.Kept.{keeps-of}
 use Rattle.poly.specs.Leaf.{Given, Opposite}
 use Rattle.long.specs.Long.{Stored}
 use Rattle.six.specs.Six.{cut}
-use Rattle.six.specs.Inverse.{element, InvertIn, Inverted}
 use Rattle.six.proofs.Multiply.{cut-same}
+use Rattle.six_invert.specs.Inverse.{element, InvertIn, Inverted}
 use Rattle.unit.specs.Unit.{six}
 use Rattle.unit.specs.Making.{InverseIn, Inverses}
 use Rattle.unit.proofs.Turning.{p-is, kept, storable, storable-at, row-stored, six-path}

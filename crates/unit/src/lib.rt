@@ -84,7 +84,7 @@ fn inverted(f: Cubic, c: usize, k: usize, rows: &mut [u16], s: &mut [u16])
     let h = narrow(&y);
     let gh = narrow(&z);
     let ngh = narrow(&m);
-    six::invert(q.p, c, k, &g, &h, &gh, &ngh, rows, s);
+    six_invert::invert(q.p, c, k, &g, &h, &gh, &ngh, rows, s);
 }
 
 // E made monic, and its inverse; E has degree d.

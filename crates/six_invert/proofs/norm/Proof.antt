@@ -1,18 +1,18 @@
--- `six::norm` meets its contract: proofs/Cofactors.antt.
+-- `six_invert::norm` meets its contract: proofs/Cofactors.antt.
 use Prim.Native.Nat.{ℕ, zero, suc, _≤_, _<_, _-_, _*_, _+_, _%_}
 use mathlib.Core.Path.{_≡_, _∙_, sym, ap, ap₂, refl, subst}
 use mathlib.Core.List.{List, [], _∷_, _++_}
 use native.Mathlib.Omega.{arith}
 use native.Mathlib.Numerals.{add-one}
 use lib.ListN.{length, length-set, getD, set, replicate, take, drop}
-use Rattle.six.proofs.Cofactors.{norm-first, norm-long, norm-made}
+use Rattle.six_invert.proofs.Cofactors.{norm-first, norm-long, norm-made}
 use borrow.Author.Needs.{needs}
-use Rattle.six.proofs.norm.Statement.{statement}
-use Rattle.six.proofs.norm.Tie as tie
-use Rattle.six.proofs.norm.Reads as reads
-use Rattle.six.proofs.norm.Lts as lts
+use Rattle.six_invert.proofs.norm.Statement.{statement}
+use Rattle.six_invert.proofs.norm.Tie as tie
+use Rattle.six_invert.proofs.norm.Reads as reads
+use Rattle.six_invert.proofs.norm.Lts as lts
 use Rattle.long.proofs.mix.Reads as mix-reads
 use Rattle.six.proofs.wide.Reads as wide-reads
 
 add-c2 : tie.Need-add-c2
 add-c2 c = search needs

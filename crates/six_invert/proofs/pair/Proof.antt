@@ -1,16 +1,16 @@
--- `six::pair` meets its contract: proofs/Cofactors.antt.
+-- `six_invert::pair` meets its contract: proofs/Cofactors.antt.
 use Prim.Native.Nat.{ℕ, zero, suc, _≤_, _<_, _-_, _*_, _+_, _%_}
 use mathlib.Core.Path.{_≡_, _∙_, sym, ap, ap₂, refl, subst}
 use mathlib.Core.List.{List, [], _∷_, _++_}
 use native.Mathlib.Omega.{arith}
 use native.Mathlib.Numerals.{add-one}
 use lib.ListN.{length, length-set, getD, set, replicate, take, drop}
-use Rattle.six.proofs.Cofactors.{pair-asks, pair-size, pair-made}
+use Rattle.six_invert.proofs.Cofactors.{pair-asks, pair-size, pair-made}
 use borrow.Author.Needs.{needs}
-use Rattle.six.proofs.pair.Statement.{statement}
-use Rattle.six.proofs.pair.Tie as tie
-use Rattle.six.proofs.pair.Reads as reads
-use Rattle.six.proofs.pair.Lts as lts
+use Rattle.six_invert.proofs.pair.Statement.{statement}
+use Rattle.six_invert.proofs.pair.Tie as tie
+use Rattle.six_invert.proofs.pair.Reads as reads
+use Rattle.six_invert.proofs.pair.Lts as lts
 use Rattle.long.proofs.mix.Reads as mix-reads
 
 add-x2 : tie.Need-add-x2

@@ -22,10 +22,10 @@ use Rattle.reading.proofs.Unique.{const-inj}
 use Rattle.residue.specs.Residue.{Inverse, Nonzero}
 use Rattle.long.specs.Long.{Low, Scaled}
 use Rattle.long.proofs.Low.{low-unique, scale-law}
 use Rattle.six.specs.Six.{cut}
-use Rattle.six.specs.Inverse.{PairIn, CofactorIn, Cofactor, NormIn, Norm, element, InvertIn, Inverted}
 use Rattle.six.proofs.Parts.{mid, mid-length, Put, put-back}
 use Rattle.six.proofs.Multiply.{cut-same, row-grow}
+use Rattle.six_invert.specs.Inverse.{PairIn, CofactorIn, Cofactor, NormIn, Norm, element, InvertIn, Inverted}
 
 -- one number
 pub row-one : {p : ℕ} (ρ : Reading p) (v : ℕ) → row ρ (v ∷ []) ≡ ρ .𝓥 .const (ρ .cast v)

@@ -1,18 +1,18 @@
--- `six::cofactor` meets its contract: proofs/Cofactors.antt.
+-- `six_invert::cofactor` meets its contract: proofs/Cofactors.antt.
 use Prim.Native.Nat.{ℕ, zero, suc, _≤_, _<_, _-_, _*_, _+_, _%_}
 use mathlib.Core.Path.{_≡_, _∙_, sym, ap, ap₂, refl, subst}
 use mathlib.Core.List.{List, [], _∷_, _++_}
 use native.Mathlib.Omega.{arith}
 use native.Mathlib.Numerals.{add-one}
 use lib.ListN.{length, length-set, getD, set, replicate, take, drop}
-use Rattle.six.proofs.Cofactors.{cofactor-asks, cofactor-made}
+use Rattle.six_invert.proofs.Cofactors.{cofactor-asks, cofactor-made}
 use borrow.Author.Needs.{needs}
-use Rattle.six.proofs.cofactor.Statement.{statement}
-use Rattle.six.proofs.cofactor.Tie as tie
-use Rattle.six.proofs.cofactor.Reads as reads
-use Rattle.six.proofs.cofactor.Lts as lts
+use Rattle.six_invert.proofs.cofactor.Statement.{statement}
+use Rattle.six_invert.proofs.cofactor.Tie as tie
+use Rattle.six_invert.proofs.cofactor.Reads as reads
+use Rattle.six_invert.proofs.cofactor.Lts as lts
 use Rattle.long.proofs.mix.Reads as mix-reads
-use Rattle.six.proofs.pair.Reads as pair-reads
+use Rattle.six_invert.proofs.pair.Reads as pair-reads
 
 pair-requires : tie.Need-pair-requires
 pair-requires c κs = c .before .before .before .before .before .before .pre .pair

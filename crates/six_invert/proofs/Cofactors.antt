@@ -13,10 +13,10 @@ use Rattle.reading.specs.Row.{row, tpow}
 use Rattle.reading.proofs.Rows.{row-poly}
 use Rattle.long.specs.Long.{Low, MixIn, Mixed}
 use Rattle.long.proofs.Low.{low-mix, alone}
 use Rattle.six.specs.Six.{cut}
-use Rattle.six.specs.Inverse.{PairIn, Pair, CofactorIn, Cofactor, NormIn, Norm}
 use Rattle.six.proofs.Parts.{mid, mid-length, mid-cut, Put, put-back, put-cut}
 use Rattle.six.proofs.Multiply.{cut-same}
+use Rattle.six_invert.specs.Inverse.{PairIn, Pair, CofactorIn, Cofactor, NormIn, Norm}
 
 low-eq : {p : ℕ} (ρ : Reading p) {n m : ℕ} {z y : ρ .𝓥 .L .El} {l k : List ℕ} → Low ρ n z l → n ≡ m → z ≡ y → l ≡ k → Low ρ m y k
 low-eq ρ {n} {m} {z} {y} {l} {k} h e f g = subst (λ i. Low ρ i y k) e (subst (λ i. Low ρ n i k) f (subst (λ i. Low ρ n z i) g h))

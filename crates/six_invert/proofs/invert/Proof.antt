@@ -1,4 +1,4 @@
--- `six::invert` meets its contract: proofs/Inverting.antt.
+-- `six_invert::invert` meets its contract: proofs/Inverting.antt.
 use Prim.Native.Nat.{ℕ, zero, suc, _≤_, _<_, _-_, _*_, _+_, _%_}
 use mathlib.Core.Path.{_≡_, _∙_, sym, ap, ap₂, refl, subst}
 use mathlib.Core.List.{List, [], _∷_, _++_}
@@ -6,17 +6,17 @@ use native.Mathlib.Omega.{arith}
 use native.Mathlib.Numerals.{add-one}
 use lib.ListN.{length, length-set, getD, set, replicate, take, drop}
 use lib.ListN.{length-replicate}
-use Rattle.six.proofs.Inverting.{invert-asks, norm-asks, inverse-asks, inverted}
+use Rattle.six_invert.proofs.Inverting.{invert-asks, norm-asks, inverse-asks, inverted}
 use borrow.Author.Needs.{needs}
-use Rattle.six.proofs.invert.Statement.{statement}
-use Rattle.six.proofs.invert.Tie as tie
-use Rattle.six.proofs.invert.Reads as reads
-use Rattle.six.proofs.invert.Lts as lts
+use Rattle.six_invert.proofs.invert.Statement.{statement}
+use Rattle.six_invert.proofs.invert.Tie as tie
+use Rattle.six_invert.proofs.invert.Reads as reads
+use Rattle.six_invert.proofs.invert.Lts as lts
 use Rattle.long.proofs.clear.Reads as clear-reads
 use Rattle.long.proofs.scale.Reads as scale-reads
 use Rattle.residue.proofs.inverse.Reads as inverse-reads
-use Rattle.six.proofs.cofactor.Reads as cofactor-reads
-use Rattle.six.proofs.norm.Reads as norm-reads
+use Rattle.six_invert.proofs.cofactor.Reads as cofactor-reads
+use Rattle.six_invert.proofs.norm.Reads as norm-reads
 
 sub-v : tie.Need-sub-v
 sub-v c = search needs

@@ -1,0 +1,2 @@
+pub mod Cofactors
+pub mod Inverting
