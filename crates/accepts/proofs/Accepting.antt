@@ -35,7 +35,8 @@ use Rattle.opened.proofs.Lists.{field-holds, g-row, h-row, gh-row, holds-of}
 use Rattle.book_bytes.specs.Decides.{Decides}
 use Rattle.book_bytes.proofs.Tests.{answer-no, settled}
 use Rattle.closure.specs.Closed.{Closed, Given, Room, UnderIn, Under}
-use Rattle.accepts.specs.Tests.{Below, Narrow, NarrowIn, ShapedIn, Shaped, Numbers, AloneIn, Alone}
+use Rattle.shape.specs.Lengths.{Below, Narrow, NarrowIn}
+use Rattle.accepts.specs.Tests.{ShapedIn, Shaped, Numbers, AloneIn, Alone}
 use Rattle.accepts.specs.Answer.{Seventeen, PassIn, Passes, Accepts}
 
 -- ---- the field

@@ -13,6 +13,7 @@
 --   reduce        part: part-one; lead_of, where the size has a degree: lead-of-one; reduced, up to constants: reduced-one (Reduction)
 --   generators    det: det-one; divided, up to a constant: divided-one, and its lengths: divided-lengths (Generators)
 --   basis         load, reduced_basis, order: load-one, reduced-basis-one, order-one (Bases)
+--   shape         below, narrow, shape: decides-one (Tests)
 --   closure       under: under-one (Tests)
 --   accepts       accepts: accepts-one (Tests)
 --   bases         first: first-one (Steps); order, check: orders-one, checks-one (bases/proofs/Answer)

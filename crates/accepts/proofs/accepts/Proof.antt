@@ -5,7 +5,7 @@ use Rattle.accepts.proofs.accepts.Statement.{statement}
 use Rattle.accepts.proofs.accepts.Tie as tie
 use Rattle.accepts.proofs.accepts.Reads as reads
 use Rattle.accepts.proofs.accepts.Lts as lts
-use Rattle.accepts.proofs.below.Reads as below-reads
+use Rattle.shape.proofs.below.Reads as below-reads
 use Rattle.accepts.proofs.passes.Reads as passes-reads
 use Rattle.basis.proofs.load.Reads as load-reads
 

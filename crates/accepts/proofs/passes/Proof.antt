@@ -8,7 +8,7 @@ use Rattle.accepts.proofs.passes.Tie as tie
 use Rattle.accepts.proofs.passes.Reads as reads
 use Rattle.accepts.proofs.passes.Lts as lts
 use Rattle.accepts.proofs.alone.Reads as alone-reads
-use Rattle.accepts.proofs.narrow.Reads as narrow-reads
+use Rattle.shape.proofs.narrow.Reads as narrow-reads
 use Rattle.accepts.proofs.shaped.Reads as shaped-reads
 use Rattle.closure.proofs.under.Reads as under-reads
 

@@ -1,10 +1,10 @@
--- `accepts::units` meets its contract: one comparison at a time.
+-- `shape::units` meets its contract: one comparison at a time.
 use native.Mathlib.Omega.{arith}
 use Rattle.book_bytes.proofs.Tests.{answer-yes, answer-no}
-use Rattle.accepts.proofs.units.Statement.{statement}
-use Rattle.accepts.proofs.units.Tie as tie
-use Rattle.accepts.proofs.units.Reads as reads
-use Rattle.accepts.proofs.units.Lts as lts
+use Rattle.shape.proofs.units.Statement.{statement}
+use Rattle.shape.proofs.units.Tie as tie
+use Rattle.shape.proofs.units.Reads as reads
+use Rattle.shape.proofs.units.Lts as lts
 
 returns : tie.Need-returns
 returns c = answer-no (λ s. c .if1 .taken (s .U-one))

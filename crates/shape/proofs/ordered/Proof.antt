@@ -1,11 +1,11 @@
--- `accepts::ordered` meets its contract: one comparison at a time.
+-- `shape::ordered` meets its contract: one comparison at a time.
 use mathlib.Core.Logic.{_⊎_, inl, inr}
 use native.Mathlib.Omega.{arith}
 use Rattle.book_bytes.proofs.Tests.{answer-yes, answer-no}
-use Rattle.accepts.proofs.ordered.Statement.{statement}
-use Rattle.accepts.proofs.ordered.Tie as tie
-use Rattle.accepts.proofs.ordered.Reads as reads
-use Rattle.accepts.proofs.ordered.Lts as lts
+use Rattle.shape.proofs.ordered.Statement.{statement}
+use Rattle.shape.proofs.ordered.Tie as tie
+use Rattle.shape.proofs.ordered.Reads as reads
+use Rattle.shape.proofs.ordered.Lts as lts
 
 returns : tie.Need-returns
 returns c = answer-no (λ s. omega (arith, s .Y-M, s .Z-M, s .Z-N, s .Y-N, s .X-M, s .X-N))

@@ -1,12 +1,12 @@
--- `accepts::shape` meets its contract: lengths are settled.
+-- `shape::shape` meets its contract: lengths are settled.
 use native.Mathlib.Omega.{arith}
 use borrow.Author.Needs.{needs}
 use Rattle.book_bytes.proofs.Tests.{answer-no}
-use Rattle.accepts.proofs.Shapes.{shape-from, not-ordered}
-use Rattle.accepts.proofs.shape.Statement.{statement}
-use Rattle.accepts.proofs.shape.Tie as tie
-use Rattle.accepts.proofs.shape.Reads as reads
-use Rattle.accepts.proofs.shape.Lts as lts
+use Rattle.shape.proofs.Lengths.{shape-from, not-ordered}
+use Rattle.shape.proofs.shape.Statement.{statement}
+use Rattle.shape.proofs.shape.Tie as tie
+use Rattle.shape.proofs.shape.Reads as reads
+use Rattle.shape.proofs.shape.Lts as lts
 
 size-requires : tie.Need-size-requires
 size-requires c κs = search needs

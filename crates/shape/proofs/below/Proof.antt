@@ -1,4 +1,4 @@
--- `accepts::below` meets its contract: the invariant is that the numbers passed are below p.
+-- `shape::below` meets its contract: the invariant is that the numbers passed are below p.
 use mathlib.Core.Path.{_≡_}
 use Prim.Native.Nat.{ℕ, _-_, _≤_, _<_}
 use lib.ListN.{length, getD}
@@ -6,12 +6,12 @@ use borrow.Author.Count.{below-more}
 use native.Mathlib.Omega.{arith}
 use borrow.Author.Needs.{needs}
 use Rattle.book_bytes.proofs.Tests.{answer-yes, answer-no}
-use Rattle.accepts.proofs.Shapes.{below-end}
-use Rattle.accepts.proofs.wide.Reads as wide-reads
-use Rattle.accepts.proofs.below.Statement.{statement}
-use Rattle.accepts.proofs.below.Tie as tie
-use Rattle.accepts.proofs.below.Reads as reads
-use Rattle.accepts.proofs.below.Lts as lts
+use Rattle.shape.proofs.Lengths.{below-end}
+use Rattle.shape.proofs.wide.Reads as wide-reads
+use Rattle.shape.proofs.below.Statement.{statement}
+use Rattle.shape.proofs.below.Tie as tie
+use Rattle.shape.proofs.below.Reads as reads
+use Rattle.shape.proofs.below.Lts as lts
 
 abbrev Inv-loop : tie.InvT-loop
 Inv-loop p b i₀ i = (i ≤ 119) × (length b ≡ 119) × ((k : ℕ) → k < i → getD b k 0 < p)

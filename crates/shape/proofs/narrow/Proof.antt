@@ -1,12 +1,12 @@
--- `accepts::narrow` meets its contract: the lengths.
+-- `shape::narrow` meets its contract: the lengths.
 use native.Mathlib.Omega.{arith}
 use borrow.Author.Needs.{needs}
 use Rattle.book_bytes.proofs.Tests.{answer-yes, answer-no}
-use Rattle.accepts.proofs.Shapes.{too-long, ends-at}
-use Rattle.accepts.proofs.narrow.Statement.{statement}
-use Rattle.accepts.proofs.narrow.Tie as tie
-use Rattle.accepts.proofs.narrow.Reads as reads
-use Rattle.accepts.proofs.narrow.Lts as lts
+use Rattle.shape.proofs.Lengths.{too-long, ends-at}
+use Rattle.shape.proofs.narrow.Statement.{statement}
+use Rattle.shape.proofs.narrow.Tie as tie
+use Rattle.shape.proofs.narrow.Reads as reads
+use Rattle.shape.proofs.narrow.Lts as lts
 
 size-requires : tie.Need-size-requires
 size-requires c κs = search needs
