@@ -1,8 +1,8 @@
--- `lister::put_made` meets its contract.
-use Rattle.lister.proofs.Prints.{refusal-put, unit-put}
+-- `lister_print::put_made` meets its contract.
+use Rattle.lister_print.proofs.Prints.{refusal-put, unit-put}
 use borrow.Author.Needs.{needs}
-use Rattle.lister.proofs.put_made.Statement.{statement}
-use Rattle.lister.proofs.put_made.Tie as tie
+use Rattle.lister_print.proofs.put_made.Statement.{statement}
+use Rattle.lister_print.proofs.put_made.Tie as tie
 
 cast-put-refused : tie.Need-cast-put-refused
 cast-put-refused c = search needs
