@@ -36,8 +36,7 @@ fn put_rows(out: &mut [u8], at: usize, rows: &[u16]) -> usize
 }
 
 // What `unit` answered, printed behind the line.
-pub fn put_made(out: &mut [u8], at: usize, line: &[u8], m: Made, rows: &[u16]) -> usize
-    requires { ⌜ 3072 ≤ length (now rows) ⌝ }
+pub fn put_made(out: &mut [u8], at: usize, line: &[u8], m: Made, rows: &[u16; 6144]) -> usize
     ensures { λ r. ⌜ Put (now (out .entry)) at (made-text (now (line .entry)) m (now (rows .entry))) r (now (out .exit)) ⌝ }
 {
     let refusal = m.refusal;

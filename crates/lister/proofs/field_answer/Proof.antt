@@ -12,9 +12,6 @@ slice-aggregate-unit-2 c = search needs
 unit-requires : tie.Need-unit-requires
 unit-requires c κs = search needs
 
-slice-aggregate-put-made : tie.Need-slice-aggregate-put-made
-slice-aggregate-put-made c = search needs
-
 put-made-requires : tie.Need-put-made-requires
 put-made-requires c κs = search needs
 
@@ -31,7 +28,6 @@ field-answer-spec =
     slice-aggregate-unit
     slice-aggregate-unit-2
     unit-requires
-    slice-aggregate-put-made
     put-made-requires
     same-length
     returns)
