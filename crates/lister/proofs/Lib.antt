@@ -1,5 +1,3 @@
-pub mod Trims
-pub mod Prints
 pub mod Replies
 pub mod Short
 pub mod Once

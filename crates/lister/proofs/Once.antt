@@ -1,7 +1,7 @@
 -- One outcome for each input.
 --   lists-one    two answers to a line are equal
 --   answer-one   of `answer`: the place after the answer, and what the slice holds
---   steps-one, passes-one   of a step, and of `pass` (of `finish`: placed-unique of crate text_put)
+--   steps-one, passes-one   of a step, and of `pass`
 --   output-one   two outputs to an input are equal
 use mathlib.Core.Path.{_≡_, refl, sym, ap, ap₂, _∙_, subst}
 use mathlib.Core.List.{List, [], _∷_, _++_}
@@ -21,7 +21,7 @@ use Rattle.text_read.proofs.Writings.{reads-unique}
 use Rattle.unit.specs.declared.Made.{Made}
 use Rattle.unit.specs.Unit.{Makes}
 use Rattle.unit.proofs.Once.{makes-one, Same}
-use Rattle.lister.specs.Text.{unit-text, told, made-text, trim}
+use Rattle.lister_print.specs.Text.{unit-text, told, made-text, trim}
 use Rattle.six.specs.Six.{cut}
 use Rattle.lister.specs.Listing.{budget, blank, room, Lists, malformed, read, Answer, Does, Steps, Way, here, more, Passes}
 use Rattle.lister.specs.declared.Going.{Going}

@@ -3,16 +3,16 @@
 --   stride                   a step is one
 --   Pace k s d g r k' d'     some steps, each answer put whole
 --   way-pace, passes-pace    such a way is one; where there is room for an answer, it goes forward
-use mathlib.Core.Path.{_≡_, refl, sym, ap, _∙_, subst}
-use mathlib.Core.Logic.{_≢_, _⊎_, inl, inr}
+use mathlib.Core.Path.{_≡_, refl, sym, _∙_, subst}
+use mathlib.Core.Logic.{_⊎_, inl, inr}
 use mathlib.Core.List.{List, _++_}
-use Prim.Native.Nat.{ℕ, zero, suc, _+_, _-_, _≤_, _<_}
+use Prim.Native.Nat.{ℕ, _+_, _≤_, _<_}
 use native.Mathlib.Omega.{arith}
 use lib.ListN.{length, take, length-append}
 use Rattle.text_put.specs.Print.{Put, refused-text}
-use Rattle.text_put.proofs.Puts.{placed-none, placed-same, put-fits}
+use Rattle.text_put.proofs.Puts.{placed-same, put-fits}
 use Rattle.text_cut.specs.Tells.{CutTells}
-use Rattle.text_cut.specs.Feed.{Served, end-text}
+use Rattle.text_cut.specs.Feed.{Served}
 use Rattle.text_cut.specs.declared.Step.{Step}
 use Rattle.text_cut.specs.declared.Step.the-variants.{Whole, Broken, Pending}
 use Rattle.text_cut.proofs.Serves.{served-none, served-whole, served-broken, served-pending, served-then}
@@ -122,13 +122,3 @@ module _ {k s d : List ℕ} {g r : Going} {k' d' : List ℕ} (x : Passes k s d g
       go (inr m) e = m
       go (inl e) (inl f) = omega arith
       go (inl e) (inr f) = absurd (omega arith)
-
--- ---- the input's end
-pub end-none : (d : List ℕ) (n : ℕ) → n ≡ 0 → Put d 0 (end-text n) 0 d
-unfolding end-text
-end-none d n e = subst (λ z. Put d 0 (end-text z) 0 d) (sym e) (placed-none (length d) d 0)
-
-pub end-some : {d : List ℕ} (n : ℕ) {r : ℕ} {d' : List ℕ} → n ≢ 0 → Put d 0 (refused-text 12) r d' → Put d 0 (end-text n) r d'
-unfolding end-text
-end-some zero h p = absurd (h refl)
-end-some (suc n) h p = p

@@ -2,7 +2,7 @@
 --   read-as      what a line that reads left in the slices; lent-G, lent-H: its lists are within them
 --   told-read    the answer to a line that reads
 --   told-not     the answer to a line that does not
-use mathlib.Core.Path.{_≡_, sym, ap, ap₂, _∙_, subst}
+use mathlib.Core.Path.{_≡_, ap, _∙_, subst}
 use mathlib.Core.List.{List, _++_}
 use Prim.Native.Nat.{ℕ, _+_, _≤_}
 use native.Mathlib.Omega.{arith}
@@ -16,8 +16,8 @@ use Rattle.text_read.specs.declared.Parsed.the-variants.{Read, Malformed}
 use Rattle.text_read.proofs.Answers.{malformed-means}
 use Rattle.text_read.proofs.Writings.{line-is-text}
 use Rattle.unit.specs.Unit.{Makes}
-use Rattle.lister.specs.Text.{made-text}
-use Rattle.lister.specs.Listing.{budget, blank, Lists, malformed, read, Told, Answer}
+use Rattle.lister_print.specs.Text.{made-text}
+use Rattle.lister.specs.Listing.{budget, blank, malformed, read, Told, Answer}
 
 pub read-as : {line g h g' h' : List ℕ} {r : Parsed} {l : Line} → r ≡ Read l → ParseTells line g h r g' h' → ReadAs line g h (l .p) (l .ng) (l .nh) g' h'
 read-as {line} {g} {h} {g'} {h'} e t = subst (λ z. ParseTells line g h z g' h') e t

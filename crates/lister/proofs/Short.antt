@@ -1,27 +1,26 @@
 -- How long an answer is.
 --   lists-short   it has at most `room` bytes
-use mathlib.Core.Path.{_≡_, refl, sym, ap, _∙_, subst}
-use mathlib.Core.Logic.{_≢_, _⊎_, inl, inr}
+use mathlib.Core.Path.{_≡_, sym, _∙_, subst}
+use mathlib.Core.Logic.{_≢_, inl, inr}
 use mathlib.Core.List.{List, [], _∷_, _++_, map}
-use Prim.Native.Nat.{ℕ, zero, suc, _+_, _*_, _≤_, _<_}
+use Prim.Native.Nat.{ℕ, suc, _+_, _*_, _≤_, _<_}
 use native.Mathlib.Omega.{arith}
 use native.Mathlib.Decide.{ℕ-discrete}
-use lib.ListN.{length, getD, take, replicate, length-append, length-take, length-replicate}
+use lib.ListN.{length, getD, take, length-append, length-take, length-replicate}
 use lib.Seq.{getD-take}
 use Rattle.text_put.specs.Print.{comma, semicolon, newline, number-text, join, list-text, refused-text}
 use Rattle.text_read.proofs.Inverse.{text-numeral}
 use Rattle.text_read.proofs.Writings.{Small, line-is-text, reads-below}
-use Rattle.reading.specs.Row.{Size}
 use Rattle.reading.proofs.Floors.{sized}
 use Rattle.reading.proofs.Tab.{length-tab, at-tab}
 use Rattle.field.specs.Refusal.{Refusal}
 use Rattle.six.specs.Six.{cut}
 use Rattle.unit.specs.declared.Made.{Made}
 use Rattle.unit.specs.Unit.{Makes, Goes, bad, spent, narrow, made}
-use Rattle.lister.specs.Text.{trim, rows-text, unit-text, made-text}
+use Rattle.lister_print.specs.Text.{trim, rows-text, unit-text, made-text}
 use Rattle.lister.specs.Listing.{budget, blank, room, Lists, malformed, read}
-use Rattle.lister.proofs.Trims.{trim-size}
-use Rattle.lister.proofs.Prints.{made-unit, made-refused}
+use Rattle.lister_print.proofs.Trims.{trim-size}
+use Rattle.lister_print.proofs.Prints.{made-unit, made-refused}
 
 -- ---- numbers and lists
 number-short : (n : ℕ) → n < 100000 → length (number-text n) ≤ 5

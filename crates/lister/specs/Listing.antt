@@ -7,7 +7,6 @@
 --   Steps k s d g r k' d'    one step through a piece s of the input, with the pending bytes in k and the output in d: from g to r
 --   Way k s d g i r k' d'    i steps, each from a place of d that leaves `room` bytes
 --   Passes k s d g r k' d'   such steps up to the end of s, or until less than `room` bytes of d are left
---   Ends d n r d'            the answer at the input's end: refused 12 where a line is pending
 -- Theorems: proofs/Once: `lists-one`, `answer-one`, one answer to a line; `passes-one`, one outcome of the steps; `output-one`, one output
 -- to an input. proofs/Short: `lists-short`, an answer has at most `room` bytes. proofs/Paces: `passes-pace`, the lines met are answered
 -- in order, each answer whole. That they are the lines of the input, whatever the pieces: `fed-lines` and `fed-output` of crate text_cut.
@@ -18,13 +17,12 @@ use Prim.Native.Nat.{ℕ, suc, _+_, _≤_, _<_}
 use lib.ListN.{length, take, replicate}
 use Rattle.text_put.specs.Print.{Put, line-text, refused-text}
 use Rattle.text_cut.specs.Tells.{CutTells}
-use Rattle.text_cut.specs.Feed.{end-text}
 use Rattle.text_cut.specs.declared.Step.{Step}
 use Rattle.text_cut.specs.declared.Step.the-variants.{Whole, Broken, Pending}
 use Rattle.text_read.specs.Grammar.{Reads}
 use Rattle.unit.specs.declared.Made.{Made}
 use Rattle.unit.specs.Unit.{Makes}
-use Rattle.lister.specs.Text.{made-text}
+use Rattle.lister_print.specs.Text.{made-text}
 use Rattle.lister.specs.declared.Going.{Going}
 
 abbrev pub budget : ℕ
@@ -80,6 +78,3 @@ pub record Passes (k s d : List ℕ) (g r : Going) (k' d' : List ℕ) : Type 0 w
   pub steps : ℕ
   pub way : Way k s d g steps r k' d'
   pub stops : (length s ≤ r .at) ⊎ (length d < r .to + room)
-
-abbrev pub Ends : List ℕ → ℕ → ℕ → List ℕ → Type 0
-Ends d n r d' = Put d 0 (end-text n) r d'

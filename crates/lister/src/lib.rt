@@ -1,14 +1,7 @@
 // The unit lister: the answer to a line, and to the lines of the input, in whatever pieces it arrives.
-ghost use Prim.Native.Nat.{_≤_};
-ghost use mathlib.Core.List.{_∷_};
-ghost use lib.ListN.{length};
-ghost use Rattle.text_put.specs.Print.{semicolon, Put, number-text, list-text};
-ghost use Rattle.six.specs.Six.{cut};
-ghost use Rattle.lister.specs.Text.{trim, rows-text, made-text};
-ghost use Rattle.lister.specs.Listing.{Told, Answer, Steps, Passes, Ends};
+ghost use Rattle.lister.specs.Listing.{Told, Answer, Steps, Passes};
 use text_cut::Step;
 use text_read::Parsed;
-use unit::Made;
 
 // No answer is longer.
 const ROOM: usize = 20000;
@@ -20,51 +13,6 @@ pub struct Going {
     pub to: usize,
 }
 
-// A field of the answer that is a number.
-fn put_count(out: &mut [u8], at: usize, n: u64) -> usize
-    ensures { λ r. ⌜ Put (now (out .entry)) at (semicolon ∷ number-text n) r (now (out .exit)) ⌝ }
-{
-    let to = text_put::put_byte(out, at, b';');
-    text_put::put_number(out, to, n)
-}
-
-// A field of the answer that is a row of the unit.
-fn put_row(out: &mut [u8], at: usize, row: &[u16]) -> usize
-    ensures { λ r. ⌜ Put (now (out .entry)) at (semicolon ∷ list-text (trim (now (row .entry)))) r (now (out .exit)) ⌝ }
-{
-    let n = long::size(row);
-    let to = text_put::put_byte(out, at, b';');
-    text_put::put_list(out, to, row, n)
-}
-
-// The three rows of the unit, and the newline.
-fn put_rows(out: &mut [u8], at: usize, rows: &[u16]) -> usize
-    requires { ⌜ 3072 ≤ length (now rows) ⌝ }
-    ensures { λ r. ⌜ Put (now (out .entry)) at (rows-text (trim (cut 0 1024 (now (rows .entry)))) (trim (cut 1024 1024 (now (rows .entry)))) (trim (cut 2048 1024 (now (rows .entry))))) r (now (out .exit)) ⌝ }
-{
-    let a = put_row(out, at, &rows[0..1024]);
-    let b = put_row(out, a, &rows[1024..2048]);
-    let c = put_row(out, b, &rows[2048..3072]);
-    text_put::put_byte(out, c, b'\n')
-}
-
-// What `unit` answered, printed behind the line.
-fn put_made(out: &mut [u8], at: usize, line: &[u8], m: Made, rows: &[u16]) -> usize
-    requires { ⌜ 3072 ≤ length (now rows) ⌝ }
-    ensures { λ r. ⌜ Put (now (out .entry)) at (made-text (now (line .entry)) m (now (rows .entry))) r (now (out .exit)) ⌝ }
-{
-    let refusal = m.refusal;
-    if refusal != 0 {
-        return text_put::put_refused(out, at, refusal as u64);
-    }
-    let period = m.period;
-    let regulator = m.regulator;
-    let a = text_put::put_bytes(out, at, line);
-    let b = put_count(out, a, period.0);
-    let c = put_count(out, b, regulator.0);
-    put_rows(out, c, rows)
-}
-
 // The answer to a line that reads as p, G, H.
 fn field_answer(line: &[u8], p: u64, g: &[u64], h: &[u64], out: &mut [u8], at: usize) -> usize
     ensures { λ r.
@@ -73,7 +21,7 @@ fn field_answer(line: &[u8], p: u64, g: &[u64], h: &[u64], out: &mut [u8], at: u
     let mut rows = [0u16; 6144];
     let mut scratch = [0u16; 6144];
     let m = unit::unit(p, g, h, 1000, &mut rows, &mut scratch);
-    put_made(out, at, line, m, &rows)
+    lister_print::put_made(out, at, line, m, &rows)
 }
 
 // The answer to a line without its newline, at a place of `out`; returns the place after it.
@@ -144,14 +92,4 @@ pub fn pass(kept: &mut [u8], s: &[u8], out: &mut [u8], from: Going) -> Going
         g = t;
     }
     g
-}
-
-// What is still to be said at the input's end, where n bytes are pending: a line without its newline is refused.
-pub fn finish(out: &mut [u8], n: usize) -> usize
-    ensures { λ r. ⌜ Ends (now (out .entry)) n r (now (out .exit)) ⌝ }
-{
-    if n == 0 {
-        return 0;
-    }
-    text_put::put_refused(out, 0, 12)
 }

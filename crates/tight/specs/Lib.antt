@@ -36,7 +36,8 @@
 --   text_put      put_byte, put_bytes, put_number, put_list, put_refused: placed-unique (text_put/proofs/Puts)
 --   text_cut      cut: cut-unique (text_cut/proofs/Steps)
 --   text_read     number, list_size, parse: number-unique, size-unique, parse-unique (text_read/proofs/Answers)
---   lister        answer, pass, finish: answer-one, passes-one (lister/proofs/Once), placed-unique
+--   lister_print  put_made, finish: placed-unique (text_put/proofs/Puts)
+--   lister        answer, pass: answer-one, passes-one (lister/proofs/Once)
 --   capi          zaminuk_refusal, zaminuk_series, zaminuk_check: refusal-one, answer-one, checks-one as above; zaminuk_order, zaminuk_step,
 --                 zaminuk_walk, zaminuk_from_order, zaminuk_unit: order-tells-one, step-tells-one, walk-tells-one, from-order-tells-one,
 --                 unit-tells-one; zaminuk_book_check, _attest, _write, _add, zaminuk_body_list: check-says-one, attest-says-one,

@@ -68,7 +68,7 @@ fn run(out: &mut [u8])
     let mut kept = [0u8; 255];
     let mut buf = io::large_buffer();
     let n = turns(&mut kept, &mut buf, out);
-    let to = lister::finish(out, n);
+    let to = lister_print::finish(out, n);
     io::write_all(STDOUT_FILENO, &out[..to]);
 }
 

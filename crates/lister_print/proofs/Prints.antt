@@ -1,18 +1,22 @@
 -- The parts of an answer, put one after the other.
-use mathlib.Core.Path.{_≡_, refl, sym, ap, _∙_, subst}
+--   row-put, rows-put         a row, and the three rows, from what is lent
+--   made-unit, made-refused   what is printed of what `unit` answers; unit-put, refusal-put: that it is put
+--   end-none, end-some        what is printed at the input's end
+use mathlib.Core.Path.{_≡_, refl, sym, ap, subst}
 use mathlib.Core.Logic.{_≢_}
 use mathlib.Core.List.{List, [], _∷_, _++_}
-use Prim.Native.Nat.{ℕ, zero, suc, _+_, _-_, _≤_}
+use Prim.Native.Nat.{ℕ, zero, suc, _-_, _≤_}
 use native.Mathlib.Omega.{arith}
-use lib.ListN.{length, take, drop}
+use lib.ListN.{length, take}
 use Rattle.text_put.specs.Print.{semicolon, newline, Put, number-text, list-text, refused-text}
-use Rattle.text_put.proofs.Puts.{put-then}
+use Rattle.text_put.proofs.Puts.{placed-none, put-then}
+use Rattle.text_cut.specs.Feed.{end-text}
 use Rattle.reading.specs.Row.{Size}
 use Rattle.six.specs.Six.{cut}
 use Rattle.six.proofs.Parts.{mid, mid-cut}
 use Rattle.unit.specs.declared.Made.{Made}
-use Rattle.lister.specs.Text.{trim, rows-text, unit-text, told, made-text}
-use Rattle.lister.proofs.Trims.{trim-size}
+use Rattle.lister_print.specs.Text.{trim, rows-text, unit-text, told, made-text}
+use Rattle.lister_print.proofs.Trims.{trim-size}
 
 pub row-put : (l : List ℕ) (n : ℕ) {d : List ℕ} {at r : ℕ} {d' : List ℕ} {q : ℕ} {e : List ℕ} → Size l n
     → Put d at (semicolon ∷ []) r d' → Put d' r (list-text (take n l)) q e → Put d at (semicolon ∷ list-text (trim l)) q e
@@ -73,3 +77,13 @@ module _ (s : List ℕ) (m : Made) (rows d : List ℕ) (at r₁ : ℕ) (d₁ : L
       let x = put-then d at s r₁ d₁ l r₂ d₂ a b in
       let y = put-then d at (s ++ l) r₂ d₂ R r₃ d₃ x c in
       subst (λ (t : List ℕ). Put d at t r₄ d₄) (sym (made-unit s m rows z)) (put-then d at (s ++ l ++ R) r₃ d₃ E r₄ d₄ y e)
+
+-- ---- the input's end
+pub end-none : (d : List ℕ) (n : ℕ) → n ≡ 0 → Put d 0 (end-text n) 0 d
+unfolding end-text
+end-none d n e = subst (λ z. Put d 0 (end-text z) 0 d) (sym e) (placed-none (length d) d 0)
+
+pub end-some : {d : List ℕ} (n : ℕ) {r : ℕ} {d' : List ℕ} → n ≢ 0 → Put d 0 (refused-text 12) r d' → Put d 0 (end-text n) r d'
+unfolding end-text
+end-some zero h p = absurd (h refl)
+end-some (suc n) h p = p

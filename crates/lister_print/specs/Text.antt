@@ -4,10 +4,12 @@
 --   unit-text s l R E0 E1 E2      s, the period l, the regulator R and the rows of the unit, with semicolons
 --   told n t                      refused n, or the text t where n is 0
 --   made-text s m rows            what is printed of what `unit` answers: the refusal, or the unit, behind the text s of the field
--- Laws: proofs/Trims, proofs/Prints.
+--   Ends d n r d'                 the answer at the input's end is put into d: refused 12 where a line is pending
+-- Laws: proofs/Trims, proofs/Prints. Two outcomes of `put_made`, and of `finish`, are equal: `placed-unique` of crate text_put.
 use mathlib.Core.List.{List, [], _∷_, _++_}
 use Prim.Native.Nat.{ℕ, zero, suc}
-use Rattle.text_put.specs.Print.{semicolon, newline, number-text, list-text, refused-text}
+use Rattle.text_put.specs.Print.{semicolon, newline, number-text, list-text, refused-text, Put}
+use Rattle.text_cut.specs.Feed.{end-text}
 use Rattle.six.specs.Six.{cut}
 use Rattle.unit.specs.declared.Made.{Made}
 
@@ -39,3 +41,6 @@ told (suc n) t = refused-text (suc n)
 unfoldable pub made-text : List ℕ → Made → List ℕ → List ℕ
 made-text s m rows =
     told (m .refusal) (unit-text s (m .period .0) (m .regulator .0) (trim (cut 0 width rows)) (trim (cut 1024 width rows)) (trim (cut 2048 width rows)))
+
+abbrev pub Ends : List ℕ → ℕ → ℕ → List ℕ → Type 0
+Ends d n r d' = Put d 0 (end-text n) r d'

@@ -1,8 +1,8 @@
--- `lister::put_count` meets its contract.
+-- `lister_print::put_count` meets its contract.
 use Rattle.text_put.proofs.Puts.{put-then}
 use borrow.Author.Needs.{needs}
-use Rattle.lister.proofs.put_count.Statement.{statement}
-use Rattle.lister.proofs.put_count.Tie as tie
+use Rattle.lister_print.proofs.put_count.Statement.{statement}
+use Rattle.lister_print.proofs.put_count.Tie as tie
 
 put-byte-requires : tie.Need-put-byte-requires
 put-byte-requires c κs = search needs

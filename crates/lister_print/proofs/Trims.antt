@@ -13,7 +13,7 @@ use Rattle.reading.specs.Reading.{Reading}
 use Rattle.reading.specs.Row.{Size, row}
 use Rattle.reading.proofs.Floors.{sized}
 use Rattle.six.proofs.Parts.{row-mid}
-use Rattle.lister.specs.Text.{ahead, trim}
+use Rattle.lister_print.specs.Text.{ahead, trim}
 
 ahead-top : (x : ℕ) (l : List ℕ) → x ≢ 0 → ahead x l ≡ x ∷ l
 unfolding ahead
