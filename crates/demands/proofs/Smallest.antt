@@ -1,20 +1,14 @@
 -- Request E8 holds: crate fundamental, of the setting of an accepted field and of what the functions answer.
 use mathlib.Core.Path.{_≡_, sym, _∙_, subst}
 use mathlib.Core.List.{List}
-use Prim.Native.Nat.{ℕ, suc, _+_, _*_, _≤_}
+use Prim.Native.Nat.{ℕ, _+_, _*_}
 use native.Mathlib.Omega.{arith}
 use lib.ListN.{length}
 use Rattle.field.specs.Refusal.{Accepted}
-use Rattle.ideals.specs.Setting.{Setting}
-use Rattle.ideals.specs.Ideal.{Basis}
-use Rattle.ideals.specs.Next.{Start}
-use Rattle.chain.specs.Chain.{Chain, Open}
-use Rattle.chain.proofs.Walk.{chain-room}
-use Rattle.chain.proofs.Exists.{order-exists, chain-exists}
+use Rattle.chain.proofs.Exists.{order-exists}
 use Rattle.chain.proofs.Unit.{unit-unique}
-use Rattle.fundamental.specs.Smallest.{NoneBetween, LeastDegree}
 use Rattle.fundamental.proofs.Complete.{completeness}
-use Rattle.fundamental.proofs.Units.{unit-closes, none-below}
+use Rattle.fundamental.proofs.Units.{unit-closes, none-below, none-within}
 use Rattle.fundamental.proofs.Fundamental.{unit-fundamental, unit-smallest, closing-least}
 use Rattle.fundamental.proofs.Agree.{least-one, smallest-one, constant-norm}
 use Rattle.record.specs.Record.{setting, basisOf}
@@ -30,9 +24,6 @@ use Rattle.unit.specs.Unit.{Makes, Success, six}
 use Rattle.demands.specs.Smallest.{SmallestRows, SmallestUnit}
 use Rattle.demands.proofs.Cases.{walk-closed, walk-spent, told-closed, told-spent, told-accepted, unit-made, unit-spent, unit-narrow, unit-accepted, success-unit}
 
-halves : (a b : ℕ) → a + a ≡ b + b → a ≡ b
-halves a b e = omega arith
-
 -- ---- what the functions answer
 unit-rows : (p n : ℕ) (G H rows scratch rows′ scratch′ : List ℕ) (m : Made) → Makes p G H n rows scratch m rows′ scratch′ → m .refusal ≡ 0 → SmallestRows p G H m rows′
 unit-rows p n G H rows scratch rows′ scratch′ m h z =
@@ -44,13 +35,6 @@ unit-rows p n G H rows scratch rows′ scratch′ m h z =
       fundamental = λ A. let (B₀, st) = order-exists (setting A) in unit-fundamental (setting A) (success-unit p G H rows′ m r A B₀ st);
     }
 
--- an open chain of n steps has a degree sum of n or more
-open-none : (S : Setting) (B₀ : Basis S) → Start S B₀ → (n : ℕ) → Open S B₀ n → NoneBetween S (suc n)
-open-none S B₀ st n free η inv p q h lo hi =
-    let (m, B, c) = chain-exists S B₀ (st .good) n in
-    let (l, k) = chain-room S B₀ (st .good) c in
-    none-below S B₀ st c free η inv p q h lo (omega arith)
-
 -- ---- two walks that close
 told-agree : (p n n′ : ℕ) (G H : List ℕ) (o o′ : Told) → walks.FromOrder p G H n o → o .refusal ≡ 0 → walks.FromOrder p G H n′ o′ → o′ .refusal ≡ 0 → o ≡ o′
 told-agree p n n′ G H o o′ h z h′ z′ =
@@ -60,7 +44,7 @@ told-agree p n n′ G H o o′ h z h′ z′ =
     let same : walk.Closes p G H B (o′ .period .0) (o′ .regulator .0 + o′ .regulator .0) (c′ .last)
     = subst (λ b. walk.Closes p G H b (o′ .period .0) (o′ .regulator .0 + o′ .regulator .0) (c′ .last)) (first-one A B′ B f′ f) (c′ .closes) in
     let (x, y, e) = closes-one p G H A B (f .is-record) (c .closes) same in
-    let r = halves (o .regulator .0) (o′ .regulator .0) y in
+    let r : o .regulator .0 ≡ o′ .regulator .0 = omega (arith, y) in
     λ i. record { refusal = (z ∙ sym z′) i; period = record { 0 = x i }; regulator = record { 0 = r i } }
 
 module _ (p n n′ : ℕ) (G H rows scratch r s rows′ scratch′ r′ s′ : List ℕ) (m m′ : Made) where
@@ -70,7 +54,7 @@ module _ (p n n′ : ℕ) (G H rows scratch r s rows′ scratch′ r′ s′ : L
   made-agree x x′ A₀ =
       let (B₀, st) = order-exists (setting A₀) in
       let (el, ed, eE, eF) = unit-unique (setting A₀) B₀ st (success-unit p G H r m x A₀ B₀ st) (success-unit p G H r′ m′ x′ A₀ B₀ st) in
-      let er = halves (m .regulator .0) (m′ .regulator .0) ed in (
+      let er : m .regulator .0 ≡ m′ .regulator .0 = omega (arith, ed) in (
         λ i. record { refusal = (x .number ∙ sym (x′ .number)) i; period = record { 0 = el i }; regulator = record { 0 = er i } },
         λ A. let (B₁, st₁) = order-exists (setting A) in let (a, b, e, f) = unit-unique (setting A) B₁ st₁ (success-unit p G H r m x A B₁ st₁) (success-unit p G H r′ m′ x′ A B₁ st₁) in (e, f),
       )
@@ -94,9 +78,9 @@ smallest-unit = record {
   unit-rows = λ m h z. unit-rows _ _ _ _ _ _ _ _ m h z;
   regulator = λ o h z A. let (B, f, c) = told-closed _ _ _ _ o h z in closing-least (setting A) (f .start A) (c .closes .closing A);
   walk-sum = λ w f h z A. closing-least (setting A) (f .start A) (walk-closed _ _ _ _ _ w h z .closes .closing A);
-  regulator-open = λ o h z A. let (B, f, g) = told-spent _ _ _ _ o h z in open-none (setting A) (basisOf A B) (f .start A) _ (g A);
+  regulator-open = λ o h z A. let (B, f, g) = told-spent _ _ _ _ o h z in none-within (setting A) (basisOf A B) (f .start A) _ (g A);
   walk-open = λ w f h z A. let s = walk-spent _ _ _ _ _ w h z in none-below (setting A) _ (f .start A) (s .reaches .chain A) (s .none A);
-  unit-open = λ m h z A. let (B₀, st) = order-exists (setting A) in open-none (setting A) B₀ st _ (unit-spent _ _ _ _ _ _ _ _ m h z A B₀ st);
+  unit-open = λ m h z A. let (B₀, st) = order-exists (setting A) in none-within (setting A) B₀ st _ (unit-spent _ _ _ _ _ _ _ _ m h z A B₀ st);
   unit-narrow = λ m h z c e A.
       let (c′, l, d, t, f, g) = unit-narrow _ _ _ _ _ _ _ _ m h z in
       let (B₀, st) = order-exists (setting A) in

@@ -5,7 +5,8 @@
 --   unit-constant       a unit of degree 0 is a constant
 --   same-degree         two units of one degree differ by a constant
 --   unit-closes         where there is a unit of positive degree, the chain from the order closes, with no larger degree sum
---   none-below          an open chain: no unit has a degree from 1 to the degree sum, nor from 1 to the number of steps
+--   none-below          an open chain: no unit has a degree from 1 to its degree sum
+--   none-within         nor from 1 to a number of steps of which none closes
 use mathlib.Core.Path.{_≡_, refl, sym, ap, _∙_}
 use mathlib.Core.List.{[], _∷_}
 use mathlib.Core.Logic.{_⊎_, inl, inr}
@@ -28,7 +29,7 @@ use Rattle.ideals.proofs.Norm.{ev-deg}
 use Rattle.chain.specs.Chain.{Chain, here, tops, bottoms, Open, Closing}
 use Rattle.chain.specs.Unit.{Invertible}
 use Rattle.chain.proofs.Walk.{same-chain, same-products, prefix, chain-room, chain-rise, has-step, first-closing}
-use Rattle.chain.proofs.Exists.{order-exists}
+use Rattle.chain.proofs.Exists.{order-exists, chain-exists}
 use Rattle.chain.proofs.Unit.{norm-unit, cof-inverse, inverse-has}
 use Rattle.fundamental.specs.Complete.{Reached}
 use Rattle.fundamental.specs.Smallest.{NoneBetween}
@@ -76,6 +77,13 @@ module _ (S : Setting) where
           | yes k ↦ free (r .steps) (p -ⁿ q) B₀ (has-step S B₀ (st .good) (r .chain) (omega arith)) k (r .chain) (st .U-one)
           | no k ↦ let z : n < p -ⁿ q = chain-rise S B₀ (st .good) c (r .chain) (omega arith) in absurd (omega arith)
         ]
+
+    -- each step adds 1 or more to the degree sum
+    pub none-within : (s : ℕ) → Open S B₀ s → NoneBetween S (suc s)
+    none-within s free η inv p q h lo hi =
+        let (n, B, c) = chain-exists S B₀ (st .good) s in
+        let (l, k) = chain-room S B₀ (st .good) c in
+        none-below c free η inv p q h lo (omega arith)
 
   -- ---- units of one degree
   pub unit-constant : (η : O S .El) → Invertible S η → Has 𝓥 (ev S η) 0 → (c : P S) × IsUnit 𝓥 c × (η ≡ sc S c)

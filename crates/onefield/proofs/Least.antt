@@ -1,5 +1,5 @@
 -- Two pairs of one field have one least degree (request E8).
---   turned        a correspondence, read the other way
+--   reversed      a correspondence, read the other way
 --   unit-carry    units go to units
 --   least-carry   so the least positive degree of a unit stays
 --   least-agree   for two accepted pairs of one field
@@ -17,8 +17,8 @@ use Rattle.onefield.specs.OneField.{OneField}
 use Rattle.onefield.specs.Corresponds.{Corresponds}
 use Rattle.onefield.proofs.Corresponds.{corresponds}
 
-abbrev turned : (S S′ : Setting) → Corresponds S S′ → Corresponds S′ S
-turned S S′ c = record {
+abbrev reversed : (S S′ : Setting) → Corresponds S S′ → Corresponds S′ S
+reversed S S′ c = record {
   to = c .from;
   from = c .to;
   to-from = c .from-to;
@@ -36,7 +36,7 @@ unit-carry S S′ c η (θ, e) = (c .to θ, sym (c .to-mul η θ) ∙ ap (c .to)
 
 module _ (S S′ : Setting) (c : Corresponds S S′) where
   none-carry : (d : ℕ) → NoneBetween S d → NoneBetween S′ d
-  none-carry d none η inv p q h lo hi = none (c .from η) (unit-carry S′ S (turned S S′ c) η inv) p q (c .from-deg η h) lo hi
+  none-carry d none η inv p q h lo hi = none (c .from η) (unit-carry S′ S (reversed S S′ c) η inv) p q (c .from-deg η h) lo hi
 
   pub least-carry : {d : ℕ} → LeastDegree S d → LeastDegree S′ d
   least-carry {d} (E, k) = (
