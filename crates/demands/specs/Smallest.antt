@@ -22,7 +22,7 @@ use Rattle.chain.specs.Unit.{Invertible, UnitOf}
 use Rattle.fundamental.specs.Complete.{Completeness}
 use Rattle.fundamental.specs.Smallest.{NoneBetween, LeastDegree, Smallest, Fundamental}
 use Rattle.record.specs.Record.{setting}
-use Rattle.onefield.specs.OneField.{OneField}
+use Rattle.pairs.specs.OneField.{OneField}
 use Rattle.bases.specs.Answer.{IsFirst}
 use Rattle.walk.specs.declared.Walked.{Walked}
 use Rattle.walk.specs.Walk.{Walks}

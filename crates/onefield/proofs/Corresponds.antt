@@ -12,7 +12,7 @@ use Rattle.reading.specs.Made.{reading}
 use Rattle.field.specs.Refusal.{Accepted}
 use Rattle.cubicfield.proofs.Root as root
 use Rattle.record.specs.Record.{setting}
-use Rattle.onefield.specs.OneField.{OneField}
+use Rattle.pairs.specs.OneField.{OneField}
 use Rattle.onefield.specs.Corresponds.{Corresponds}
 use Rattle.onefield.specs.Side.{Side, at}
 use Rattle.onefield.specs.Carries.{Carries}

@@ -13,7 +13,7 @@ use Rattle.chain.specs.Unit.{Invertible}
 use Rattle.fundamental.specs.Smallest.{NoneBetween, LeastDegree}
 use Rattle.fundamental.proofs.Agree.{least-one}
 use Rattle.record.specs.Record.{setting}
-use Rattle.onefield.specs.OneField.{OneField}
+use Rattle.pairs.specs.OneField.{OneField}
 use Rattle.onefield.specs.Corresponds.{Corresponds}
 use Rattle.onefield.proofs.Corresponds.{corresponds}
 

@@ -11,12 +11,12 @@ use Rattle.valued.specs.Val.{Valued}
 use Rattle.valued.specs.Polynomial.{polys, Poly, IsUnit}
 use Rattle.reading.specs.Made.{reading}
 use Rattle.field.specs.Refusal.{Accepted}
-use Rattle.onefield.specs.OneField.{OneField}
+use Rattle.pairs.specs.OneField.{OneField}
 use Rattle.onefield.specs.Side.{Side, side}
 use Rattle.onefield.specs.Carries.{Carries}
 use Rattle.onefield.proofs.Inverse.{after}
 use Rattle.onefield.proofs.Pairs.{exchanged, swap, scale, scaled}
-use Rattle.onefield.proofs.Lists.{agree-poly}
+use Rattle.pairs.proofs.Lists.{agree-poly}
 
 module _ (𝓥 : Valued) (s s′ : Side 𝓥) (α β : Poly 𝓥) (uα : IsUnit 𝓥 α) (uβ : IsUnit 𝓥 β) where
   open Ops (polys 𝓥 .ops) using (mul as _⊠_)

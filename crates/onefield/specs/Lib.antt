@@ -1,4 +1,3 @@
-pub mod OneField
 pub mod Corresponds
 pub mod Side
 pub mod Carries

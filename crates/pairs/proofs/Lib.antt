@@ -1,0 +1,4 @@
+pub mod Lists
+pub mod Relation
+pub mod Factors
+pub mod Example

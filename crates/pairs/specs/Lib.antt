@@ -1,0 +1,3 @@
+pub mod OneField
+pub mod Rows
+pub mod Answer
