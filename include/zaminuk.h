@@ -46,6 +46,17 @@ uint32_t zaminuk_from_order(uint64_t p, const uint64_t *g, size_t gn, const uint
 uint32_t zaminuk_unit(uint64_t p, const uint64_t *g, size_t gn, const uint64_t *h, size_t hn, uint64_t budget,
                       uint16_t *rows, size_t rn, uint16_t *scratch, size_t sn, uint64_t *period, uint64_t *regulator);
 
+/* Whether the pairs G, H and G2, H2 over one p are of one field, that is, agree after all lists are made monic, in either order: same is
+   1 or 0. Refusals 1 to 8 of the first pair, then of the second; same is 0 then. */
+uint32_t zaminuk_one_field(uint64_t p, const uint64_t *g, size_t gn, const uint64_t *h, size_t hn,
+                           const uint64_t *g2, size_t g2n, const uint64_t *h2, size_t h2n, uint64_t *same);
+
+/* The rows of a unit and its inverse for G, H, as zaminuk_unit writes them, become those for G2, H2, a pair of the same field, in place:
+   E0 and F0 stay, the others take constant factors, and change places where the pair is exchanged. Refusals 1 to 8 of the first pair,
+   then of the second, then 14 where the pairs are not of one field or rn is not 6c with c at most 4,096. */
+uint32_t zaminuk_transfer(uint64_t p, const uint64_t *g, size_t gn, const uint64_t *h, size_t hn,
+                          const uint64_t *g2, size_t g2n, const uint64_t *h2, size_t h2n, uint16_t *rows, size_t rn);
+
 /* Of a book: said[0] the refusal; with 13 said[1] the reason (1 mark, 2 contents, 3 body rule, 4 field, 5 twice), said[2] its
    entry, said[3] the field's refusal or the earlier entry; said[4] the result, 0 with a refusal. */
 void zaminuk_book_check(const uint8_t *book, size_t n, uint64_t said[5]);

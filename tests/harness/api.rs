@@ -12,6 +12,8 @@ mod c {
         pub fn zaminuk_walk(p: u64, g: *const u64, gn: usize, h: *const u64, hn: usize, budget: u64, rows: *mut u16, steps: *mut u64, sum: *mut u64) -> u32;
         pub fn zaminuk_from_order(p: u64, g: *const u64, gn: usize, h: *const u64, hn: usize, budget: u64, period: *mut u64, regulator: *mut u64) -> u32;
         pub fn zaminuk_unit(p: u64, g: *const u64, gn: usize, h: *const u64, hn: usize, budget: u64, rows: *mut u16, rn: usize, scratch: *mut u16, sn: usize, period: *mut u64, regulator: *mut u64) -> u32;
+        pub fn zaminuk_one_field(p: u64, g: *const u64, gn: usize, h: *const u64, hn: usize, g2: *const u64, g2n: usize, h2: *const u64, h2n: usize, same: *mut u64) -> u32;
+        pub fn zaminuk_transfer(p: u64, g: *const u64, gn: usize, h: *const u64, hn: usize, g2: *const u64, g2n: usize, h2: *const u64, h2n: usize, rows: *mut u16, rn: usize) -> u32;
         pub fn zaminuk_book_check(book: *const u8, n: usize, said: *mut u64);
         pub fn zaminuk_book_bodies(book: *const u8, n: usize) -> usize;
         pub fn zaminuk_book_ask(book: *const u8, n: usize, i: usize, start: *mut usize, size: *mut usize, said: *mut u64);
@@ -107,6 +109,20 @@ impl Field {
         let (mut l, mut r) = (u64::MAX, u64::MAX);
         let n = unsafe { c::zaminuk_unit(self.p, self.g.as_ptr(), self.g.len(), self.h.as_ptr(), self.h.len(), budget, rows.as_mut_ptr(), rows.len(), scratch.as_mut_ptr(), scratch.len(), &mut l, &mut r) };
         (n, l, r)
+    }
+
+    /// Whether this pair and another over the same p are of one field: refusal, 1 for yes.
+    #[rustfmt::skip]
+    pub fn one_field(&self, g: &[u64], h: &[u64]) -> (u32, u64) {
+        let mut same = u64::MAX;
+        let n = unsafe { c::zaminuk_one_field(self.p, self.g.as_ptr(), self.g.len(), self.h.as_ptr(), self.h.len(), g.as_ptr(), g.len(), h.as_ptr(), h.len(), &mut same) };
+        (n, same)
+    }
+
+    /// The six rows of a unit of this pair, carried over to another pair of the same field in place; 0 or the refusal.
+    #[rustfmt::skip]
+    pub fn transfer(&self, g: &[u64], h: &[u64], rows: &mut [u16]) -> u32 {
+        unsafe { c::zaminuk_transfer(self.p, self.g.as_ptr(), self.g.len(), self.h.as_ptr(), self.h.len(), g.as_ptr(), g.len(), h.as_ptr(), h.len(), rows.as_mut_ptr(), rows.len()) }
     }
 
     /// Writes a body of this field.

@@ -27,7 +27,7 @@ fn trim(mut a: Vec<u64>) -> Vec<u64> {
     a
 }
 
-fn inverse(p: u64, a: u64) -> u64 {
+pub fn inverse(p: u64, a: u64) -> u64 {
     (1..p).find(|x| a * x % p == 1).expect("an inverse")
 }
 
@@ -134,7 +134,7 @@ fn some_list(n: &mut Numbers, p: u64, longest: u64) -> Vec<u64> {
     a
 }
 
-const PRIMES: [u64; 12] = [5, 5, 11, 17, 23, 29, 41, 47, 53, 59, 71, 83];
+pub const PRIMES: [u64; 12] = [5, 5, 11, 17, 23, 29, 41, 47, 53, 59, 71, 83];
 
 pub fn random(seed: u64, count: usize) -> (usize, usize) {
     let mut n = Numbers::new(seed);

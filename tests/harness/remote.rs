@@ -128,39 +128,49 @@ pub unsafe fn zaminuk_unit(p: u64, g: *const u64, gn: usize, h: *const u64, hn: 
     call(7, &mut [Number(p), lent(g, gn), count(gn), lent(h, hn), count(hn), Number(budget), given(rows, rn), count(rn), given(scratch, sn), count(sn), given(period, 1), given(regulator, 1)]) as u32
 }
 
+#[rustfmt::skip]
+pub unsafe fn zaminuk_one_field(p: u64, g: *const u64, gn: usize, h: *const u64, hn: usize, g2: *const u64, g2n: usize, h2: *const u64, h2n: usize, same: *mut u64) -> u32 {
+    call(8, &mut [Number(p), lent(g, gn), count(gn), lent(h, hn), count(hn), lent(g2, g2n), count(g2n), lent(h2, h2n), count(h2n), given(same, 1)]) as u32
+}
+
+#[rustfmt::skip]
+pub unsafe fn zaminuk_transfer(p: u64, g: *const u64, gn: usize, h: *const u64, hn: usize, g2: *const u64, g2n: usize, h2: *const u64, h2n: usize, rows: *mut u16, rn: usize) -> u32 {
+    call(9, &mut [Number(p), lent(g, gn), count(gn), lent(h, hn), count(hn), lent(g2, g2n), count(g2n), lent(h2, h2n), count(h2n), given(rows, rn), count(rn)]) as u32
+}
+
 pub unsafe fn zaminuk_book_check(book: *const u8, n: usize, said: *mut u64) {
-    call(8, &mut [lent(book, n), count(n), given(said, 5)]);
+    call(10, &mut [lent(book, n), count(n), given(said, 5)]);
 }
 
 pub unsafe fn zaminuk_book_bodies(book: *const u8, n: usize) -> usize {
-    call(9, &mut [lent(book, n), count(n)]) as usize
+    call(11, &mut [lent(book, n), count(n)]) as usize
 }
 
 pub unsafe fn zaminuk_book_ask(book: *const u8, n: usize, i: usize, start: *mut usize, size: *mut usize, said: *mut u64) {
-    call(10, &mut [lent(book, n), count(n), count(i), given(start, 1), given(size, 1), given(said, 5)]);
+    call(12, &mut [lent(book, n), count(n), count(i), given(start, 1), given(size, 1), given(said, 5)]);
 }
 
 pub unsafe fn zaminuk_book_attest(book: *const u8, n: usize, i: usize, said: *mut u64) {
-    call(11, &mut [lent(book, n), count(n), count(i), given(said, 5)]);
+    call(13, &mut [lent(book, n), count(n), count(i), given(said, 5)]);
 }
 
 #[rustfmt::skip]
 pub unsafe fn zaminuk_book_write(p: u64, g: *const u64, gn: usize, h: *const u64, hn: usize, period: u64, a: *const u64, an: usize, b: *const u64, bn: usize, c: *const u64, cn: usize, out: *mut u8, n: usize, said: *mut u64) {
-    call(12, &mut [Number(p), lent(g, gn), count(gn), lent(h, hn), count(hn), Number(period), lent(a, an), count(an), lent(b, bn), count(bn), lent(c, cn), count(cn), given(out, n), count(n), given(said, 5)]);
+    call(14, &mut [Number(p), lent(g, gn), count(gn), lent(h, hn), count(hn), Number(period), lent(a, an), count(an), lent(b, bn), count(bn), lent(c, cn), count(cn), given(out, n), count(n), given(said, 5)]);
 }
 
 pub unsafe fn zaminuk_book_add(out: *mut u8, n: usize, length: usize, body: *const u8, bn: usize, said: *mut u64) {
-    call(13, &mut [given(out, n), count(n), count(length), lent(body, bn), count(bn), given(said, 5)]);
+    call(15, &mut [given(out, n), count(n), count(length), lent(body, bn), count(bn), given(said, 5)]);
 }
 
 pub unsafe fn zaminuk_body_prime(body: *const u8, n: usize) -> u64 {
-    call(14, &mut [lent(body, n), count(n)])
+    call(16, &mut [lent(body, n), count(n)])
 }
 
 pub unsafe fn zaminuk_body_period(body: *const u8, n: usize) -> u64 {
-    call(15, &mut [lent(body, n), count(n)])
+    call(17, &mut [lent(body, n), count(n)])
 }
 
 pub unsafe fn zaminuk_body_list(body: *const u8, n: usize, k: usize, out: *mut u64, on: usize, said: *mut u64) {
-    call(16, &mut [lent(body, n), count(n), count(k), given(out, on), count(on), given(said, 5)]);
+    call(18, &mut [lent(body, n), count(n), count(k), given(out, on), count(on), given(said, 5)]);
 }

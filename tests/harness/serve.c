@@ -15,14 +15,14 @@ long write(int to, const void *from, word n);
    leaves the rest of the word undefined. */
 typedef word entry(word, word, word, word, word, word, word, word, word, word, word, word, word, word, word, word);
 entry zaminuk_refusal, zaminuk_series, zaminuk_order, zaminuk_check, zaminuk_step, zaminuk_walk, zaminuk_from_order, zaminuk_unit,
-    zaminuk_book_check, zaminuk_book_bodies, zaminuk_book_ask, zaminuk_book_attest, zaminuk_book_write, zaminuk_book_add,
-    zaminuk_body_prime, zaminuk_body_period, zaminuk_body_list;
+    zaminuk_one_field, zaminuk_transfer, zaminuk_book_check, zaminuk_book_bodies, zaminuk_book_ask, zaminuk_book_attest,
+    zaminuk_book_write, zaminuk_book_add, zaminuk_body_prime, zaminuk_body_period, zaminuk_body_list;
 
 /* As in zaminuk.h. */
 static entry *const entries[] = {
     zaminuk_refusal, zaminuk_series, zaminuk_order, zaminuk_check, zaminuk_step, zaminuk_walk, zaminuk_from_order, zaminuk_unit,
-    zaminuk_book_check, zaminuk_book_bodies, zaminuk_book_ask, zaminuk_book_attest, zaminuk_book_write, zaminuk_book_add,
-    zaminuk_body_prime, zaminuk_body_period, zaminuk_body_list,
+    zaminuk_one_field, zaminuk_transfer, zaminuk_book_check, zaminuk_book_bodies, zaminuk_book_ask, zaminuk_book_attest,
+    zaminuk_book_write, zaminuk_book_add, zaminuk_body_prime, zaminuk_body_period, zaminuk_body_list,
 };
 
 enum { ENTRIES = sizeof entries / sizeof *entries, MOST = 16, ROOM = 1 << 21 };

@@ -1,6 +1,6 @@
 // Vector files by name. A file whose kind is not known is reported and skipped.
 use crate::api::{Field, Record};
-use crate::{books, lister, units};
+use crate::{books, lister, pairs, units};
 use std::fs;
 
 /// What a case says went wrong, or nothing.
@@ -276,7 +276,9 @@ pub fn folder(dir: &str) -> (usize, usize) {
             "unit-calls.txt" => lines(&path, units::call_case),
             "unit-lengths.txt" => lines(&path, units::lengths_case),
             "periods.txt" => lines(&path, period_case),
-            "books.txt" => books::file(&path),
+            "pairs.txt" => lines(&path, pairs::pair_case),
+            "e3-transfer.txt" => lines(&path, pairs::transfer_case),
+            "books.txt" | "e3-books.txt" => books::file(&path),
             k if k.starts_with("lister") && k.ends_with(".in") => lister::file(&path),
             k if k.starts_with("lister") && k.ends_with(".out") => (0, 0),
             _ => {
