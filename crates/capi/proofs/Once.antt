@@ -1,5 +1,5 @@
 -- Two outcomes of a function of the C interface that meet its contract are equal: results and lent arrays.
---   order-tells-one, step-tells-one, walk-tells-one, from-order-tells-one, unit-tells-one
+--   order-tells-one, step-tells-one, walk-tells-one, from-order-tells-one, unit-tells-one, one-field-tells-one
 --   check-says-one, list-says-one, write-says-one, add-says-one, attest-says-one
 -- Of asking for an entry, which only passes on: ask-says-one in book_asked/proofs/Once.antt.
 use mathlib.Core.Path.{_≡_, _∙_, sym, ap, subst}
@@ -22,7 +22,9 @@ use Rattle.walk_in_place.proofs.Once.{puts-one}
 use Rattle.walks.specs.declared.Told.{Told}
 use Rattle.walks.proofs.Order.{from-order-one}
 use Rattle.unit.proofs.Once.{makes-one}
-use Rattle.capi.specs.Told.{Left, OrderTells, StepTells, WalkTells, FromOrderTells, UnitTells}
+use Rattle.pairs.specs.declared.Compared.{Compared}
+use Rattle.pairs.proofs.Once.{compares-one}
+use Rattle.capi.specs.Told.{Left, OrderTells, StepTells, WalkTells, FromOrderTells, UnitTells, asNumber, OneFieldTells}
 use Rattle.capi.specs.Books.{CheckSays, ListSays, WriteSays, AddSays, AttestSays}
 
 -- ---- what is lent
@@ -65,6 +67,11 @@ unit-tells-one t u =
       e .rows-same,
       e .scratch-same,
     )
+
+pub one-field-tells-one : {p : ℕ} {G H G′ H′ : List ℕ} {n n′ s s′ : ℕ} → OneFieldTells p G H G′ H′ n s → OneFieldTells p G H G′ H′ n′ s′ → (n ≡ n′) × (s ≡ s′)
+one-field-tells-one t u =
+    let e = compares-one (t .a) (u .a) (t .compares) (u .compares) in
+    (t .number ∙ ap (λ (a : Compared). a .refusal) e ∙ sym (u .number), t .same-is ∙ ap (λ (a : Compared). asNumber (a .same)) e ∙ sym (u .same-is))
 
 -- ---- books
 pub check-says-one : {s o o′ : List ℕ} → CheckSays s o → CheckSays s o′ → o ≡ o′

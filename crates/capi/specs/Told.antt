@@ -5,9 +5,11 @@
 --   WalkTells            the last record in place of the first one, steps and degree sum
 --   FromOrderTells       period and regulator of the walk from the order
 --   UnitTells            the unit and its inverse in the lent slices, period and regulator
+--   OneFieldTells        whether two pairs are of one field, as 1 or 0
 -- In proofs/Once.antt: two outcomes that meet one of them are equal. `Puts`, what a walk puts in place, is in walk_in_place/specs/Puts.antt.
 use mathlib.Core.Path.{_≡_}
 use mathlib.Core.Logic.{_≢_}
+use mathlib.Core.Bool.{Bool, true, false}
 use mathlib.Core.List.{List}
 use Prim.Native.Nat.{ℕ}
 use Rattle.bases.specs.declared.Ordered.{Ordered}
@@ -21,6 +23,8 @@ use Rattle.walks.specs.declared.Told.{Told}
 use Rattle.walks.specs.Order.{FromOrder}
 use Rattle.unit.specs.declared.Made.{Made}
 use Rattle.unit.specs.Unit.{Makes}
+use Rattle.pairs.specs.declared.Compared.{Compared}
+use Rattle.pairs.specs.Answer.{Compares}
 
 pub record Left (n : ℕ) (before after x : List ℕ) : Type 0 where
   pub stored : n ≡ 0 → after ≡ x
@@ -57,3 +61,13 @@ pub record UnitTells (p : ℕ) (G H : List ℕ) (budget : ℕ) (rows scratch : L
   pub number : n ≡ m .refusal
   pub period-is : period ≡ m .period .0
   pub regulator-is : regulator ≡ m .regulator .0
+
+abbrev pub asNumber : Bool → ℕ
+asNumber true = 1
+asNumber false = 0
+
+pub record OneFieldTells (p : ℕ) (G H G′ H′ : List ℕ) (n same : ℕ) : Type 0 where
+  pub a : Compared
+  pub compares : Compares p G H G′ H′ a
+  pub number : n ≡ a .refusal
+  pub same-is : same ≡ asNumber (a .same)

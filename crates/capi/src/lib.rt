@@ -8,7 +8,8 @@ ghost use Rattle.book.specs.Book.{count};
 ghost use Rattle.book_body.specs.Body.{bodyOf};
 ghost use Rattle.book_write.specs.Write.{bodyFrom};
 ghost use Rattle.book_asked.specs.Place.{AskSays};
-ghost use Rattle.capi.specs.Told.{OrderTells, StepTells, WalkTells, FromOrderTells, UnitTells};
+ghost use Rattle.transfer.specs.Transfer.{Transfers};
+ghost use Rattle.capi.specs.Told.{OrderTells, StepTells, WalkTells, FromOrderTells, UnitTells, OneFieldTells};
 ghost use Rattle.capi.specs.Books.{CheckSays, ListSays, WriteSays, AddSays, AttestSays};
 
 // The number of the first refusal of p, G, H; 0 where the field is accepted.
@@ -131,6 +132,39 @@ pub extern "C" fn zaminuk_unit(
     *period = t.0;
     *regulator = r.0;
     o.refusal
+}
+
+// Whether two pairs over one p are of one field: 1 or 0, and 0 beside a refusal of the first pair or of the second.
+#[no_mangle]
+pub extern "C" fn zaminuk_one_field(
+    p: u64,
+    g: &[u64],
+    h: &[u64],
+    g2: &[u64],
+    h2: &[u64],
+    same: &mut u64,
+) -> u32
+    ensures { λ n. ⌜ OneFieldTells p (now (g .entry)) (now (h .entry)) (now (g2 .entry)) (now (h2 .entry)) n (now (same .exit)) ⌝ }
+{
+    let a = pairs::compare(p, g, h, g2, h2);
+    let b = a.same;
+    *same = if b { 1 } else { 0 };
+    a.refusal
+}
+
+// The rows of a unit and its inverse, carried over in place from the pair G, H to a pair of the same field.
+#[no_mangle]
+pub extern "C" fn zaminuk_transfer(
+    p: u64,
+    g: &[u64],
+    h: &[u64],
+    g2: &[u64],
+    h2: &[u64],
+    rows: &mut [u16],
+) -> u32
+    ensures { λ n. ⌜ Transfers p (now (g .entry)) (now (h .entry)) (now (g2 .entry)) (now (h2 .entry)) (now (rows .entry)) n (now (rows .exit)) ⌝ }
+{
+    transfer::transfer(p, g, h, g2, h2, rows)
 }
 
 // Checks a book: five numbers, the refusal, the inner reason, its entry, its other number, the result.
