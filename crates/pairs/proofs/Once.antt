@@ -2,7 +2,7 @@
 --   refusals-one   one number of a refusal
 --   pairs-one      one order in which two accepted pairs agree, by `not-both`
 --   compares-one   one answer to comparing two pairs
-use mathlib.Core.Path.{_≡_, refl, sym, _∙_, subst}
+use mathlib.Core.Path.{_≡_, refl, sym, _∙_}
 use mathlib.Core.Logic.{inl, inr}
 use mathlib.Core.List.{List}
 use Prim.Native.Nat.{ℕ}

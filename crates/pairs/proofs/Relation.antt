@@ -9,7 +9,6 @@ use mathlib.Core.Path.{_≡_, refl, sym, _∙_, subst}
 use mathlib.Core.Logic.{_≢_, inl, inr}
 use mathlib.Core.List.{List, [], _∷_}
 use Prim.Native.Nat.{ℕ}
-use Prim.Native.Nat as N
 use native.Mathlib.Omega.{arith}
 use lib.ListN.{getD}
 use lib.Seq.{ext-getD}

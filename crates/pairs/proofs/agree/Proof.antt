@@ -5,30 +5,27 @@ use native.Mathlib.Omega.{arith}
 use lib.ListN.{length, getD}
 use borrow.Author.Count.{below-more}
 use Rattle.book_bytes.proofs.Tests.{answer-yes, answer-no}
-use Rattle.pairs.proofs.Agreeing.{swap-in, some-in, product-in, long-no, entry-no, agree-yes}
+use Rattle.pairs.proofs.Agreeing.{some-in, entries-in, product-fits, long-no, entry-no, agree-yes}
 use Rattle.pairs.proofs.agree.Statement.{statement}
 use Rattle.pairs.proofs.agree.Tie as tie
 
 abbrev Inv-loop : tie.InvT-loop
-Inv-loop p a b n x y i₀ i = (i ≤ length a) × ((k : ℕ) → k < i → (y * getD a k 0) % p ≡ (x * getD b k 0) % p)
+Inv-loop p a b n top x y i₀ i = (i ≤ length a) × ((k : ℕ) → k < i → (y * getD a k 0) % p ≡ (x * getD b k 0) % p)
 
 abbrev μ-loop : tie.MeasureT-loop
-μ-loop p a b n x y i₀ i = length a - i
+μ-loop p a b n top x y i₀ i = length a - i
 
 returns : tie.Need-returns Inv-loop μ-loop
 returns c = answer-no (long-no (c .if1 .taken))
 
-sub-x : tie.Need-sub-x Inv-loop μ-loop
-sub-x c = some-in (c .before .pre)
+sub-top : tie.Need-sub-top Inv-loop μ-loop
+sub-top c = some-in (c .before .pre)
 
 mul-x : tie.Need-mul-x Inv-loop μ-loop
 mul-x c = omega arith
 
 shared-slice-read-x : tie.Need-shared-slice-read-x Inv-loop μ-loop
 shared-slice-read-x c = omega (arith, some-in (c .before .before .pre))
-
-sub-y : tie.Need-sub-y Inv-loop μ-loop
-sub-y c = some-in (c .before .before .pre)
 
 mul-y : tie.Need-mul-y Inv-loop μ-loop
 mul-y c = omega arith
@@ -46,7 +43,7 @@ shared-slice-read-u : tie.Need-shared-slice-read-u Inv-loop μ-loop
 shared-slice-read-u c = omega arith
 
 mul-u-2 : tie.Need-mul-u-2 Inv-loop μ-loop
-mul-u-2 c = let s = c .before .before .before .before .before .before in omega (arith, product-in (swap-in (s .pre)) (length (s .args .a .now) - 1) (c .before .before .loop .i) (omega (arith, some-in (s .pre))) (omega arith))
+mul-u-2 c = let s = c .before .before .before .before .before .before in let e = entries-in (s .pre) (c .before .before .before .before .before .if1 .left) (c .before .before .loop .i) (omega arith) in product-fits (omega (arith, e .0, e .1, e .2, e .3)) (omega (arith, e .0, e .1, e .2, e .3))
 
 rem-u : tie.Need-rem-u Inv-loop μ-loop
 rem-u c = omega (arith, c .before .before .before .before .before .before .pre .prime .big)
@@ -58,7 +55,7 @@ shared-slice-read-v : tie.Need-shared-slice-read-v Inv-loop μ-loop
 shared-slice-read-v c = omega arith
 
 mul-v-2 : tie.Need-mul-v-2 Inv-loop μ-loop
-mul-v-2 c = let s = c .before .before .before .before .before .before .before in omega (arith, product-in (s .pre) (length (s .args .a .now) - 1) (c .before .before .before .loop .i) (omega (arith, some-in (s .pre))) (omega arith))
+mul-v-2 c = let s = c .before .before .before .before .before .before .before in let e = entries-in (s .pre) (c .before .before .before .before .before .before .if1 .left) (c .before .before .before .loop .i) (omega arith) in product-fits (omega (arith, e .0, e .1, e .2, e .3)) (omega (arith, e .0, e .1, e .2, e .3))
 
 rem-v : tie.Need-rem-v Inv-loop μ-loop
 rem-v c = omega (arith, c .before .before .before .before .before .before .before .pre .prime .big)
@@ -85,10 +82,9 @@ agree-spec =
     Inv-loop
     μ-loop
     returns
-    sub-x
+    sub-top
     mul-x
     shared-slice-read-x
-    sub-y
     mul-y
     shared-slice-read-y
     loop-holds

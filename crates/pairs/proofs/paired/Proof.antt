@@ -5,10 +5,10 @@ use Rattle.pairs.proofs.paired.Statement.{statement}
 use Rattle.pairs.proofs.paired.Tie as tie
 
 agree-requires : tie.Need-agree-requires
-agree-requires c κs = let s = c .before .before .before .before .pre in lists-in (s .first) (s .first .listG) (s .second .listG)
+agree-requires c κs = search (lists-in, c .before .before .before .before .pre .first, c .before .before .before .before .pre .second)
 
 agree-requires-2 : tie.Need-agree-requires-2
-agree-requires-2 c κs = let s = c .before .before .before .before .before .before .pre in lists-in (s .first) (s .first .listH) (s .second .listH)
+agree-requires-2 c κs = search (lists-in, c .before .before .before .before .before .before .pre .first, c .before .before .before .before .before .before .pre .second)
 
 returns : tie.Need-returns
 returns c = (c .before .before .before .agree .ensures .yes! (c .before .before .if1 .taken), c .before .agree2 .ensures .yes! (c .if2 .taken))
@@ -17,10 +17,10 @@ returns-2 : tie.Need-returns-2
 returns-2 c = first-apart (c .before .before .before .before .before .before .before .before .pre) (c .before .before .before .agree .ensures .yes! (c .before .before .if1 .taken)) (c .before .agree2 .ensures .no! (c .if2 .left))
 
 agree-requires-3 : tie.Need-agree-requires-3
-agree-requires-3 c κs = let s = c .before .before .before .before .before .before .pre in lists-in (s .first) (s .first .listG) (s .second .listH)
+agree-requires-3 c κs = search (lists-in, c .before .before .before .before .before .before .pre .first, c .before .before .before .before .before .before .pre .second)
 
 agree-requires-4 : tie.Need-agree-requires-4
-agree-requires-4 c κs = let s = c .before .before .before .before .before .before .before .before .pre in lists-in (s .first) (s .first .listH) (s .second .listG)
+agree-requires-4 c κs = search (lists-in, c .before .before .before .before .before .before .before .before .pre .first, c .before .before .before .before .before .before .before .before .pre .second)
 
 returns-3 : tie.Need-returns-3
 returns-3 c = (c .before .before .before .agree3 .ensures .yes! (c .before .before .if3 .taken), c .before .agree4 .ensures .yes! (c .if4 .taken))
