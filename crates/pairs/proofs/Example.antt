@@ -9,7 +9,7 @@ use native.Mathlib.Omega.{arith}
 use lib.ListN.{getD}
 use Rattle.fp.specs.Fp.{Prime}
 use Rattle.fp.proofs.Trial.{prime}
-use Rattle.pairs.specs.OneField.{Cross, Coefficients, OneField}
+use Rattle.pairs.specs.OneField.{Coefficients, OneField}
 use Rattle.pairs.proofs.Lists.{cross-of, agree-of}
 
 five : Prime 5

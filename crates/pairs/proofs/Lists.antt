@@ -5,7 +5,7 @@
 --   cross-of, agree-of        agreeing is cross multiplication; `cross-from`: only the entries that are there need be looked at
 --   monic-poly                the polynomial of a list is its leading coefficient times that of the list made monic
 --   agree-poly                the polynomials of two lists that agree differ by a constant that is not 0
-use mathlib.Core.Path.{_≡_, sym, ap, ap₂, _∙_, subst}
+use mathlib.Core.Path.{_≡_, sym, ap, _∙_, subst}
 use mathlib.Core.Logic.{_≢_}
 use mathlib.Core.List.{List, [], _∷_}
 use Prim.Native.Nat.{ℕ, suc, _%_, _<_}

@@ -25,8 +25,9 @@ fn agree(p: u64, a: &[u64], b: &[u64]) -> bool
     if n != b.len() {
         return false;
     }
-    let x = a[n - 1];
-    let y = b[n - 1];
+    let top = n - 1;
+    let x = a[top];
+    let y = b[top];
     let mut i: usize = 0;
     while i < n {
         let u = y * a[i] % p;
