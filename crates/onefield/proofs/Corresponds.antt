@@ -17,7 +17,7 @@ use Rattle.onefield.specs.Corresponds.{Corresponds}
 use Rattle.onefield.specs.Side.{Side, at}
 use Rattle.onefield.specs.Carries.{Carries}
 use Rattle.onefield.proofs.Inverse.{back, ev-kept}
-use Rattle.onefield.proofs.OneField.{carries}
+use Rattle.onefield.proofs.OneField.{meets}
 
 pub carried : (𝓥 : Valued) {s s′ : Side 𝓥} → Carries s s′ → Corresponds (at s) (at s′)
 carried 𝓥 c = record {
@@ -38,4 +38,4 @@ pub corresponds : {p : ℕ} {G H G′ H′ : List ℕ} (A : Accepted p G H) (A�
     → OneField p G H G′ H′ → Corresponds (setting A) (setting A′)
 corresponds {p} A A′ o =
     subst (λ pr. Corresponds (setting A) (root.setting A′ pr)) (prime-one (A .prime) (A′ .prime))
-    (carried (reading p (A .prime) .𝓥) (carries A A′ o (A .prime)))
+    (carried (reading p (A .prime) .𝓥) (meets A A′ o (A .prime) .carries))

@@ -1,18 +1,22 @@
 -- What carries over, carries back; and one after another.
---   undo      k (k′ b) = b where k k′ = 1
---   back      the inverse
---   after     the composition
---   ev-kept   the value stays
+--   undo, twice       k (k′ b) = b where k k′ = 1; σ (σ b) = b where σ σ = 1
+--   back              the inverse
+--   after             the composition
+--   ev-kept, Z-kept   the value and Z stay
+--   carry-back        a basis carried over and back is itself
 use mathlib.Core.Path.{_≡_, sym, ap, ap₂, _∙_}
 use mathlib.Core.List.{[], _∷_}
 use Rattle.ring.specs.Ring.{Ops, CRing}
 use Rattle.ring.proofs.Laws as rg
-use Rattle.ring.proofs.Solve.{var, one, _:*_, hyp, solve-by}
+use Rattle.ring.proofs.Solve.{var, one, minus, _:+_, _:*_, _:=_, hyp, solve-by, ring₃}
 use Rattle.valued.specs.Val.{Valued}
-use Rattle.valued.specs.Polynomial.{polys}
-use Rattle.ideals.specs.Element.{O, ev, X, Y}
+use Rattle.valued.specs.Polynomial.{polys, Poly}
+use Rattle.ideals.specs.Setting.{Setting}
+use Rattle.ideals.specs.Element.{O, sc, ev, X, Y, Z}
+use Rattle.ideals.specs.Ideal.{Basis}
+use Rattle.ideals.proofs.Lattice.{sc-mul}
 use Rattle.onefield.specs.Side.{Side, at}
-use Rattle.onefield.specs.Carries.{El, Carries}
+use Rattle.onefield.specs.Carries.{El, Carries, carry}
 
 pub undo : (R : CRing) (k k′ b : R .El) → R .ops .mul k k′ ≡ R .ops .𝟏 → R .ops .mul k (R .ops .mul k′ b) ≡ b
 undo R k k′ b e = sym (R .laws .mul-assoc k k′ b) ∙ ap (λ z. R .ops .mul z b) e ∙ rg.one-mul R b
@@ -25,11 +29,15 @@ module _ {A : Type 0} (_·_ _∘_ : A → A → A) where
 
 module _ (𝓥 : Valued) where
   open Valued 𝓥 using (L)
-  open Ops (L .ops) using (add as _+_, mul as _*_)
-  open Ops (polys 𝓥 .ops) using (mul as _⊠_)
+  open Ops (L .ops) using (add as _+_, mul as _*_, neg as -_, 𝟏)
+  open Ops (polys 𝓥 .ops) using (mul as _⊠_, 𝟏 as 1ₚ)
 
   infixl 60 _+_
   infixl 70 _*_ _⊠_
+  infix 80 -_
+  pub twice : (σ : Poly 𝓥) → σ ⊠ σ ≡ 1ₚ → (b : L .El) → σ .0 * (σ .0 * b) ≡ b
+  twice σ e b = undo L (σ .0) (σ .0) b (ap (λ z. z .0) e)
+
   abbrev pub back : {s s′ : Side 𝓥} → Carries s s′ → Carries s′ s
   back {s} {s′} c = record {
     to = c .from;
@@ -44,7 +52,7 @@ module _ (𝓥 : Valued) where
     σ = c .σ;
     sign = c .sign;
     Y-kept = λ v.
-        sym (undo L (c .σ .0) (c .σ .0) (Y (at s) (c .from v)) (ap (λ z. z .0) (c .sign)))
+        sym (twice (c .σ) (c .sign) (Y (at s) (c .from v)))
         ∙ ap (λ z. c .σ .0 * z) (sym (c .Y-kept (c .from v)) ∙ ap (Y (at s′)) (c .to-from v));
   }
 
@@ -65,9 +73,38 @@ module _ (𝓥 : Valued) where
     Y-kept = λ v. k .Y-kept (c .to v) ∙ ap (λ z. k .σ .0 * z) (c .Y-kept v) ∙ sym (L .laws .mul-assoc (k .σ .0) (c .σ .0) (Y (at s) v));
   }
 
-  -- the value is A + X
-  pub ev-kept : {s s′ : Side 𝓥} (c : Carries s s′) (v : El 𝓥) → ev (at s′) (c .to v) ≡ ev (at s) v
-  ev-kept {s} {s′} c v =
-      L .laws .add-assoc (c .to v .a .0) (c .to v .b .0 * s′ .r) (c .to v .c .0 * s′ .w)
-      ∙ ap₂ _+_ (ap (λ z. z .0) (c .first v)) (c .X-kept v)
-      ∙ sym (L .laws .add-assoc (v .a .0) (v .b .0 * s .r) (v .c .0 * s .w))
+  module _ {s s′ : Side 𝓥} (c : Carries s s′) where
+    abbrev S : Setting
+    S = at s
+
+    abbrev S′ : Setting
+    S′ = at s′
+
+    -- the value is A + X
+    pub ev-kept : (v : El 𝓥) → ev S′ (c .to v) ≡ ev S v
+    ev-kept v =
+        L .laws .add-assoc (c .to v .a .0) (c .to v .b .0 * S′ .r) (c .to v .c .0 * S′ .w)
+        ∙ ap₂ _+_ (ap (λ z. z .0) (c .first v)) (c .X-kept v)
+        ∙ sym (L .laws .add-assoc (v .a .0) (v .b .0 * S .r) (v .c .0 * S .w))
+
+    -- and Z is 2A − X
+    Z-of : (a x y : L .El) → (𝟏 + 𝟏) * a + - x + - y ≡ (𝟏 + 𝟏) * a + - (x + y)
+    Z-of a x y = ring₃ L (λ a x y. (one :+ one) :* a :+ minus x :+ minus y := (one :+ one) :* a :+ minus (x :+ y)) tt a x y
+
+    pub Z-kept : (v : El 𝓥) → Z S′ (c .to v) ≡ Z S v
+    Z-kept v =
+        Z-of (c .to v .a .0) (c .to v .b .0 * S′ .r) (c .to v .c .0 * S′ .w)
+        ∙ ap₂ (λ a x. (𝟏 + 𝟏) * a + - x) (ap (λ z. z .0) (c .first v)) (c .X-kept v)
+        ∙ sym (Z-of (v .a .0) (v .b .0 * S .r) (v .c .0 * S .w))
+
+    -- σ (σ v) = v among elements
+    pub undone : (v : El 𝓥) → O S .ops .mul (sc S (c .σ)) (O S .ops .mul (sc S (c .σ)) v) ≡ v
+    undone v = undo (O S) (sc S (c .σ)) (sc S (c .σ)) v (sym (sc-mul S (c .σ) (c .σ)) ∙ ap (sc S) (c .sign))
+
+    pub carry-back : (B : Basis S) → carry s′ s (back c) (carry s s′ c B) ≡ B
+    carry-back B =
+        let e : c .from (c .to (B .M)) ≡ B .M = c .from-to (B .M) in
+        let f : O S .ops .mul (sc S (c .σ)) (c .from (O S′ .ops .mul (sc S′ (c .σ)) (c .to (B .N)))) ≡ B .N =
+        ap (λ z. O S .ops .mul (sc S (c .σ)) z) (back c .mul (sc S′ (c .σ)) (c .to (B .N)) ∙ ap₂ (O S .ops .mul) (back c .poly (c .σ)) (c .from-to (B .N)))
+        ∙ undone (B .N) in
+        λ i. record { U = B .U; M = e i; N = f i }

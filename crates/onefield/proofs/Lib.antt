@@ -1,5 +1,11 @@
+pub mod Elements
 pub mod Inverse
 pub mod Pairs
 pub mod OneField
+pub mod Transport
+pub mod Same
+pub mod Units
+pub mod Numbers
+pub mod Refused
 pub mod Corresponds
 pub mod Least

@@ -2,6 +2,7 @@
 --   exchanged swap   the pair H, G with the series w, r: φ exchanges B and C, and σ = −1
 --   Scale scale      for G′ = αG and H′ = βH with constants α, β that are not 0: the constant κ with κ³ = αβ²
 --   scaled           then r′ = κr and w′ = (κ²/β)w: φ divides B by κ and C by κ²/β, and σ = 1
+--   stretched        so B takes x = 1/κ and C takes y = β/κ²
 use mathlib.Core.Path.{_≡_, refl, sym, ap, ap₂, _∙_, subst}
 use mathlib.Core.Logic.{_≢_}
 use mathlib.Core.List.{List, [], _∷_}
@@ -24,11 +25,11 @@ use Rattle.ideals.proofs.Sizes.{O-path}
 use Rattle.ideals.proofs.Values.{w-w, r-cube}
 use Rattle.ideals.proofs.Roots.{roots-unique}
 use Rattle.onefield.specs.Side.{Side, at}
-use Rattle.onefield.specs.Carries.{El, Carries}
+use Rattle.onefield.specs.Carries.{El, Carries, stretch, Stretched}
 use Rattle.onefield.proofs.Inverse.{undo}
 
 -- the second coordinate and the third change places
-abbrev turned : {A : Type 0} → Tri A → Tri A
+abbrev pub turned : {A : Type 0} → Tri A → Tri A
 turned v = record { a = v .a; b = v .c; c = v .b }
 
 -- k b z′ = b z where k k′ = 1 and z′ = k′ z
@@ -217,10 +218,7 @@ module _ (𝓥 : Valued) where
       one-H : x ⊠ x ⊠ s′ .H ≡ y ⊠ s .H
       one-H = ap (λ h. x ⊠ x ⊠ h) eH ∙ solve R (var 0 :* var 0 :* (var 1 :* var 2)) (var 1 :* (var 0 :* var 0) :* var 2) tt (x ∷ β ∷ s .H ∷ [])
 
-      abbrev stretch : Poly 𝓥 → Poly 𝓥 → El 𝓥 → El 𝓥
-      stretch f g v = record { a = v .a; b = f ⊠ v .b; c = g ⊠ v .c }
-
-      times : (u v : El 𝓥) → stretch x y (O (at s) .ops .mul u v) ≡ O (at s′) .ops .mul (stretch x y u) (stretch x y v)
+      times : (u v : El 𝓥) → stretch 𝓥 x y (O (at s) .ops .mul u v) ≡ O (at s′) .ops .mul (stretch 𝓥 x y u) (stretch 𝓥 x y v)
       times u v =
           -- the variables: G, H, G′, H′, x, y, then u and v
           let l : List (Poly 𝓥) = s .G ∷ s .H ∷ s′ .G ∷ s′ .H ∷ x ∷ y ∷ u .a ∷ u .b ∷ u .c ∷ v .a ∷ v .b ∷ v .c ∷ [] in
@@ -240,8 +238,8 @@ module _ (𝓥 : Valued) where
 
       pub scaled : Carries s s′
       scaled = record {
-        to = stretch x y;
-        from = stretch (k .κ) y′;
+        to = stretch 𝓥 x y;
+        from = stretch 𝓥 (k .κ) y′;
         to-from = λ v. O-path (at s′) refl (undo R x (k .κ) (v .b) x-inverse) (undo R y y′ (v .c) y-inverse);
         from-to = λ v. O-path (at s) refl (undo R (k .κ) x (v .b) (k .inverse)) (undo R y′ y (v .c) (R .laws .mul-comm y′ y ∙ y-inverse));
         add = λ u v. O-path (at s′) refl (R .laws .mul-add x (u .b) (v .b)) (R .laws .mul-add y (u .c) (v .c));
@@ -252,4 +250,24 @@ module _ (𝓥 : Valued) where
         σ = 1ₚ;
         sign = R .laws .mul-one 1ₚ;
         Y-kept = λ v. ap₂ (λ b c. b + - c) (B-kept (v .b .0)) (C-kept (v .c .0)) ∙ sym (rg.one-mul L (Y (at s) v));
+      }
+
+      pub stretched : Stretched 𝓥 s s′ scaled
+      unfolding scaled
+      stretched = record {
+        factors = record {
+          α = α;
+          β = β;
+          x = x;
+          y = y;
+          α-unit = uα;
+          β-unit = uβ;
+          x-unit = (k .κ, sym x-inverse);
+          y-unit = (y′, sym y-inverse);
+          cube = x-cube;
+          square = refl;
+        };
+        pair = (eG, eH);
+        rows = λ v. refl;
+        plus = refl;
       }

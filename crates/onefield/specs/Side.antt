@@ -3,7 +3,7 @@
 --   at s        the setting that it is
 --   bare S      a setting without its series; at (bare S) is S
 --   side A pr   the setting of an accepted field, over the series at pr, a proof that p is prime
--- Two accepted pairs over one p are two sides of one ring of series, at one and the same proof: `carries` in proofs/OneField.antt.
+-- Two accepted pairs over one p are two sides of one ring of series, at one and the same proof: `meets` in proofs/OneField.antt.
 use mathlib.Core.Path.{_≡_}
 use mathlib.Core.Logic.{_≢_}
 use mathlib.Core.List.{List}

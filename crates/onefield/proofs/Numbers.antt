@@ -1,0 +1,114 @@
+-- The factors of two accepted pairs as numbers.
+--   constant          the constant polynomial of a number
+--   Number, number-of   a constant that is not 0 is that of a number from 1 to p − 1
+--   law-of            the numbers x and y are settled by the leading coefficients
+use mathlib.Core.Path.{_≡_, refl, sym, ap, ap₂, _∙_, subst}
+use mathlib.Core.List.{List, [], _∷_}
+use Prim.Native.Nat.{ℕ, _<_}
+use Prim.Native.Nat as N
+use Rattle.ring.specs.Ring.{Ops}
+use Rattle.ring.proofs.Solve.{var, one, _:*_, hyp, solve, solve-by}
+use Rattle.fp.specs.Fp.{Prime}
+use Rattle.valued.specs.Val.{Valued}
+use Rattle.valued.specs.Degree.{Leads}
+use Rattle.valued.specs.Polynomial.{polys, Poly, IsUnit}
+use Rattle.valued.proofs.Degree.{lead-eq}
+use Rattle.valued.proofs.Compare.{leads-mul, leads-unique, leads-one}
+use Rattle.valued.proofs.Polynomial.{const-path, unit-const}
+use Rattle.reading.specs.Reading.{Reading}
+use Rattle.reading.specs.Made.{reading}
+use Rattle.reading.proofs.Rows.{size-lead}
+use Rattle.poly.specs.Factors.{polynomial}
+use Rattle.field.specs.Refusal.{Degree}
+use Rattle.field.proofs.Accept.{degree-size, degree-lead}
+use Rattle.pairs.specs.OneField.{leading}
+use Rattle.pairs.specs.Rows.{Law}
+use Rattle.pairs.proofs.Lists.{mod-of, leading-at}
+use Rattle.onefield.specs.Carries.{Factors}
+
+module _ (p : ℕ) (pr : Prime p) where
+  abbrev ρ : Reading p
+  ρ = reading p pr
+
+  open Reading ρ using (𝓥, cast)
+  open Valued 𝓥 using (K, const)
+  open Ops (K .ops) using (mul as _*ᵏ_)
+  open Ops (polys 𝓥 .ops) using (mul as _⊠_)
+
+  infixl 70 _⊠_ _*ᵏ_
+  abbrev pub constant : ℕ → Poly 𝓥
+  constant k = (const (cast k), 𝓥 .const-poly (cast k))
+
+  pub record Number (u : Poly 𝓥) : Type 0 where
+    pub k : ℕ
+    pub below : k < p
+    pub is : u ≡ constant k
+    pub leads : Leads 𝓥 (u .0) (cast k)
+
+  pub number-of : (u : Poly 𝓥) → IsUnit 𝓥 u → Number u
+  number-of u un =
+      let (a, ha, la) = unit-const 𝓥 u un in
+      let (k, h, e) = ρ .cast-onto a in
+      record {
+        k = k;
+        below = h;
+        is = const-path 𝓥 {a = u} {b = constant k} (lead-eq 𝓥 la refl (sym e)) (𝓥 .const-lead (cast k));
+        leads = subst (Leads 𝓥 (u .0)) (sym e) (0, 0, ha, la);
+      }
+
+  -- ---- the leading coefficients
+  list-leads : {l : List ℕ} {n : ℕ} → Degree p l n → Leads 𝓥 (polynomial p pr l .0) (cast (leading l))
+  list-leads {l} {n} h =
+      subst (λ i. Leads 𝓥 (polynomial p pr l .0) (cast i)) (sym (leading-at p pr h)) (n, 0, degree-lead pr h, size-lead ρ (degree-size h))
+
+  -- G′ = αG at the leading coefficients
+  pub lead-times : {u : Poly 𝓥} (k : Number u) {l l′ : List ℕ} {n n′ : ℕ} → Degree p l n → Degree p l′ n′
+      → polynomial p pr l′ ≡ u ⊠ polynomial p pr l → cast (leading l′) ≡ cast (k .k) *ᵏ cast (leading l)
+  lead-times k {l} {l′} h h′ e =
+      leads-unique 𝓥 (list-leads h′) (subst (λ z. Leads 𝓥 (z .0) (cast (k .k) *ᵏ cast (leading l))) (sym e) (leads-mul 𝓥 (k .leads) (list-leads h)))
+
+  module _ (f : Factors 𝓥) (ka : Number (f .α)) (kb : Number (f .β)) (kx : Number (f .x)) (ky : Number (f .y)) where
+    abbrev X : ℕ
+    X = kx .k
+
+    abbrev Y : ℕ
+    Y = ky .k
+
+    abbrev a : K .El
+    a = cast (ka .k)
+
+    abbrev b : K .El
+    b = cast (kb .k)
+
+    abbrev x : K .El
+    x = cast X
+
+    cube-at : x *ᵏ x *ᵏ x *ᵏ (a *ᵏ (b *ᵏ b)) ≡ K .ops .𝟏
+    cube-at =
+        leads-unique 𝓥
+        (subst (λ z. Leads 𝓥 (z .0) (x *ᵏ x *ᵏ x *ᵏ (a *ᵏ (b *ᵏ b)))) (f .cube)
+        (leads-mul 𝓥 (leads-mul 𝓥 (leads-mul 𝓥 (kx .leads) (kx .leads)) (kx .leads)) (leads-mul 𝓥 (ka .leads) (leads-mul 𝓥 (kb .leads) (kb .leads)))))
+        (leads-one 𝓥)
+
+    square-at : cast Y ≡ b *ᵏ (x *ᵏ x)
+    square-at =
+        leads-unique 𝓥 (ky .leads)
+        (subst (λ z. Leads 𝓥 (z .0) (b *ᵏ (x *ᵏ x))) (sym (f .square)) (leads-mul 𝓥 (kb .leads) (leads-mul 𝓥 (kx .leads) (kx .leads))))
+
+    pub law-of : (g h g′ h′ : ℕ) → cast g′ ≡ a *ᵏ cast g → cast h′ ≡ b *ᵏ cast h → Law p X Y g h g′ h′
+    law-of g h g′ h′ eg eh = record {
+      x-below = kx .below;
+      y-below = ky .below;
+      cube = mod-of p pr (N._*_ (N._*_ (N._*_ X X) X) (N._*_ g′ (N._*_ h′ h′))) (N._*_ g (N._*_ h h))
+          (ρ .cast-mul (N._*_ (N._*_ X X) X) (N._*_ g′ (N._*_ h′ h′))
+          ∙ ap₂ _*ᵏ_ (ρ .cast-mul (N._*_ X X) X ∙ ap (λ z. z *ᵏ x) (ρ .cast-mul X X))
+          (ρ .cast-mul g′ (N._*_ h′ h′) ∙ ap₂ _*ᵏ_ eg (ρ .cast-mul h′ h′ ∙ ap₂ _*ᵏ_ eh eh))
+          ∙ solve-by K (var 0 :* var 0 :* var 0 :* (var 1 :* var 3 :* (var 2 :* var 4 :* (var 2 :* var 4)))) (var 3 :* (var 4 :* var 4))
+          (hyp (var 3 :* (var 4 :* var 4)) (var 0 :* var 0 :* var 0 :* (var 1 :* (var 2 :* var 2))) one ∷ []) tt (x ∷ a ∷ b ∷ cast g ∷ cast h ∷ []) (cube-at, tt)
+          ∙ sym (ρ .cast-mul g (N._*_ h h) ∙ ap (λ z. cast g *ᵏ z) (ρ .cast-mul h h)));
+      square = mod-of p pr (N._*_ Y h) (N._*_ (N._*_ X X) h′)
+          (ρ .cast-mul Y h
+          ∙ ap (λ z. z *ᵏ cast h) square-at
+          ∙ solve K (var 0 :* (var 1 :* var 1) :* var 2) (var 1 :* var 1 :* (var 0 :* var 2)) tt (b ∷ x ∷ cast h ∷ [])
+          ∙ sym (ρ .cast-mul (N._*_ X X) h′ ∙ ap₂ _*ᵏ_ (ρ .cast-mul X X) eh));
+    }
