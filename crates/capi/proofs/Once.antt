@@ -70,7 +70,7 @@ unit-tells-one t u =
 
 pub one-field-tells-one : {p : ℕ} {G H G′ H′ : List ℕ} {n n′ s s′ : ℕ} → OneFieldTells p G H G′ H′ n s → OneFieldTells p G H G′ H′ n′ s′ → (n ≡ n′) × (s ≡ s′)
 one-field-tells-one t u =
-    let e = compares-one (t .a) (u .a) (t .compares) (u .compares) in
+    let e = compares-one (t .compares) (u .compares) in
     (t .number ∙ ap (λ (a : Compared). a .refusal) e ∙ sym (u .number), t .same-is ∙ ap (λ (a : Compared). asNumber (a .same)) e ∙ sym (u .same-is))
 
 -- ---- books
