@@ -1,4 +1,7 @@
 pub mod Lists
+pub mod Agreeing
 pub mod Relation
+pub mod Outcomes
+pub mod Once
 pub mod Factors
 pub mod Example

@@ -3,24 +3,31 @@
 --   monic-one   a list is made monic in one way
 --   agree-refl, agree-trans
 --   one-refl, one-sym, one-trans   equal pairs are of one field; in either order; and with a third
---   not-both    the pairs agree in one order only: else the lists of an accepted pair would agree with each other
+--   apart-lists   the two lists of an accepted pair never agree: the one would divide the other
+--   not-both      no list agrees with both lists of an accepted pair, so that two pairs agree in one order only
 use mathlib.Core.Path.{_≡_, refl, sym, _∙_, subst}
 use mathlib.Core.Logic.{_≢_, inl, inr}
 use mathlib.Core.List.{List, [], _∷_}
 use Prim.Native.Nat.{ℕ}
 use Prim.Native.Nat as N
+use native.Mathlib.Omega.{arith}
 use lib.ListN.{getD}
 use lib.Seq.{ext-getD}
 use Rattle.ring.specs.Ring.{Ops}
 use Rattle.ring.proofs.Solve.{var, one, minus, _:*_, hyp, solve-by}
 use Rattle.fp.specs.Fp.{Prime}
 use Rattle.valued.specs.Val.{Valued}
+use Rattle.valued.specs.Polynomial.{polys, IsUnit}
+use Rattle.valued.proofs.Degree.{same}
+use Rattle.valued.proofs.Polynomial.{unit-const}
 use Rattle.reading.specs.Reading.{Reading}
 use Rattle.reading.specs.Made.{reading}
 use Rattle.reading.proofs.Unique.{cast-inj}
-use Rattle.field.specs.Refusal.{Degree}
+use Rattle.poly.specs.Factors.{polynomial}
+use Rattle.field.specs.Refusal.{Degree, Accepted}
+use Rattle.field.proofs.Accept.{degree-has}
 use Rattle.pairs.specs.OneField.{leading, Monic, Agree, OneField, Coefficients}
-use Rattle.pairs.proofs.Lists.{agree-sym, same-cast, leading-not, agree-of}
+use Rattle.pairs.proofs.Lists.{agree-sym, agree-degree, agree-poly, same-cast, leading-not, agree-of}
 
 pub one-sym : {p : ℕ} {G H G′ H′ : List ℕ} → OneField p G H G′ H′ → OneField p G′ H′ G H
 one-sym (inl (a, b)) = inl (agree-sym a, agree-sym b)
@@ -60,3 +67,16 @@ module _ (p : ℕ) (pr : Prime p) where
   one-trans s (inr (a, b)) (inl (c, d)) = inr (agree-trans (s .listH) a d, agree-trans (s .listG) b c)
   one-trans s (inr (a, b)) (inr (c, d)) = inl (agree-trans (s .listH) a d, agree-trans (s .listG) b c)
 
+-- H = αG, so that G divides both: G is constant, and so is H
+pub apart-lists : {p : ℕ} {G H : List ℕ} → Accepted p G H → Agree p G H → ⊥
+apart-lists {p} {G} {H} s a =
+    let pr = s .prime in
+    let 𝓥 = reading p pr .𝓥 in
+    let (α, u, e) = agree-poly p pr (s .listG) (s .listH) a in
+    let unit : IsUnit 𝓥 (polynomial p pr G) = s .apart pr (polynomial p pr G) (polys 𝓥 .ops .𝟏, sym (polys 𝓥 .laws .mul-one (polynomial p pr G))) (α, e ∙ polys 𝓥 .laws .mul-comm α (polynomial p pr G)) in
+    let d : s .degG ≡ 0 = same 𝓥 (degree-has pr (s .listG)) (unit-const 𝓥 (polynomial p pr G) unit) in
+    let d′ : s .degG ≡ s .degH = agree-degree (s .listG) (s .listH) a in
+    omega (arith, s .some)
+
+pub not-both : {p n : ℕ} {l G H : List ℕ} → Degree p l n → Accepted p G H → Agree p l G → Agree p l H → ⊥
+not-both {p} h s a b = apart-lists s (agree-trans p (s .prime) h (agree-sym a) b)

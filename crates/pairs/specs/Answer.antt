@@ -4,7 +4,7 @@
 --   Pairs p G H G′ H′ k       k is the order in which the pairs agree: straight, swapped, or apart, that is, not at all
 --   Refusals p G H G′ H′ n    n is the number of the first pair's refusal; where that pair is accepted, the number of the second's, or 0
 --   Compares p G H G′ H′ a    the answer to comparing two pairs: a refusal, or whether they are of one field
--- In proofs/Once.antt: `refusals-one`, `compares-one`, two outcomes that meet them are equal.
+-- In proofs/Once.antt: `refusals-one`, `pairs-one` (of accepted pairs), `compares-one`: two outcomes that meet them are equal.
 use mathlib.Core.Path.{_≡_}
 use mathlib.Core.Logic.{_≢_}
 use mathlib.Core.Bool.{false}
