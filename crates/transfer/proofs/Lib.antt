@@ -1,1 +1,5 @@
 pub mod Leading
+pub mod Exchanging
+pub mod Multiplying
+pub mod Carrying
+pub mod Answering

@@ -1,6 +1,7 @@
 // The rows of a unit carried over from one pair to another pair of the same field. specs/Transfer.antt says what the answer and the lent
 // slice are, specs/Code.antt what the parts do.
 use long::scale;
+use pairs::Pairing;
 use residue::cube_root;
 use residue::inverse;
 use residue::mul;
@@ -62,4 +63,80 @@ fn multiplied(p: u64, x: u64, y: u64, c: usize, rows: &mut [u16])
     part(p, y, c2, c, rows);
     part(p, x, f1, c, rows);
     part(p, y, f2, c, rows);
+}
+
+// The six rows of the pair g, h for the pair g2, h2, which agrees with it in this order.
+fn carry(p: u64, g: &[u64], h: &[u64], g2: &[u64], h2: &[u64], c: usize, rows: &mut [u16])
+    requires { ⌜ CarryIn p (now g) (now h) (now g2) (now h2) c (now rows) ⌝ }
+    ensures { λ _. ⌜ Carried p (now (g .entry)) (now (h .entry)) (now (g2 .entry)) (now (h2 .entry)) c (now (rows .entry)) (now (rows .exit)) ⌝ }
+{
+    let f = factors(p, g[g.len() - 1], h[h.len() - 1], g2[g2.len() - 1], h2[h2.len() - 1]);
+    multiplied(p, f.x, f.y, c, rows);
+}
+
+// The same where they agree in the other order: E1 and E2 change places first, and so do F1 and F2.
+fn carry_swapped(
+    p: u64,
+    g: &[u64],
+    h: &[u64],
+    g2: &[u64],
+    h2: &[u64],
+    c: usize,
+    rows: &mut [u16],
+)
+    requires { ⌜ CarryIn p (now g) (now h) (now g2) (now h2) c (now rows) ⌝ }
+    ensures { λ _. ⌜ CarriedSwapped p (now (g .entry)) (now (h .entry)) (now (g2 .entry)) (now (h2 .entry)) c (now (rows .entry)) (now (rows .exit)) ⌝ }
+{
+    let c2 = c + c;
+    let f1 = c2 + c2;
+    exchange(rows, c, c2, c);
+    exchange(rows, f1, f1 + c, c);
+    carry(p, h, g, g2, h2, c, rows);
+}
+
+// Whether n is no length of six equal rows of at most 4,096 numbers.
+fn unfit(n: usize) -> bool
+    ensures { λ r. ⌜ Unfit n r ⌝ }
+{
+    if n % 6 != 0 {
+        return true;
+    }
+    if n > 24576 {
+        return true;
+    }
+    false
+}
+
+// Carries the six rows of a unit of the pair g, h over to the pair g2, h2, in place; a refusal leaves them as they are.
+pub fn transfer(
+    p: u64,
+    g: &[u64],
+    h: &[u64],
+    g2: &[u64],
+    h2: &[u64],
+    rows: &mut [u16],
+) -> u32
+    ensures { λ n. ⌜ Transfers p (now (g .entry)) (now (h .entry)) (now (g2 .entry)) (now (h2 .entry)) (now (rows .entry)) n (now (rows .exit)) ⌝ }
+{
+    let n = pairs::refusal(p, g, h, g2, h2);
+    if n != 0 {
+        return n;
+    }
+    let bad = unfit(rows.len());
+    if bad {
+        return 14;
+    }
+    let c = rows.len() / 6;
+    let k = pairs::paired(p, g, h, g2, h2);
+    match k {
+        Pairing::Straight => {
+            carry(p, g, h, g2, h2, c, rows);
+            0
+        }
+        Pairing::Swapped => {
+            carry_swapped(p, g, h, g2, h2, c, rows);
+            0
+        }
+        Pairing::Apart => 14,
+    }
 }
