@@ -1,7 +1,7 @@
 -- The factors from the leading coefficients.
 --   two-asks, inverse-asks, root-asks   what the functions on numbers mod p ask
 --   factors-law                         what they hand out are the factors
-use mathlib.Core.Path.{_≡_, sym, ap, ap₂, _∙_, subst}
+use mathlib.Core.Path.{_≡_, sym, ap, _∙_, subst}
 use mathlib.Core.Logic.{_≢_}
 use mathlib.Core.List.{[], _∷_}
 use Prim.Native.Nat.{ℕ, _%_, _<_}
@@ -17,8 +17,8 @@ use Rattle.reading.specs.Reading.{Reading}
 use Rattle.reading.specs.Made.{reading}
 use Rattle.residue.specs.Residue.{Modulus, Two, Nonzero, Rooted, Inverse, CubeRoot}
 use Rattle.pairs.specs.Rows.{Law}
-use Rattle.pairs.proofs.Lists.{mod-of, same-cast}
-use Rattle.transfer.specs.Code.{Kind, Lead, FactorsIn}
+use Rattle.transfer.specs.Code.{Kind, Lead}
+use Rattle.transfer.proofs.Laws.{law-of}
 
 module _ (p : ℕ) (k : Kind p) where
   abbrev pr : Prime p
@@ -77,23 +77,12 @@ module _ (p : ℕ) (k : Kind p) where
     full : cast g′ * (cast h′ * cast h′) * cast q ≡ 1ᵏ
     full = ap (λ z. z * cast q) (sym (rest-cast b g′ v eb ∙ ap (λ z. cast g′ * z) (rest-cast v h′ h′ ev))) ∙ inverse-cast b q iq
 
-    cast-cube : cast (N._*_ (N._*_ (N._*_ x x) x) (N._*_ g′ (N._*_ h′ h′))) ≡ cast x * cast x * cast x * (cast g′ * (cast h′ * cast h′))
-    cast-cube = ρ .cast-mul (N._*_ (N._*_ x x) x) (N._*_ g′ (N._*_ h′ h′))
-        ∙ ap₂ _*_ (ρ .cast-mul (N._*_ x x) x ∙ ap (λ z. z * cast x) (ρ .cast-mul x x)) (ρ .cast-mul g′ (N._*_ h′ h′) ∙ ap (λ z. cast g′ * z) (ρ .cast-mul h′ h′))
-
     pub factors-law : (w t i y : ℕ) → Inverse p h i → w ≡ (N._*_ x x) % p → t ≡ (N._*_ w h′) % p → y ≡ (N._*_ t i) % p → Law p x y g h g′ h′
-    factors-law w t i y ih ew et ey = record {
-      x-below = rx .below;
-      y-below = rest-below y (N._*_ t i) ey;
-      cube = mod-of p pr _ _ (cast-cube
-          ∙ solve-by K (var 0 :* var 0 :* var 0 :* (var 3 :* (var 4 :* var 4))) (var 1 :* (var 2 :* var 2))
-          (hyp (var 3 :* (var 4 :* var 4)) (var 0 :* var 0 :* var 0) (var 1 :* (var 2 :* var 2) :* var 5) ∷ hyp (var 1 :* (var 2 :* var 2)) (var 3 :* (var 4 :* var 4) :* var 5) one ∷ []) tt
-          (cast x ∷ cast g ∷ cast h ∷ cast g′ ∷ cast h′ ∷ cast q ∷ []) (cubed, (full, tt))
-          ∙ sym (ρ .cast-mul g (N._*_ h h) ∙ ap (λ z. cast g * z) (ρ .cast-mul h h)));
-      square = mod-of p pr _ _ (ρ .cast-mul y h
-          ∙ solve-by K (var 3 :* var 1) (var 0 :* var 0 :* var 2)
-          (hyp (var 1) (var 3) (var 0 :* var 0 :* var 2 :* var 4) ∷ hyp (var 0 :* var 0 :* var 2) (var 1 :* var 4) one ∷ []) tt
-          (cast x ∷ cast h ∷ cast h′ ∷ cast y ∷ cast i ∷ [])
-          (rest-cast y t i ey ∙ ap (λ z. z * cast i) (rest-cast t w h′ et ∙ ap (λ z. z * cast h′) (rest-cast w x x ew)), (inverse-cast h i ih, tt))
-          ∙ sym (ρ .cast-mul (N._*_ x x) h′ ∙ ap (λ z. z * cast h′) (ρ .cast-mul x x)));
-    }
+    factors-law w t i y ih ew et ey = law-of p pr x y g h g′ h′ (rx .below) (rest-below y (N._*_ t i) ey)
+        (solve-by K (var 0 :* var 0 :* var 0 :* (var 3 :* (var 4 :* var 4))) (var 1 :* (var 2 :* var 2))
+        (hyp (var 3 :* (var 4 :* var 4)) (var 0 :* var 0 :* var 0) (var 1 :* (var 2 :* var 2) :* var 5) ∷ hyp (var 1 :* (var 2 :* var 2)) (var 3 :* (var 4 :* var 4) :* var 5) one ∷ []) tt
+        (cast x ∷ cast g ∷ cast h ∷ cast g′ ∷ cast h′ ∷ cast q ∷ []) (cubed, (full, tt)))
+        (solve-by K (var 3 :* var 1) (var 0 :* var 0 :* var 2)
+        (hyp (var 1) (var 3) (var 0 :* var 0 :* var 2 :* var 4) ∷ hyp (var 0 :* var 0 :* var 2) (var 1 :* var 4) one ∷ []) tt
+        (cast x ∷ cast h ∷ cast h′ ∷ cast y ∷ cast i ∷ [])
+        (rest-cast y t i ey ∙ ap (λ z. z * cast i) (rest-cast t w h′ et ∙ ap (λ z. z * cast h′) (rest-cast w x x ew)), (inverse-cast h i ih, tt)))
