@@ -99,13 +99,6 @@ module _ (s b : List ℕ) (i : ℕ) (e : b ≡ part s i) where
       (subst (λ (z : List ℕ). OneField (bodyOf z) (entry s j)) e (f .found h))
       (λ k u o. f .none k u (subst (λ (z : List ℕ). OneField (bodyOf z) (entry s k)) (sym e) o)) refl
 
--- the body of an entry in hand
-pub here-yes : (s b o : List ℕ) (j : ℕ) → o ≡ part s j → OneField (bodyOf b) (bodyOf o) → OneField (bodyOf b) (entry s j)
-here-yes s b o j e = subst (λ (z : List ℕ). OneField (bodyOf b) (bodyOf z)) e
-
-pub here-no : (s b o : List ℕ) (j : ℕ) → o ≡ part s j → (OneField (bodyOf b) (bodyOf o) → ⊥) → OneField (bodyOf b) (entry s j) → ⊥
-here-no s b o j e f w = f (subst (λ (z : List ℕ). OneField (bodyOf b) (bodyOf z)) (sym e) w)
-
 -- ---- answers by their cases
 pub judge-good : (b : List ℕ) (i : ℕ) (r : Seen) → r ≡ Good → JudgeTells b i r → Formed b × FieldSays (bodyOf b) 0
 judge-good b i r e t = subst (JudgeTells b i) e t

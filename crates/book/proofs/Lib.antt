@@ -1,4 +1,5 @@
 pub mod Facts
+pub mod Search
 pub mod One
 pub mod Value
 pub mod Written

@@ -1,5 +1,8 @@
 -- What the code's own functions promise each other.
 --   Ready s i          mark and contents are right, and entry i is there
+--   EntryIn s i        it is ready, and the entries before it are sound
+--   EarlierIn s b i    mark and contents are right, there are i entries or more, and the fields of the body b and of the entries before
+--                      i are accepted: bodies whose field is not are not compared
 --   Earliest s b i j   j is the first entry before i that is of one field with the body b, or i
 --   JudgeTells b i r   the bytes b of a body, as entry i: good, or the first of the body's reasons
 --   EntryTells s i r   entry i: sound, or its first fault
@@ -15,6 +18,17 @@ pub record Ready (s : List ℕ) (i : ℕ) : Type 0 where
   pub marked : Marked s
   pub listed : Listed s
   pub there : i < count s
+
+pub record EntryIn (s : List ℕ) (i : ℕ) : Type 0 where
+  pub ready : Ready s i
+  pub before : (j : ℕ) → j < i → Sound s j
+
+pub record EarlierIn (s b : List ℕ) (i : ℕ) : Type 0 where
+  pub marked : Marked s
+  pub listed : Listed s
+  pub within : i ≤ count s
+  pub own : FieldSays (bodyOf b) 0
+  pub each : (j : ℕ) → j < i → FieldSays (entry s j) 0
 
 pub record Earliest (s : List ℕ) (b : Body) (i j : ℕ) : Type 0 where
   pub within : j ≤ i

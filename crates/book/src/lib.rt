@@ -1,11 +1,11 @@
 // The book of units, PCF1: a check of the whole book, and the part that an entry names.
 ghost use mathlib.Core.Path.{_≡_};
-ghost use Prim.Native.Nat.{_≤_, _<_};
+ghost use Prim.Native.Nat.{_<_};
 ghost use Rattle.book_bytes.specs.Decides.{Decides};
 ghost use Rattle.book_body.specs.Body.{bodyOf};
 ghost use Rattle.book.specs.Book.{Marked, Listed, count, part};
 ghost use Rattle.book.specs.Answer.{answerSays, requestSays, Tells, AskTells, AskedPart};
-ghost use Rattle.book.specs.Code.{Ready, Earliest, JudgeTells, EntryTells};
+ghost use Rattle.book.specs.Code.{Ready, EntryIn, EarlierIn, Earliest, JudgeTells, EntryTells};
 
 // The bytes of a contents entry: start and length.
 const WIDTH: usize = 8;
@@ -103,19 +103,20 @@ pub fn part_of(s: &[u8], i: usize) -> &[u8]
 
 // The first of the entries before i that is of one field with the body b, or i.
 pub fn earlier(s: &[u8], b: &[u8], i: usize) -> usize
-    requires { ⌜ Marked (now s) × Listed (now s) × (i ≤ count (now s)) ⌝ }
+    requires { ⌜ EarlierIn (now s) (now b) i ⌝ }
     ensures { λ r. ⌜ Earliest (now (s .entry)) (bodyOf (now (b .entry))) i r ⌝ }
 {
+    let mut r = i;
     let mut j: usize = 0;
-    while j < i {
+    while j < r {
         let o = part_of(s, j);
         let same = book_body::one_field(b, o);
         if same {
-            return j;
+            r = j;
         }
         j += 1;
     }
-    j
+    r
 }
 
 // A body by itself, as entry i: the body rule, then the field.
@@ -133,9 +134,9 @@ pub fn judge(b: &[u8], i: usize) -> Seen
     Seen::Good
 }
 
-// One entry of the book.
+// One entry of the book, after sound ones.
 fn entry_of(s: &[u8], i: usize) -> Seen
-    requires { ⌜ Ready (now s) i ⌝ }
+    requires { ⌜ EntryIn (now s) i ⌝ }
     ensures { λ r. ⌜ EntryTells (now (s .entry)) i r ⌝ }
 {
     let b = part_of(s, i);

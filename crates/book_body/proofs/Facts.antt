@@ -1,6 +1,5 @@
--- The code's tests against the definitions: the rule of an E list, the body rule, of one field.
+-- The code's tests against the definitions: the rule of an E list, the body rule; and a list read out.
 use mathlib.Core.Path.{_≡_, sym, ap, _∙_, subst}
-use mathlib.Core.Logic.{_≢_}
 use mathlib.Core.Bool.{Bool}
 use mathlib.Core.List.{List, _++_}
 use Prim.Native.Nat.{ℕ, _+_, _-_, _*_, _<_, _≤_}
@@ -10,7 +9,7 @@ use lib.Seq.{sets-eq, take-at}
 use Rattle.book_bytes.specs.Bytes.{u2, u4, Put}
 use Rattle.book_bytes.specs.Decides.{Decides}
 use Rattle.book_bytes.proofs.Lists.{length-list}
-use Rattle.book_body.specs.Body.{UnitList, First, FirstList, OneField, listStart, listAt, bodyOf, Formed}
+use Rattle.book_body.specs.Body.{UnitList, First, FirstList, listStart, listAt, bodyOf, Formed}
 use Rattle.book_body.specs.Said.{passed}
 use Rattle.book_body.specs.Code.{ListTells, read}
 
@@ -69,43 +68,26 @@ module _ (s : List ℕ) where
         };
       }
 
--- ---- of one field
-module _ (s t : List ℕ) where
-  pub one-p-no : (p q : ℕ) → p ≡ u2 s 0 → q ≡ u2 t 0 → p ≢ q → OneField (bodyOf s) (bodyOf t) → ⊥
-  unfolding bodyOf
-  one-p-no p q a b z o = z (a ∙ o .p ∙ sym b)
-
-  pub one-g-no : (listAt s 0 ≡ listAt t 0 → ⊥) → OneField (bodyOf s) (bodyOf t) → ⊥
-  unfolding bodyOf
-  one-g-no z o = z (o .g)
-
-  pub one-h-no : (listAt s 1 ≡ listAt t 1 → ⊥) → OneField (bodyOf s) (bodyOf t) → ⊥
-  unfolding bodyOf
-  one-h-no z o = z (o .h)
-
-  pub one-yes : (p q : ℕ) → p ≡ u2 s 0 → q ≡ u2 t 0 → p ≡ q → listAt s 0 ≡ listAt t 0 → listAt s 1 ≡ listAt t 1 → OneField (bodyOf s) (bodyOf t)
-  unfolding bodyOf
-  one-yes p q a b e g h = record { p = sym a ∙ e ∙ b; g = g; h = h }
-
 -- ---- a list read out
+-- x stands at the front of the slice d, which is d' then
+module _ {d d' x : List ℕ} {n r : ℕ} (q : Put d 0 x n r d') (h : n ≤ length d) where
+  front-long : length x ≡ r
+  front-long = omega (arith, q .size, q .next)
+
+  front-whole : d' ≡ x ++ drop (length x) d
+  front-whole =
+      let z : 0 + length x ≡ length x = omega arith in
+      q .done ∙ sets-eq x d 0 (omega (arith, q .size)) ∙ ap (λ (j : ℕ). x ++ drop j d) z
+
+  pub front-is : take r d' ≡ x
+  front-is = ap (take r) front-whole ∙ take-at x (drop (length x) d) r front-long
+
+  pub front-count : r ≡ length (take r d')
+  front-count = sym (ap length front-is ∙ front-long)
+
 module _ (s : List ℕ) (k : ℕ) (d d' : List ℕ) (r : ℕ) (h : u2 s (2 + 2 * k) ≤ length d) (q : Put d 0 (listAt s k) (u2 s (2 + 2 * k)) r d') where
-  read-long : length (listAt s k) ≡ r
-  read-long = let n : length (listAt s k) ≡ u2 s (2 + 2 * k) = length-list 16 2 s k in let e : r ≡ 0 + u2 s (2 + 2 * k) = q .next in omega arith
-
-  read-whole : d' ≡ listAt s k ++ drop (length (listAt s k)) d
-  read-whole =
-      let n : length (listAt s k) ≡ u2 s (2 + 2 * k) = length-list 16 2 s k in
-      let z : 0 + length (listAt s k) ≡ length (listAt s k) = omega arith in
-      q .done ∙ sets-eq (listAt s k) d 0 (omega arith) ∙ ap (λ (j : ℕ). listAt s k ++ drop j d) z
-
-  read-front : take r d' ≡ listAt s k
-  read-front = ap (take r) read-whole ∙ take-at (listAt s k) (drop (length (listAt s k)) d) r read-long
-
-  pub read-count : r ≡ length (take r d')
-  read-count = sym (ap length read-front ∙ read-long)
-
   pub row-decided : (p : ℕ) (b : Bool) → p ≡ u2 s 0 → Decides b (UnitList p (take r d')) → Decides b (UnitList (u2 s 0) (listAt s k))
-  row-decided p b e w = subst (λ (x : ℕ). Decides b (UnitList x (listAt s k))) e (subst (λ (l : List ℕ). Decides b (UnitList p l)) read-front w)
+  row-decided p b e w = subst (λ (x : ℕ). Decides b (UnitList x (listAt s k))) e (subst (λ (l : List ℕ). Decides b (UnitList p l)) (front-is q h) w)
 
   pub list-got : k < 5 → ListTells s k d (passed r) d'
-  list-got l = let n : length (listAt s k) ≡ u2 s (2 + 2 * k) = length-list 16 2 s k in read l (omega arith) (ap passed (sym read-long)) read-whole
+  list-got l = read l (omega (arith, q .size)) (ap passed (sym (front-long q h))) (front-whole q h)

@@ -3,14 +3,13 @@
 --   got-one     the answer itself, and the slice
 --   field-most  the field's refusal is a number up to 8
 use mathlib.Core.Path.{_≡_, refl, sym, ap, _∙_}
-use mathlib.Core.Logic.{_⊎_, inl, inr}
+use mathlib.Core.Logic.{inl, inr}
 use mathlib.Core.List.{List}
-use Prim.Native.Nat.{ℕ, zero, suc, _-_, _<_, _≤_}
+use Prim.Native.Nat.{ℕ, zero, suc, _-_, _≤_}
 use native.Mathlib.Omega.{arith}
-use lib.ListN.{length}
 use Rattle.field.specs.Refusal.{Fault1, Fault2, Fault3, Fault4, Fault5, Fault6, Fault7, Fault8, Stage, Refusal}
 use Rattle.book_body.specs.Said.{Said}
-use Rattle.book_body.specs.Body.{Body, FieldSays, listAt}
+use Rattle.book_body.specs.Body.{Body, FieldSays}
 use Rattle.book_body.specs.Code.{gotSays, ListTells, read, none, short}
 use Rattle.book_body.specs.declared.Got.{Got}
 use Rattle.book_body.specs.declared.Got.the-variants.{Length, Short, NoList}

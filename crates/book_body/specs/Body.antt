@@ -5,18 +5,20 @@
 --                   coefficient
 --   Rule b          the body rule
 --   FieldSays b n   n is the number of the field's refusal, 1 to 8, or 0: p, G, H are accepted
---   OneField a b    two bodies are of one field
+--   OneField a b    two bodies are of one field: p is the same, and the pairs G, H agree after all lists are made monic, in either order
 --   bodyBytes b     the body's bytes: p, the lengths of the lists, the period, the lists
 --   bodyOf s        the value that bytes say
 --   Formed s        the bytes' length is right, and what they say obeys the body rule
 --   Finished s      they are formed, and their field is accepted
--- That a body written reads back, and that bytes of the right length are the writing of what they say, is in proofs/Body.antt.
+-- That a body written reads back, and that bytes of the right length are the writing of what they say, is in proofs/Body.antt; that
+-- OneField is an equivalence on bodies whose field is accepted is in proofs/Relation.antt: one-refl, one-sym, one-trans.
 use mathlib.Core.Path.{_≡_}
 use mathlib.Core.Logic.{_≢_}
 use mathlib.Core.List.{List, [], _∷_, _++_}
 use Prim.Native.Nat.{ℕ, _-_, _%_, _<_, _≤_}
 use lib.ListN.{length, getD}
 use Rattle.field.specs.Refusal.{Refusal}
+use Rattle.pairs.specs.OneField as pairs
 use Rattle.book_bytes.specs.Bytes.{le, words, u2, u4}
 use Rattle.book_bytes.specs.Bytes as bytes
 
@@ -57,8 +59,7 @@ FieldSays b = Refusal (b .p) (b .G) (b .H)
 
 pub record OneField (a b : Body) : Type 0 where
   pub p : a .p ≡ b .p
-  pub g : a .G ≡ b .G
-  pub h : a .H ≡ b .H
+  pub pair : pairs.OneField (a .p) (a .G) (a .H) (b .G) (b .H)
 
 -- ---- as bytes
 abbrev pub joined : List (List ℕ) → List ℕ

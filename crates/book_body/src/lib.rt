@@ -6,7 +6,7 @@ ghost use Rattle.reading.specs.Row.{tab};
 ghost use Rattle.book_bytes.specs.Bytes.{u2};
 ghost use Rattle.book_bytes.specs.Decides.{Decides};
 ghost use Rattle.book_body.specs.Body.{UnitList, First, FirstList, FieldSays, OneField, listAt, bodyOf, Formed};
-ghost use Rattle.book_body.specs.Code.{Clipped, gotSays, ListTells};
+ghost use Rattle.book_body.specs.Code.{BothSold, BothOver, Clipped, gotSays, ListTells};
 
 // The bytes before the lists, and where among them the lists' lengths stand.
 pub const HEAD: usize = 16;
@@ -121,8 +121,26 @@ pub fn body_rule(s: &[u8]) -> bool
     true
 }
 
-// Are two bodies of one field?
+// Are two bodies over one p of one field? The lists of an accepted field are short.
+fn same_pair(a: &[u8], b: &[u8]) -> bool
+    requires { ⌜ BothOver (now a) (now b) ⌝ }
+    ensures { λ r. ⌜ Decides r (OneField (bodyOf (now (a .entry))) (bodyOf (now (b .entry)))) ⌝ }
+{
+    let p = book_bytes::two(a, 0);
+    let mut g: [u64; 13] = [0; 13];
+    let mut h: [u64; 13] = [0; 13];
+    let mut g2: [u64; 13] = [0; 13];
+    let mut h2: [u64; 13] = [0; 13];
+    let n = book_bytes::read_list(a, HEAD, LENGTHS, 0, &mut g);
+    let m = book_bytes::read_list(a, HEAD, LENGTHS, 1, &mut h);
+    let n2 = book_bytes::read_list(b, HEAD, LENGTHS, 0, &mut g2);
+    let m2 = book_bytes::read_list(b, HEAD, LENGTHS, 1, &mut h2);
+    pairs::one_field(p as u64, &g[..n], &h[..m], &g2[..n2], &h2[..m2])
+}
+
+// Are two bodies of one field? Bodies over different primes never are.
 pub fn one_field(a: &[u8], b: &[u8]) -> bool
+    requires { ⌜ BothSold (now a) (now b) ⌝ }
     ensures { λ r. ⌜ Decides r (OneField (bodyOf (now (a .entry))) (bodyOf (now (b .entry)))) ⌝ }
 {
     let p = book_bytes::two(a, 0);
@@ -130,15 +148,7 @@ pub fn one_field(a: &[u8], b: &[u8]) -> bool
     if p != q {
         return false;
     }
-    let g = book_bytes::same_list(a, b, HEAD, LENGTHS, 0);
-    if !g {
-        return false;
-    }
-    let h = book_bytes::same_list(a, b, HEAD, LENGTHS, 1);
-    if !h {
-        return false;
-    }
-    true
+    same_pair(a, b)
 }
 
 // The first 14 coefficients of list k: one more than a field's lists may have.

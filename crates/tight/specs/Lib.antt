@@ -9,6 +9,7 @@
 --   sized         for a prime p: mix_in, both_in, times_in, det_in, quotient_in: mix-in-one, both-in-one, times-in-one, det-in-one,
 --                 quotient-in-one (Sized)
 --   field         list_length: list-one (field/proofs/Parts); refusal: refusal-one; open: opens-one (field/proofs)
+--   pairs         one_field: decides-one (Tests); paired, refusal, compare: pairs-one, refusals-one, compares-one (pairs/proofs/Once)
 --   series        series, open_with_series: answer-one, expands-one (series/proofs/Answer)
 --   reduce        part: part-one; lead_of, where the size has a degree: lead-of-one; reduced, up to constants: reduced-one (Reduction)
 --   generators    det: det-one; divided, up to a constant: divided-one, and its lengths: divided-lengths (Generators)

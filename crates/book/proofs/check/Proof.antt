@@ -36,7 +36,7 @@ loop-holds : tie.Need-loop-holds Inv-loop μ-loop
 loop-holds c = (c .before .before .before .before .marked .ensures .yes! (not-false _ (c .before .before .before .if1 .left)), c .before .before .listed .ensures .yes! (not-false _ (c .before .if2 .left)), c .bodies .ensures .0, c .bodies .ensures .1, omega arith, λ k h. absurd (omega arith))
 
 entry-of-requires : tie.Need-entry-of-requires Inv-loop μ-loop
-entry-of-requires c κs = record { marked = c .before .loop .inv .0; listed = c .before .loop .inv .1; there = omega arith }
+entry-of-requires c κs = let w = c .before .loop .inv in record { ready = record { marked = w .0; listed = w .1; there = omega arith }; before = w .5 }
 
 enum-told : tie.Need-enum-told Inv-loop μ-loop
 enum-told c = search needs

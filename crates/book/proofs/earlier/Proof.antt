@@ -1,31 +1,27 @@
 -- `book::earlier` meets its contract.
-use borrow.Author.Count.{below-more}
-use Rattle.book_body.specs.Body.{OneField, bodyOf}
-use Rattle.book.specs.Book.{entry}
-use Rattle.book.proofs.Facts.{here-yes, here-no}
-use Prim.Native.Nat.{ℕ, _≤_, _<_, _-_}
+use mathlib.Core.Logic.{⊎-elim}
+use Prim.Native.Nat.{_-_}
 use native.Mathlib.Omega.{arith}
 use borrow.Author.Needs.{needs}
+use Rattle.book_body.specs.Body.{bodyOf}
+use Rattle.book.proofs.Search.{Search, start, hit, miss, end, sold-here}
 use Rattle.book.proofs.earlier.Statement.{statement}
 use Rattle.book.proofs.earlier.Tie as tie
 
 abbrev Inv-loop : tie.InvT-loop
-Inv-loop s b i j₀ j = (j ≤ i) × ((k : ℕ) → k < j → OneField (bodyOf b) (entry s k) → ⊥)
+Inv-loop s b i r₀ j₀ r j = Search s (bodyOf b) i r j
 
 abbrev μ-loop : tie.MeasureT-loop
-μ-loop s b i j₀ j = i - j
+μ-loop s b i r₀ j₀ r j = i - j
 
 loop-holds : tie.Need-loop-holds Inv-loop μ-loop
-loop-holds c = (omega arith, λ k l. absurd (omega arith))
+loop-holds c = start
 
 part-of-requires : tie.Need-part-of-requires Inv-loop μ-loop
-part-of-requires c κs = record { marked = c .before .before .before .before .pre .0; listed = c .before .before .before .before .pre .1; there = omega arith }
+part-of-requires c κs = let s = c .before .before .before .before .pre in record { marked = s .marked; listed = s .listed; there = omega (arith, s .within, c .before .loop .inv .within) }
 
 one-field-requires : tie.Need-one-field-requires Inv-loop μ-loop
-one-field-requires c κs = search needs
-
-returns : tie.Need-returns Inv-loop μ-loop
-returns c = let a = c .before .before .before .before .before .before .before .args in record { within = omega arith; none = c .before .before .before .before .loop .inv .1; found = λ h. here-yes (a .s .now) (a .b .now) _ (c .before .before .before .before .loop .j) (c .before .before .part-of .ensures) (c .before .one-field .ensures .yes! (c .if1 .taken)) }
+one-field-requires c κs = let s = c .before .before .before .before .before in sold-here (s .args .s .now) (s .args .b .now) _ (s .args .i) (c .before .before .loop .j) (s .pre) (omega (arith, c .before .before .loop .inv .within)) (c .part-of .ensures)
 
 add-j : tie.Need-add-j Inv-loop μ-loop
 add-j c = search needs
@@ -34,10 +30,14 @@ loop-less : tie.Need-loop-less Inv-loop μ-loop
 loop-less c = search needs
 
 loop-again : tie.Need-loop-again Inv-loop μ-loop
-loop-again c = let a = c .before .before .before .before .before .before .before .args in (omega arith, below-more _ _ (c .before .before .before .before .loop .inv .1) (here-no (a .s .now) (a .b .now) _ (c .before .before .before .before .loop .j) (c .before .before .part-of .ensures) (c .before .one-field .ensures .no! (c .if1 .left))))
+loop-again c =
+    let w = c .before .before .before .before .loop .inv in
+    let o = c .before .before .part-of .ensures in
+    let d = c .before .one-field .ensures in
+    ⊎-elim (λ u. hit w (u .1) (omega arith) o (d .yes! (u .0 .taken))) (λ u. miss w (u .1) o (d .no! (u .0 .left))) (c .if1 .came)
 
-returns-2 : tie.Need-returns-2 Inv-loop μ-loop
-returns-2 c = record { within = omega arith; none = c .before .loop .inv .1; found = λ h. absurd (omega arith) }
+returns : tie.Need-returns Inv-loop μ-loop
+returns c = end (c .before .loop .inv) (omega arith)
 
 pub earlier-spec : {M : Type 1} → statement M
 earlier-spec =
@@ -48,8 +48,7 @@ earlier-spec =
     loop-holds
     part-of-requires
     one-field-requires
-    returns
     add-j
     loop-less
     loop-again
-    returns-2)
+    returns)

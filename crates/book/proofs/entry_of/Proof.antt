@@ -6,7 +6,7 @@ use Rattle.book.proofs.entry_of.Statement.{statement}
 use Rattle.book.proofs.entry_of.Tie as tie
 
 part-of-requires : tie.Need-part-of-requires
-part-of-requires c κs = search needs
+part-of-requires c κs = c .before .pre .ready
 
 judge-requires : tie.Need-judge-requires
 judge-requires c κs = search needs
@@ -15,7 +15,7 @@ enum-told : tie.Need-enum-told
 enum-told c = search needs
 
 earlier-requires : tie.Need-earlier-requires
-earlier-requires c κs = (c .before .before .before .before .before .pre .marked, c .before .before .before .before .before .pre .listed, let h = c .before .before .before .before .before .pre .there in omega arith)
+earlier-requires c κs = let s = c .before .before .before .before .before in let w = s .pre in record { marked = w .ready .marked; listed = w .ready .listed; within = omega (arith, w .ready .there); own = judge-good _ (s .args .i) _ (c .enum-told .given .1) (c .before .before .judge .ensures) .1; each = λ j h. w .before j h .field }
 
 returns : tie.Need-returns
 returns c = let a = c .before .before .before .before .before .before .before .args in twice-here (a .s .now) _ (a .i) (c .before .before .before .before .before .part-of .ensures) _ (c .if1 .taken) (judge-good _ (a .i) _ (c .before .before .enum-told .given .1) (c .before .before .before .before .judge .ensures)) (c .before .earlier .ensures)

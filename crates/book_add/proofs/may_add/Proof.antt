@@ -23,7 +23,7 @@ enum-told-2 : tie.Need-enum-told-2
 enum-told-2 c = search needs
 
 earlier-requires : tie.Need-earlier-requires
-earlier-requires c κs = let a = yes-of _ _ (c .before .before .before .before .enum-told .given .1) (c .before .before .before .before .before .before .check .ensures) in (a .marked, a .listed, let n = c .before .before .before .bodies .ensures .0 in omega arith)
+earlier-requires c κs = let a = yes-of _ _ (c .before .before .before .before .enum-told .given .1) (c .before .before .before .before .before .before .check .ensures) in let n = c .before .before .before .bodies .ensures .0 in record { marked = a .marked; listed = a .listed; within = omega arith; own = judge-good _ _ _ (c .enum-told2 .given .1) (c .before .before .judge .ensures) .1; each = λ j h. a .good j (omega arith) .field }
 
 returns : tie.Need-returns
 returns c = let a = c .before .before .before .before .before .before .before .before .before .before .before .args in has-of (a .s .now) (a .b .now) _ _ (c .before .before .before .before .before .bodies .ensures .0) (c .if1 .taken) (yes-of _ _ (c .before .before .before .before .before .before .enum-told .given .1) (c .before .before .before .before .before .before .before .before .check .ensures)) (finished (a .b .now) (judge-good (a .b .now) _ _ (c .before .before .enum-told2 .given .1) (c .before .before .before .before .judge .ensures))) (c .before .earlier .ensures)

@@ -2,7 +2,6 @@
 use borrow.Author.Tests.{not-true, not-false}
 use Rattle.book_bytes.proofs.Tests.{answer-yes, answer-no}
 use Rattle.book_body.proofs.Facts.{body-from, body-to, body-row0, body-row1, body-row2, body-first, body-yes, first-some}
-use mathlib.Core.Path.{_∙_, sym}
 use native.Mathlib.Omega.{arith}
 use borrow.Author.Needs.{needs}
 use Rattle.book_body.proofs.body_rule.Statement.{statement}

@@ -4,7 +4,7 @@ use mathlib.Core.Path.{_≡_, refl}
 use native.Mathlib.Omega.{arith}
 use lib.ListN.{length, replicate}
 use Rattle.book_bytes.proofs.Tests.{answer-no}
-use Rattle.book_body.proofs.Facts.{row-short, read-count, row-decided}
+use Rattle.book_body.proofs.Facts.{row-short, front-count, row-decided}
 use borrow.Author.Needs.{needs}
 use Rattle.book_body.proofs.unit_at.Statement.{statement}
 use Rattle.book_body.proofs.unit_at.Tie as tie
@@ -34,7 +34,7 @@ array-share-prefix-l : tie.Need-array-share-prefix-l
 array-share-prefix-l c = search needs
 
 slice-aggregate-unit-list : tie.Need-slice-aggregate-unit-list
-slice-aggregate-unit-list c = read-count (c .before .before .before .before .before .before .before .before .args .s .now) (c .before .before .before .before .before .before .before .before .args .k) (replicate 4096 0) _ _ (let e : length {A = ℕ} (replicate 4096 0) ≡ 4096 = refl in omega arith) (c .before .before .read-list .ensures)
+slice-aggregate-unit-list c = front-count (c .before .before .read-list .ensures) (let e : length {A = ℕ} (replicate 4096 0) ≡ 4096 = refl in omega arith)
 
 unit-list-requires : tie.Need-unit-list-requires
 unit-list-requires c κs = search needs
