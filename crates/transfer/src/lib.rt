@@ -70,20 +70,16 @@ fn carry(p: u64, g: &[u64], h: &[u64], g2: &[u64], h2: &[u64], c: usize, rows: &
     requires { ⌜ CarryIn p (now g) (now h) (now g2) (now h2) c (now rows) ⌝ }
     ensures { λ _. ⌜ Carried p (now (g .entry)) (now (h .entry)) (now (g2 .entry)) (now (h2 .entry)) c (now (rows .entry)) (now (rows .exit)) ⌝ }
 {
-    let f = factors(p, g[g.len() - 1], h[h.len() - 1], g2[g2.len() - 1], h2[h2.len() - 1]);
+    let a = g[g.len() - 1];
+    let b = h[h.len() - 1];
+    let d = g2[g2.len() - 1];
+    let e = h2[h2.len() - 1];
+    let f = factors(p, a, b, d, e);
     multiplied(p, f.x, f.y, c, rows);
 }
 
 // The same where they agree in the other order: E1 and E2 change places first, and so do F1 and F2.
-fn carry_swapped(
-    p: u64,
-    g: &[u64],
-    h: &[u64],
-    g2: &[u64],
-    h2: &[u64],
-    c: usize,
-    rows: &mut [u16],
-)
+fn carry_swapped(p: u64, g: &[u64], h: &[u64], g2: &[u64], h2: &[u64], c: usize, rows: &mut [u16])
     requires { ⌜ CarryIn p (now g) (now h) (now g2) (now h2) c (now rows) ⌝ }
     ensures { λ _. ⌜ CarriedSwapped p (now (g .entry)) (now (h .entry)) (now (g2 .entry)) (now (h2 .entry)) c (now (rows .entry)) (now (rows .exit)) ⌝ }
 {
@@ -108,14 +104,7 @@ fn unfit(n: usize) -> bool
 }
 
 // Carries the six rows of a unit of the pair g, h over to the pair g2, h2, in place; a refusal leaves them as they are.
-pub fn transfer(
-    p: u64,
-    g: &[u64],
-    h: &[u64],
-    g2: &[u64],
-    h2: &[u64],
-    rows: &mut [u16],
-) -> u32
+pub fn transfer(p: u64, g: &[u64], h: &[u64], g2: &[u64], h2: &[u64], rows: &mut [u16]) -> u32
     ensures { λ n. ⌜ Transfers p (now (g .entry)) (now (h .entry)) (now (g2 .entry)) (now (h2 .entry)) (now (rows .entry)) n (now (rows .exit)) ⌝ }
 {
     let n = pairs::refusal(p, g, h, g2, h2);
