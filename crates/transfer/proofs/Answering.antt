@@ -5,10 +5,10 @@
 use mathlib.Core.Path.{_≡_, refl, subst}
 use mathlib.Core.Bool.{Bool, true, false}
 use mathlib.Core.List.{List}
-use Prim.Native.Nat.{ℕ, _*_, _/_, _%_, _<_, _≤_}
+use Prim.Native.Nat.{ℕ, _*_, _/_, _%_, _≤_}
 use native.Mathlib.Omega.{arith}
 use lib.ListN.{length}
-use Rattle.pairs.specs.Answer.{Both, Pairs, Refusals}
+use Rattle.pairs.specs.Answer.{Pairs, Refusals}
 use Rattle.pairs.specs.Rows.{straight, crossed}
 use Rattle.pairs.specs.declared.Pairing.{Pairing}
 use Rattle.pairs.specs.declared.Pairing.the-variants.{Straight, Swapped, Apart}

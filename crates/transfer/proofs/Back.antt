@@ -2,10 +2,9 @@
 --   there-and-back    of rows
 --   transfers-back    of the function: what it carried over it carries back
 -- The numbers are to be below p: a number of p or more in E1, E2, F1 or F2 comes back as its remainder.
-use mathlib.Core.Path.{_≡_, refl, sym, ap, _∙_, subst}
-use mathlib.Core.Logic.{_≢_}
+use mathlib.Core.Path.{_≡_, refl, ap, _∙_, subst}
 use mathlib.Core.List.{List, [], _∷_}
-use Prim.Native.Nat.{ℕ, _+_, _%_, _<_, _≤_}
+use Prim.Native.Nat.{ℕ, _+_, _%_, _<_}
 use Prim.Native.Nat as N
 use native.Mathlib.Nat.{mod-lt}
 use native.Mathlib.Omega.{arith}
@@ -17,10 +16,9 @@ use Rattle.valued.specs.Val.{Valued}
 use Rattle.reading.specs.Reading.{Reading}
 use Rattle.reading.specs.Made.{reading}
 use Rattle.reading.proofs.Unique.{cast-inj}
-use Rattle.field.specs.Refusal.{Accepted}
 use Rattle.field.proofs.Accept.{accepted-none}
 use Rattle.pairs.specs.OneField.{leading}
-use Rattle.pairs.specs.Rows.{Law, Stays, Times, Straight, Crossed, RowsCarry, straight, crossed}
+use Rattle.pairs.specs.Rows.{Stays, Times, Straight, Crossed, RowsCarry, straight, crossed}
 use Rattle.pairs.specs.Answer.{Both, Refusals, second}
 use Rattle.pairs.proofs.Lists.{agree-sym, leading-not}
 use Rattle.pairs.proofs.Relation.{not-both, one-sym}

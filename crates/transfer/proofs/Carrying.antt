@@ -1,50 +1,41 @@
 -- From one pair to another that agrees with it, in either order.
---   leads            the leading coefficients are numbers from 1 to p − 1
+--   lead             a leading coefficient is a number from 1 to p − 1
 --   multiply-asks    the factors are below p
 --   carried-made     the rows times the factors
 --   swapped-asks, swapped-made   the rows exchanged first, then carried over from H, G
-use mathlib.Core.Path.{_≡_, sym, ap, _∙_}
+use mathlib.Core.Path.{_≡_, ap, _∙_}
 use mathlib.Core.Logic.{_≢_}
 use mathlib.Core.List.{List}
-use Prim.Native.Nat.{ℕ, _+_, _*_, _%_, _<_, _≤_}
+use Prim.Native.Nat.{ℕ, _+_, _*_, _%_, _<_}
 use native.Mathlib.Omega.{arith}
-use lib.ListN.{length, getD}
+use lib.ListN.{length}
 use Rattle.field.specs.Refusal.{Degree}
-use Rattle.pairs.specs.OneField.{leading, Coefficients}
+use Rattle.pairs.specs.OneField.{leading}
 use Rattle.pairs.specs.Rows.{Law, Crossed}
 use Rattle.pairs.proofs.Lists.{leading-below, leading-some}
-use Rattle.transfer.specs.Code.{Kind, Lead, FactorsIn, Exchanged, MultiplyIn, Multiplied, CarryIn, Carried, CarriedSwapped}
+use Rattle.transfer.specs.Code.{Kind, Lead, Exchanged, MultiplyIn, Multiplied, CarryIn, Carried, CarriedSwapped}
 use Rattle.transfer.proofs.Exchanging.{first-at, second-at}
 
-lead : (p : ℕ) → Kind p → {l : List ℕ} {n : ℕ} → Degree p l n → Lead p (leading l)
+pub lead : (p : ℕ) → Kind p → {l : List ℕ} {n : ℕ} → Degree p l n → Lead p (leading l)
 lead p k {l} d = record { some = let f : leading l ≢ 0 = leading-some p (k .prime) d in omega arith; below = leading-below p (k .prime) d }
 
 module _ (p : ℕ) (G H G′ H′ : List ℕ) (c : ℕ) (l : List ℕ) (h : CarryIn p G H G′ H′ c l) where
-  pub leads : FactorsIn p (leading G) (leading H) (leading G′) (leading H′)
-  leads = record {
-    modulus = h .modulus;
-    g-lead = lead p (h .modulus) (h .first .listG);
-    h-lead = lead p (h .modulus) (h .first .listH);
-    g′-lead = lead p (h .modulus) (h .second .listG);
-    h′-lead = lead p (h .modulus) (h .second .listH);
-  }
+  pub multiply-asks : (x y : ℕ) → x < p → y < p → MultiplyIn p x y c l
+  multiply-asks x y u v = record { modulus = record { big = h .modulus .prime .big; small = h .modulus .small }; x-below = u; y-below = v; whole = h .whole }
 
   module _ (x y : ℕ) (w : Law p x y (leading G) (leading H) (leading G′) (leading H′)) where
-    pub multiply-asks : MultiplyIn p x y c l
-    multiply-asks = record { modulus = record { big = h .modulus .prime .big; small = h .modulus .small }; x-below = w .x-below; y-below = w .y-below; whole = h .whole }
-
     pub carried-made : (l′ : List ℕ) → Multiplied p x y c l l′ → Carried p G H G′ H′ c l l′
     carried-made l′ m = record { size = m .size; x = x; y = y; law = w; E = m .E; F = m .F }
 
-  module _ (l₁ l₂ : List ℕ) (a : Exchanged c (c + c) c l l₁) (b : Exchanged (c + c + (c + c)) (c + c + (c + c) + c) c l₁ l₂) where
-    pub swapped-asks : CarryIn p H G G′ H′ c l₂
-    swapped-asks = record {
-      modulus = h .modulus;
-      first = record { degG = h .first .degH; degH = h .first .degG; listG = h .first .listH; listH = h .first .listG };
-      second = h .second;
-      whole = b .size ∙ a .size ∙ h .whole;
-    }
+  pub swapped-asks : (l′ : List ℕ) → length l′ ≡ length l → CarryIn p H G G′ H′ c l′
+  swapped-asks l′ e = record {
+    modulus = h .modulus;
+    first = record { degG = h .first .degH; degH = h .first .degG; listG = h .first .listH; listH = h .first .listG };
+    second = h .second;
+    whole = e ∙ h .whole;
+  }
 
+  module _ (l₁ l₂ : List ℕ) (a : Exchanged c (c + c) c l l₁) (b : Exchanged (c + c + (c + c)) (c + c + (c + c) + c) c l₁ l₂) where
     module _ (l₃ : List ℕ) (d : Carried p H G G′ H′ c l₂ l₃) where
       E : Crossed p c (d .x) (d .y) l 0 l₃
       E = record {

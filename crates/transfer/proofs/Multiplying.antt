@@ -3,15 +3,15 @@
 --   multiplied-made   four parts one after the other, E0 and F0 left out
 use mathlib.Core.Path.{_≡_, sym, ap, _∙_, subst}
 use mathlib.Core.List.{List, _++_}
-use Prim.Native.Nat.{ℕ, _+_, _*_, _-_, _%_, _<_, _≤_}
+use Prim.Native.Nat.{ℕ, _+_, _*_, _-_, _%_, _<_}
 use native.Mathlib.Nat.{mul-comm}
 use native.Mathlib.Omega.{arith}
 use lib.ListN.{length, getD, take, drop}
 use lib.Seq.{getD-take, getD-drop}
 use Rattle.long.specs.Long.{Scaled}
 use Rattle.six.proofs.Parts.{mid, mid-length, Put, put-back}
-use Rattle.pairs.specs.Rows.{Stays, Times, Straight}
-use Rattle.transfer.specs.Code.{PartIn, Part, MultiplyIn, Multiplied}
+use Rattle.pairs.specs.Rows.{Straight}
+use Rattle.transfer.specs.Code.{PartIn, Part, Multiplied}
 
 module _ (p k at c : ℕ) (l : List ℕ) (h : PartIn p k at c l) where
   long : length (mid at (at + c) l) ≡ c

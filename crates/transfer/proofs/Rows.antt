@@ -13,10 +13,9 @@ use native.Mathlib.Omega.{arith}
 use native.Mathlib.Decide.{decLt}
 use lib.ListN.{length, getD, List·getD-eq-default}
 use lib.Seq.{ext-getD}
-use Rattle.fp.specs.Fp.{Prime}
 use Rattle.field.specs.Refusal.{Accepted}
-use Rattle.pairs.specs.OneField.{leading, OneField}
-use Rattle.pairs.specs.Rows.{Law, Stays, Times, Straight, Crossed, RowsCarry, straight, crossed}
+use Rattle.pairs.specs.OneField.{OneField}
+use Rattle.pairs.specs.Rows.{Stays, Times, Straight, Crossed, RowsCarry, straight, crossed}
 use Rattle.pairs.specs.Answer.{Both}
 use Rattle.pairs.proofs.Lists.{leading-not}
 use Rattle.pairs.proofs.Relation.{not-both}

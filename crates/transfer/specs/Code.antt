@@ -1,4 +1,5 @@
 -- What the inner functions ask and hand out.
+--   Kind p          a prime with p mod 3 = 2 whose remainders are stored in 16 bits
 --   Lead p a        a number from 1 to p − 1: a leading coefficient
 --   factors         the factors x and y: `Law` of crate pairs
 --   exchange        Exchanged: c numbers from place a on and those from place b on have changed places, the others stay
@@ -17,7 +18,6 @@ use Rattle.long.specs.Long.{Storable}
 use Rattle.pairs.specs.OneField.{leading, Coefficients}
 use Rattle.pairs.specs.Rows.{Law, Times, Straight, Crossed}
 
--- primes of the table
 pub record Kind (p : ℕ) : Type 0 where
   pub prime : Prime p
   pub kind : p % 3 ≡ 2

@@ -1,12 +1,12 @@
 -- Carrying the six rows of a unit from one pair to another pair of the same field (request E3: "say how the rows of the unit carry over").
---   Lent c rows    the slice holds E0, E1, E2, F0, F1, F2 of c numbers each, c at most 4,096
+--   Lent c rows                          the slice holds E0, E1, E2, F0, F1, F2 of c numbers each, c at most 4,096
 --   Transfers p G H G′ H′ rows n rows′   the number handed out and the slice after it: 1 to 8 of the first pair, 1 to 8 of the second, 14
---                  where the pairs are not of one field or the slice has another length, and 0 where the rows are carried over; a refusal
---                  leaves the slice as it was
--- How rows carry over is `RowsCarry` of crate pairs. It takes rows of any numbers; that the rows of a unit become those of the unit stands
--- with the theory.
--- In proofs/: Once (`transfers-one`: one outcome for each input), Back (`there-and-back`: to the other pair and back nothing changes),
--- Rows (`carried-below`: numbers that were multiplied are below p).
+--                                        where the slice has another length or the pairs are not of one field, 0 where the rows are carried
+--                                        over; a refusal leaves the slice as it was
+-- How rows carry over is `RowsCarry` of crate pairs. The rows may hold any numbers: that the rows of the one pair's unit become
+-- those of the other's is a theorem about `RowsCarry` alone.
+-- In proofs/: Once (`transfers-one`: one outcome for each input), Back (`there-and-back`, `transfers-back`: rows carried over and back are the
+-- rows), Rows (`rows-one`: the pairs settle the rows; `carried-below`, `carried-each`: numbers below p).
 use mathlib.Core.Path.{_≡_}
 use mathlib.Core.Logic.{_≢_}
 use mathlib.Core.List.{List}

@@ -70,13 +70,11 @@ fn carry(p: u64, g: &[u64], h: &[u64], g2: &[u64], h2: &[u64], c: usize, rows: &
     requires { ⌜ CarryIn p (now g) (now h) (now g2) (now h2) c (now rows) ⌝ }
     ensures { λ _. ⌜ Carried p (now (g .entry)) (now (h .entry)) (now (g2 .entry)) (now (h2 .entry)) c (now (rows .entry)) (now (rows .exit)) ⌝ }
 {
-    let f = factors(
-        p,
-        g[g.len() - 1],
-        h[h.len() - 1],
-        g2[g2.len() - 1],
-        h2[h2.len() - 1],
-    );
+    let a = g[g.len() - 1];
+    let b = h[h.len() - 1];
+    let d = g2[g2.len() - 1];
+    let e = h2[h2.len() - 1];
+    let f = factors(p, a, b, d, e);
     multiplied(p, f.x, f.y, c, rows);
 }
 

@@ -1,50 +1,53 @@
 -- `carry` meets its contract: proofs/Carrying.antt.
 use borrow.Author.Needs.{needs}
-use Rattle.transfer.proofs.Carrying.{leads, multiply-asks, carried-made}
+use Rattle.transfer.proofs.Carrying.{lead, multiply-asks, carried-made}
 use Rattle.transfer.proofs.carry.Statement.{statement}
 use Rattle.transfer.proofs.carry.Tie as tie
 
-sub-factors : tie.Need-sub-factors
-sub-factors c = search needs
+sub-a : tie.Need-sub-a
+sub-a c = search needs
 
-mul-factors : tie.Need-mul-factors
-mul-factors c = search needs
+mul-a : tie.Need-mul-a
+mul-a c = search needs
 
-shared-slice-read-factors : tie.Need-shared-slice-read-factors
-shared-slice-read-factors c = search needs
+shared-slice-read-a : tie.Need-shared-slice-read-a
+shared-slice-read-a c = search needs
 
-sub-factors-2 : tie.Need-sub-factors-2
-sub-factors-2 c = search needs
+sub-b : tie.Need-sub-b
+sub-b c = search needs
 
-mul-factors-2 : tie.Need-mul-factors-2
-mul-factors-2 c = search needs
+mul-b : tie.Need-mul-b
+mul-b c = search needs
 
-shared-slice-read-factors-2 : tie.Need-shared-slice-read-factors-2
-shared-slice-read-factors-2 c = search needs
+shared-slice-read-b : tie.Need-shared-slice-read-b
+shared-slice-read-b c = search needs
 
-sub-factors-3 : tie.Need-sub-factors-3
-sub-factors-3 c = search needs
+sub-d : tie.Need-sub-d
+sub-d c = search needs
 
-mul-factors-3 : tie.Need-mul-factors-3
-mul-factors-3 c = search needs
+mul-d : tie.Need-mul-d
+mul-d c = search needs
 
-shared-slice-read-factors-3 : tie.Need-shared-slice-read-factors-3
-shared-slice-read-factors-3 c = search needs
+shared-slice-read-d : tie.Need-shared-slice-read-d
+shared-slice-read-d c = search needs
 
-sub-factors-4 : tie.Need-sub-factors-4
-sub-factors-4 c = search needs
+sub-e : tie.Need-sub-e
+sub-e c = search needs
 
-mul-factors-4 : tie.Need-mul-factors-4
-mul-factors-4 c = search needs
+mul-e : tie.Need-mul-e
+mul-e c = search needs
 
-shared-slice-read-factors-4 : tie.Need-shared-slice-read-factors-4
-shared-slice-read-factors-4 c = search needs
+shared-slice-read-e : tie.Need-shared-slice-read-e
+shared-slice-read-e c = search needs
 
 factors-requires : tie.Need-factors-requires
-factors-requires c κs = let s = c .before .before .before .before .before .before .before .before .before in leads (s .args .p) (s .args .g .now) (s .args .h .now) (s .args .g2 .now) (s .args .h2 .now) (s .args .c) (s .args .rows .now) (s .pre)
+factors-requires c κs =
+    let s = c .before .before .before .before .before .before .before .before .before in
+    let k = s .pre .modulus in
+    search (k, lead (s .args .p) k (s .pre .first .listG), lead (s .args .p) k (s .pre .first .listH), lead (s .args .p) k (s .pre .second .listG), lead (s .args .p) k (s .pre .second .listH))
 
 multiplied-requires : tie.Need-multiplied-requires
-multiplied-requires c κs = let s = c .before .before .before .before .before .before .before .before .before .before .before in multiply-asks (s .args .p) (s .args .g .now) (s .args .h .now) (s .args .g2 .now) (s .args .h2 .now) (s .args .c) (s .args .rows .now) (s .pre) _ _ (c .before .factors .ensures)
+multiplied-requires c κs = let s = c .before .before .before .before .before .before .before .before .before .before .before in multiply-asks (s .args .p) (s .args .g .now) (s .args .h .now) (s .args .g2 .now) (s .args .h2 .now) (s .args .c) (s .args .rows .now) (s .pre) _ _ (c .before .factors .ensures .x-below) (c .before .factors .ensures .y-below)
 
 same-length : tie.Need-same-length
 same-length c = search needs
@@ -56,18 +59,18 @@ pub carry-spec : {M : Type 1} → statement M
 carry-spec =
     tie.close
     (tie.spec
-    sub-factors
-    mul-factors
-    shared-slice-read-factors
-    sub-factors-2
-    mul-factors-2
-    shared-slice-read-factors-2
-    sub-factors-3
-    mul-factors-3
-    shared-slice-read-factors-3
-    sub-factors-4
-    mul-factors-4
-    shared-slice-read-factors-4
+    sub-a
+    mul-a
+    shared-slice-read-a
+    sub-b
+    mul-b
+    shared-slice-read-b
+    sub-d
+    mul-d
+    shared-slice-read-d
+    sub-e
+    mul-e
+    shared-slice-read-e
     factors-requires
     multiplied-requires
     same-length

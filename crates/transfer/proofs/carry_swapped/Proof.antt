@@ -1,4 +1,5 @@
 -- `carry_swapped` meets its contract: proofs/Carrying.antt.
+use mathlib.Core.Path.{_∙_}
 use borrow.Author.Needs.{needs}
 use Rattle.transfer.proofs.Carrying.{swapped-asks, swapped-made}
 use Rattle.transfer.proofs.carry_swapped.Statement.{statement}
@@ -20,7 +21,7 @@ exchange-requires-2 : tie.Need-exchange-requires-2
 exchange-requires-2 c κs = search needs
 
 carry-requires : tie.Need-carry-requires
-carry-requires c κs = let s = c .before .before .before .before .before .before .before .before .before .before .before .before .before .before in swapped-asks (s .args .p) (s .args .g .now) (s .args .h .now) (s .args .g2 .now) (s .args .h2 .now) (s .args .c) (s .args .rows .now) (s .pre) _ _ (c .before .before .before .before .before .before .before .exchange .ensures) (c .before .before .before .exchange2 .ensures)
+carry-requires c κs = let s = c .before .before .before .before .before .before .before .before .before .before .before .before .before .before in swapped-asks (s .args .p) (s .args .g .now) (s .args .h .now) (s .args .g2 .now) (s .args .h2 .now) (s .args .c) (s .args .rows .now) (s .pre) _ (c .before .before .before .exchange2 .ensures .size ∙ c .before .before .before .before .before .before .before .exchange .ensures .size)
 
 same-length : tie.Need-same-length
 same-length c = search needs

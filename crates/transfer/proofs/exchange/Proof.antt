@@ -1,8 +1,7 @@
 -- `exchange` meets its contract: proofs/Exchanging.antt.
 use mathlib.Core.Path.{_≡_, subst}
-use Prim.Native.Nat.{_≤_, _<_, _-_, _+_}
+use Prim.Native.Nat.{_≤_, _-_}
 use native.Mathlib.Omega.{arith}
-use lib.ListN.{length}
 use borrow.Author.Needs.{needs, below-set}
 use Rattle.transfer.specs.Code.{Exchanged}
 use Rattle.transfer.proofs.Exchanging.{exchange-start, exchange-more}
@@ -16,7 +15,7 @@ abbrev μ-loop : tie.MeasureT-loop
 μ-loop rows₀ a b c i₀ rows i = c - i
 
 loop-holds : tie.Need-loop-holds Inv-loop μ-loop
-loop-holds c = search needs
+loop-holds c = (omega arith, exchange-start _ _ _)
 
 add-u : tie.Need-add-u Inv-loop μ-loop
 add-u c = search needs

@@ -1,6 +1,4 @@
 -- `multiplied` meets its contract: proofs/Multiplying.antt.
-use Prim.Native.Nat.{_+_, _-_}
-use native.Mathlib.Omega.{arith}
 use borrow.Author.Needs.{needs}
 use Rattle.transfer.proofs.Multiplying.{multiplied-made}
 use Rattle.transfer.proofs.multiplied.Statement.{statement}
