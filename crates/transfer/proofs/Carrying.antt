@@ -35,21 +35,21 @@ module _ (p : ℕ) (G H G′ H′ : List ℕ) (c : ℕ) (l : List ℕ) (h : Carr
     whole = e ∙ h .whole;
   }
 
-  module _ (l₁ l₂ : List ℕ) (a : Exchanged c (c + c) c l l₁) (b : Exchanged (c + c + (c + c)) (c + c + (c + c) + c) c l₁ l₂) where
-    module _ (l₃ : List ℕ) (d : Carried p H G G′ H′ c l₂ l₃) where
-      E : Crossed p c (d .x) (d .y) l 0 l₃
-      E = record {
-        A = λ i u. d .E .A i u ∙ b .before (0 + i) (omega arith) ∙ a .before (0 + i) (omega arith);
-        B = λ i u. d .E .B i u ∙ ap (λ z. (d .x * z) % p) (b .before (0 + c + i) (omega arith) ∙ first-at c (c + c) c l l₁ a i (0 + c + i) (0 + c + c + i) u (omega arith) (omega arith));
-        C = λ i u. d .E .C i u ∙ ap (λ z. (d .y * z) % p) (b .before (0 + c + c + i) (omega arith) ∙ second-at c (c + c) c l l₁ a i (0 + c + c + i) (0 + c + i) u (omega arith) (omega arith));
-      }
+  module _ (l₁ l₂ : List ℕ) (a : Exchanged c (c + c) c l l₁) (b : Exchanged (c + c + (c + c)) (c + c + (c + c) + c) c l₁ l₂)
+      (l₃ : List ℕ) (d : Carried p H G G′ H′ c l₂ l₃) where
+    E : Crossed p c (d .x) (d .y) l 0 l₃
+    E = record {
+      A = λ i u. d .E .A i u ∙ b .before (0 + i) (omega arith) ∙ a .before (0 + i) (omega arith);
+      B = λ i u. d .E .B i u ∙ ap (λ z. (d .x * z) % p) (b .before (0 + c + i) (omega arith) ∙ first-at c (c + c) c l l₁ a i (0 + c + i) (0 + c + c + i) u (omega arith) (omega arith));
+      C = λ i u. d .E .C i u ∙ ap (λ z. (d .y * z) % p) (b .before (0 + c + c + i) (omega arith) ∙ second-at c (c + c) c l l₁ a i (0 + c + c + i) (0 + c + i) u (omega arith) (omega arith));
+    }
 
-      F : Crossed p c (d .x) (d .y) l (c + c + c) l₃
-      F = record {
-        A = λ i u. d .F .A i u ∙ b .before (c + c + c + i) (omega arith) ∙ a .after (c + c + c + i) (omega arith);
-        B = λ i u. d .F .B i u ∙ ap (λ z. (d .x * z) % p) (first-at (c + c + (c + c)) (c + c + (c + c) + c) c l₁ l₂ b i (c + c + c + c + i) (c + c + c + c + c + i) u (omega arith) (omega arith) ∙ a .after (c + c + c + c + c + i) (omega arith));
-        C = λ i u. d .F .C i u ∙ ap (λ z. (d .y * z) % p) (second-at (c + c + (c + c)) (c + c + (c + c) + c) c l₁ l₂ b i (c + c + c + c + c + i) (c + c + c + c + i) u (omega arith) (omega arith) ∙ a .after (c + c + c + c + i) (omega arith));
-      }
+    F : Crossed p c (d .x) (d .y) l (c + c + c) l₃
+    F = record {
+      A = λ i u. d .F .A i u ∙ b .before (c + c + c + i) (omega arith) ∙ a .after (c + c + c + i) (omega arith);
+      B = λ i u. d .F .B i u ∙ ap (λ z. (d .x * z) % p) (first-at (c + c + (c + c)) (c + c + (c + c) + c) c l₁ l₂ b i (c + c + c + c + i) (c + c + c + c + c + i) u (omega arith) (omega arith) ∙ a .after (c + c + c + c + c + i) (omega arith));
+      C = λ i u. d .F .C i u ∙ ap (λ z. (d .y * z) % p) (second-at (c + c + (c + c)) (c + c + (c + c) + c) c l₁ l₂ b i (c + c + c + c + c + i) (c + c + c + c + i) u (omega arith) (omega arith) ∙ a .after (c + c + c + c + i) (omega arith));
+    }
 
-      pub swapped-made : CarriedSwapped p G H G′ H′ c l l₃
-      swapped-made = record { size = d .size ∙ b .size ∙ a .size; x = d .x; y = d .y; law = d .law; E = E; F = F }
+    pub swapped-made : CarriedSwapped p G H G′ H′ c l l₃
+    swapped-made = record { size = d .size ∙ b .size ∙ a .size; x = d .x; y = d .y; law = d .law; E = E; F = F }

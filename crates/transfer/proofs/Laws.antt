@@ -1,5 +1,5 @@
 -- The law of the factors, in the field of p elements.
---   law-of      from its two equations there
+--   law-of      from its two equations there; `cubes`, `squares`: the equations
 --   law-swap    the factors of H, G and H′, G′ are those of G, H and G′, H′, exchanged
 --   law-back    the factors there times the factors back are 1
 use mathlib.Core.Path.{_≡_, sym, ap, ap₂, _∙_}
@@ -59,16 +59,13 @@ module _ (p : ℕ) (pr : Prime p) where
   open Ops (K .ops) using (mul as _*_, 𝟎 as 0ᵏ, 𝟏 as 1ᵏ)
 
   infixl 70 _*_
+  value-cast : (a b : ℕ) → cast (N._*_ a (N._*_ b b)) ≡ cast a * (cast b * cast b)
+  value-cast a b = ρ .cast-mul a (N._*_ b b) ∙ ap (λ z. cast a * z) (ρ .cast-mul b b)
+
   module _ (x y g h g′ h′ : ℕ) where
     cube-cast : cast (N._*_ (N._*_ (N._*_ x x) x) (N._*_ g′ (N._*_ h′ h′))) ≡ cast x * cast x * cast x * (cast g′ * (cast h′ * cast h′))
     cube-cast = ρ .cast-mul (N._*_ (N._*_ x x) x) (N._*_ g′ (N._*_ h′ h′))
-        ∙ ap₂ _*_ (ρ .cast-mul (N._*_ x x) x ∙ ap (λ z. z * cast x) (ρ .cast-mul x x)) (part-cast g′ h′)
-      where
-        part-cast : (a b : ℕ) → cast (N._*_ a (N._*_ b b)) ≡ cast a * (cast b * cast b)
-        part-cast a b = ρ .cast-mul a (N._*_ b b) ∙ ap (λ z. cast a * z) (ρ .cast-mul b b)
-
-    value-cast : cast (N._*_ g (N._*_ h h)) ≡ cast g * (cast h * cast h)
-    value-cast = ρ .cast-mul g (N._*_ h h) ∙ ap (λ z. cast g * z) (ρ .cast-mul h h)
+        ∙ ap₂ _*_ (ρ .cast-mul (N._*_ x x) x ∙ ap (λ z. z * cast x) (ρ .cast-mul x x)) (value-cast g′ h′)
 
     square-cast : cast (N._*_ (N._*_ x x) h′) ≡ cast x * cast x * cast h′
     square-cast = ρ .cast-mul (N._*_ x x) h′ ∙ ap (λ z. z * cast h′) (ρ .cast-mul x x)
@@ -77,15 +74,15 @@ module _ (p : ℕ) (pr : Prime p) where
     law-of lx ly e f = record {
       x-below = lx;
       y-below = ly;
-      cube = mod-of p pr _ _ (cube-cast ∙ e ∙ sym value-cast);
+      cube = mod-of p pr _ _ (cube-cast ∙ e ∙ sym (value-cast g h));
       square = mod-of p pr _ _ (ρ .cast-mul y h ∙ f ∙ sym square-cast);
     }
 
     module _ (w : Law p x y g h g′ h′) where
-      pub cubes : cast x * cast x * cast x * (cast g′ * (cast h′ * cast h′)) ≡ cast g * (cast h * cast h)
-      cubes = sym cube-cast ∙ same-cast p pr _ _ (w .cube) ∙ value-cast
+      cubes : cast x * cast x * cast x * (cast g′ * (cast h′ * cast h′)) ≡ cast g * (cast h * cast h)
+      cubes = sym cube-cast ∙ same-cast p pr _ _ (w .cube) ∙ value-cast g h
 
-      pub squares : cast y * cast h ≡ cast x * cast x * cast h′
+      squares : cast y * cast h ≡ cast x * cast x * cast h′
       squares = sym (ρ .cast-mul y h) ∙ same-cast p pr _ _ (w .square) ∙ square-cast
 
   module _ (x y g h g′ h′ : ℕ) (w : Law p x y g h g′ h′) (nh : cast h ≢ 0ᵏ) where

@@ -1,6 +1,7 @@
 -- The factors from the leading coefficients.
 --   two-asks, inverse-asks, root-asks   what the functions on numbers mod p ask
---   factors-law                         what they hand out are the factors
+--   lead-times                          the product of two leading coefficients, mod p, has an inverse too
+--   factors-law                         what the functions hand out are the factors
 use mathlib.Core.Path.{_≡_, sym, ap, _∙_, subst}
 use mathlib.Core.Logic.{_≢_}
 use mathlib.Core.List.{[], _∷_}
@@ -47,7 +48,7 @@ module _ (p : ℕ) (k : Kind p) where
   pub inverse-asks : {a : ℕ} → Lead p a → Nonzero p a
   inverse-asks l = record { modulus = modulus; prime = pr; pos = l .some; below = l .below }
 
-  pub lead-not : {a : ℕ} → Lead p a → cast a ≢ 0ᵏ
+  lead-not : {a : ℕ} → Lead p a → cast a ≢ 0ᵏ
   lead-not {a} l z = let e : a ≡ 0 = ρ .cast-small a (l .below) z in omega (arith, l .some)
 
   -- a remainder has the class of the product
@@ -57,7 +58,7 @@ module _ (p : ℕ) (k : Kind p) where
   inverse-cast : (a q : ℕ) → Inverse p a q → cast a * cast q ≡ 1ᵏ
   inverse-cast a q i = sym (rest-cast 1 a q (sym (i .law))) ∙ ρ .cast-one
 
-  -- a product of leading coefficients may be one
+  -- p is prime: a product of two such numbers is not 0
   pub lead-times : (r a b : ℕ) → r ≡ (N._*_ a b) % p → Lead p a → Lead p b → Lead p r
   lead-times r a b e l m = record {
     some =
