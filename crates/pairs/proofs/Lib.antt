@@ -3,5 +3,5 @@ pub mod Agreeing
 pub mod Relation
 pub mod Outcomes
 pub mod Once
-pub mod Factors
+pub mod Laws
 pub mod Example

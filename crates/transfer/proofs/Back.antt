@@ -25,7 +25,7 @@ use Rattle.pairs.proofs.Relation.{not-both, one-sym}
 use Rattle.pairs.proofs.Once.{refusals-one}
 use Rattle.pairs.proofs.Outcomes.{both-of}
 use Rattle.transfer.specs.Transfer.{Lent, Transfers, refused, unfit, carried}
-use Rattle.transfer.proofs.Laws.{law-swap, law-back}
+use Rattle.pairs.proofs.Laws.{law-swap, law-back}
 use Rattle.transfer.proofs.Rows.{Three, six-ext, one-of}
 use Rattle.transfer.proofs.Once.{lent-one}
 

@@ -19,7 +19,7 @@ use Rattle.reading.specs.Made.{reading}
 use Rattle.residue.specs.Residue.{Modulus, Two, Nonzero, Rooted, Inverse, CubeRoot}
 use Rattle.pairs.specs.Rows.{Law}
 use Rattle.transfer.specs.Code.{Kind, Lead}
-use Rattle.transfer.proofs.Laws.{law-of}
+use Rattle.pairs.proofs.Laws.{law-of}
 
 module _ (p : ℕ) (k : Kind p) where
   abbrev pr : Prime p

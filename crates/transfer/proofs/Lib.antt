@@ -1,4 +1,3 @@
-pub mod Laws
 pub mod Leading
 pub mod Exchanging
 pub mod Multiplying

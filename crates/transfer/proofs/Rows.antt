@@ -19,7 +19,7 @@ use Rattle.pairs.specs.Rows.{Stays, Times, Straight, Crossed, RowsCarry, straig
 use Rattle.pairs.specs.Answer.{Both}
 use Rattle.pairs.proofs.Lists.{leading-not}
 use Rattle.pairs.proofs.Relation.{not-both}
-use Rattle.pairs.proofs.Factors.{law-one}
+use Rattle.pairs.proofs.Laws.{law-one}
 
 -- ---- what holds at three rows holds from the first to the last
 three : (c at : ℕ) (P : ℕ → Type 0) → ((i : ℕ) → i < c → P (at + i)) → ((i : ℕ) → i < c → P (at + c + i)) → ((i : ℕ) → i < c → P (at + c + c + i))

@@ -1,5 +1,6 @@
 -- The law of the factors, in the field of p elements.
 --   law-of      from its two equations there; `cubes`, `squares`: the equations
+--   law-one     the leading coefficients settle the factors
 --   law-swap    the factors of H, G and H′, G′ are those of G, H and G′, H′, exchanged
 --   law-back    the factors there times the factors back are 1
 use mathlib.Core.Path.{_≡_, sym, ap, ap₂, _∙_}
@@ -14,10 +15,11 @@ use Rattle.valued.specs.Val.{Valued}
 use Rattle.valued.proofs.Degree.{k-domain}
 use Rattle.reading.specs.Reading.{Reading}
 use Rattle.reading.specs.Made.{reading}
+use Rattle.reading.proofs.Unique.{cast-inj}
 use Rattle.reading.proofs.Constants.{cube-inj}
 use Rattle.pairs.specs.Rows.{Law}
 use Rattle.pairs.proofs.Lists.{mod-of, same-cast}
 use Rattle.pairs.proofs.Relation.{k-cancel}
 
 -- x, y, g, h, g′, h′ and the two equations of the law, for the solver
 abbrev X : Expr
@@ -84,6 +86,20 @@ module _ (p : ℕ) (pr : Prime p) where
 
       squares : cast y * cast h ≡ cast x * cast x * cast h′
       squares = sym (ρ .cast-mul y h) ∙ same-cast p pr _ _ (w .square) ∙ square-cast
+
+  -- x³ = g h²/(g′ h′²), and p mod 3 = 2
+  pub law-one : p % 3 ≡ 2 → {x y x′ y′ g h g′ h′ : ℕ} → cast g′ ≢ 0ᵏ → cast h′ ≢ 0ᵏ → cast h ≢ 0ᵏ →
+      Law p x y g h g′ h′ → Law p x′ y′ g h g′ h′ → (x ≡ x′) × (y ≡ y′)
+  law-one kind {x} {y} {x′} {y′} {g} {h} {g′} {h′} ng nh ne a b = (same-x, same-y)
+    where
+      same-x : x ≡ x′
+      same-x = cast-inj ρ x x′ (a .x-below) (b .x-below) (cube-inj ρ pr kind (cast x) (cast x′)
+          (k-cancel p pr (cast g′ * (cast h′ * cast h′)) _ _ (k-domain 𝓥 (cast g′) (cast h′ * cast h′) ng (k-domain 𝓥 (cast h′) (cast h′) nh nh))
+          (K .laws .mul-comm _ _ ∙ cubes x y g h g′ h′ a ∙ sym (cubes x′ y′ g h g′ h′ b) ∙ K .laws .mul-comm _ _)))
+
+      same-y : y ≡ y′
+      same-y = cast-inj ρ y y′ (a .y-below) (b .y-below) (k-cancel p pr (cast h) (cast y) (cast y′) ne
+          (K .laws .mul-comm (cast h) (cast y) ∙ squares x y g h g′ h′ a ∙ ap (λ z. cast z * cast z * cast h′) same-x ∙ sym (squares x′ y′ g h g′ h′ b) ∙ K .laws .mul-comm (cast y′) (cast h)))
 
   module _ (x y g h g′ h′ : ℕ) (w : Law p x y g h g′ h′) (nh : cast h ≢ 0ᵏ) where
     abbrev known : List (K .El)
