@@ -1,6 +1,5 @@
 -- Looking for the first entry of one field with a body.
---   Search s b i r j   entries up to j, the found one r excepted, are looked at: none before r is of one field with b, and r is, where it
---                      is an entry before i
+--   Search s b i r j   of the entries before j none before r is of one field with b; r is, where it is before i
 --   start, hit, miss, end   its loop: nothing found yet; entry j, in hand as o, is of one field with b; it is not; what is found at last
 --   sold-here               the entry in hand can be compared with b
 use mathlib.Core.Path.{_≡_, sym, subst}
