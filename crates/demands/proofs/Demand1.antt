@@ -2,7 +2,7 @@
 use mathlib.Core.Path.{_≡_, ap}
 use mathlib.Core.Logic.{_≢_}
 use mathlib.Core.List.{List}
-use Prim.Native.Nat.{ℕ}
+use Prim.Native.Nat.{ℕ, _≤_}
 use native.Mathlib.Decide.{ℕ-discrete}
 use Rattle.field.proofs.Stages.{refusal-one}
 use Rattle.field.proofs.Opening.{opens-one}
@@ -14,6 +14,10 @@ use Rattle.walks.proofs.Order.{from-order-one}
 use Rattle.unit.specs.declared.Made.{Made}
 use Rattle.unit.specs.Unit as unit
 use Rattle.unit.proofs.Once.{makes-one}
+use Rattle.pairs.specs.Answer as pairs
+use Rattle.pairs.proofs.Once.{compares-one}
+use Rattle.transfer.specs.Transfer as transfer
+use Rattle.transfer.proofs.Once.{transfers-one}
 use Rattle.book_body.specs.Said.{Said}
 use Rattle.book_body.specs.Body.{Body}
 use Rattle.book_body.specs.Code as code
@@ -48,6 +52,15 @@ module _ (p n : ℕ) (G H rows scratch rows′ scratch′ : List ℕ) (m : Made)
       go (yes e) = goes-kept (h .goes e)
       go (no g) = (h .none g .rows-same, h .none g .scratch-same)
 
+pairs-numbered : (p : ℕ) (G H G′ H′ : List ℕ) (n : ℕ) → pairs.Refusals p G H G′ H′ n → n ≤ 8
+pairs-numbered p G H G′ H′ n (pairs.first f r) = numbered p G H n r
+pairs-numbered p G H G′ H′ n (pairs.second r s) = numbered p G′ H′ n s
+
+transfer-kept : {p n : ℕ} {G H G′ H′ rows rows′ : List ℕ} → transfer.Transfers p G H G′ H′ rows n rows′ → n ≢ 0 → rows′ ≡ rows
+transfer-kept (transfer.refused f r e) g = e
+transfer-kept (transfer.unfit r u k e) g = e
+transfer-kept (transfer.carried r c l k m w) g = absurd (g k)
+
 list-kept : {k : ℕ} {s d d′ : List ℕ} {x : Said} → code.ListTells s k d x d′ → x .number ≢ 0 → d′ ≡ d
 list-kept (code.read h l e q) f = absurd (f (number-of e))
 list-kept (code.none h e q) f = q
@@ -70,8 +83,10 @@ add-kept (add.added l a t u h k e q) f = absurd (f (number-of e))
 pub demand-1 : Demand1
 demand-1 = record {
   field-numbered = numbered;
+  pairs-numbered = pairs-numbered;
   series-kept = λ h f. h .kept f;
   unit-kept = λ m h f. unit-kept _ _ _ _ _ _ _ _ m f h;
+  transfer-kept = transfer-kept;
   list-kept = list-kept;
   write-kept = write-kept;
   add-kept = add-kept;
@@ -89,6 +104,8 @@ demand-1 = record {
         s .rows-same,
         s .scratch-same,
       );
+  compare-fixed = λ a b h k. compares-one h k;
+  transfer-fixed = λ h k. transfers-one _ _ _ _ _ _ _ _ _ _ h k;
   check-book-fixed = λ h k. tells-one _ h k;
   ask-fixed = λ h k. ask-one _ h k;
   part-fixed = λ h k. part-one _ h k;

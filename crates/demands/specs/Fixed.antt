@@ -23,6 +23,9 @@ use Rattle.walks.specs.declared.Told.{Told}
 use Rattle.walks.specs.Order.{FromOrder}
 use Rattle.unit.specs.declared.Made.{Made}
 use Rattle.unit.specs.Unit.{Makes}
+use Rattle.pairs.specs.declared.Compared.{Compared}
+use Rattle.pairs.specs.Answer.{Refusals, Compares}
+use Rattle.transfer.specs.Transfer.{Transfers}
 use Rattle.book_body.specs.Said.{Said}
 use Rattle.book_body.specs.Body.{Body}
 use Rattle.book_body.specs.Code.{ListTells}
@@ -34,9 +37,11 @@ use Rattle.book_attest.specs.Attest.{AttestTells}
 pub record Demand1 : Type 0 where
   -- "an answer or a numbered refusal"
   pub field-numbered : (p : ℕ) (G H : List ℕ) (n : ℕ) → Refusal p G H n → n ≤ 8
+  pub pairs-numbered : (p : ℕ) (G H G′ H′ : List ℕ) (n : ℕ) → Refusals p G H G′ H′ n → n ≤ 8
   -- "A refusal writes nothing to a lent buffer"
   pub series-kept : {p n : ℕ} {G H r w r′ w′ : List ℕ} → series.Answer p G H r w r′ w′ n → n ≢ 0 → (r′ ≡ r) × (w′ ≡ w)
   pub unit-kept : {p n : ℕ} {G H rows scratch rows′ scratch′ : List ℕ} (m : Made) → Makes p G H n rows scratch m rows′ scratch′ → m .refusal ≢ 0 → (rows′ ≡ rows) × (scratch′ ≡ scratch)
+  pub transfer-kept : {p n : ℕ} {G H G′ H′ rows rows′ : List ℕ} → Transfers p G H G′ H′ rows n rows′ → n ≢ 0 → rows′ ≡ rows
   pub list-kept : {k : ℕ} {s d d′ : List ℕ} {x : Said} → ListTells s k d x d′ → x .number ≢ 0 → d′ ≡ d
   pub write-kept : {b : Body} {d d′ : List ℕ} {x : Said} → WriteTells b d x d′ → x .number ≢ 0 → d′ ≡ d
   pub add-kept : {n : ℕ} {d b d′ : List ℕ} {x : Said} → AddTells d n b x d′ → x .number ≢ 0 → d′ ≡ d
@@ -50,6 +55,8 @@ pub record Demand1 : Type 0 where
   pub walk-fixed : {p n : ℕ} {G H B : List ℕ} (v w : Walked) → Walks p G H n B v → Walks p G H n B w → v ≡ w
   pub from-order-fixed : {p n : ℕ} {G H : List ℕ} (v w : Told) → FromOrder p G H n v → FromOrder p G H n w → v ≡ w
   pub unit-fixed : {p n : ℕ} {G H rows scratch r s r′ s′ : List ℕ} (m m′ : Made) → Makes p G H n rows scratch m r s → Makes p G H n rows scratch m′ r′ s′ → (m ≡ m′) × (r ≡ r′) × (s ≡ s′)
+  pub compare-fixed : {p : ℕ} {G H G′ H′ : List ℕ} (a b : Compared) → Compares p G H G′ H′ a → Compares p G H G′ H′ b → a ≡ b
+  pub transfer-fixed : {p n n′ : ℕ} {G H G′ H′ rows r r′ : List ℕ} → Transfers p G H G′ H′ rows n r → Transfers p G H G′ H′ rows n′ r′ → (n ≡ n′) × (r ≡ r′)
   pub check-book-fixed : {s : List ℕ} {x y : Said} → Tells s x → Tells s y → x ≡ y
   pub ask-fixed : {s : List ℕ} {i : ℕ} {x y : Said} → AskTells s i x → AskTells s i y → x ≡ y
   pub part-fixed : {s : List ℕ} {i : ℕ} {r q : List ℕ} → AskedPart s i r → AskedPart s i q → r ≡ q
