@@ -4,7 +4,7 @@
 --   reaches-over    a chain to a chain of as many steps, with the same degree sum
 --   closes-over     a closing to a closing
 --   open-over       and a chain that stays open to one that does
-use mathlib.Core.Path.{_≡_, subst}
+use mathlib.Core.Path.{subst}
 use mathlib.Core.List.{List}
 use Prim.Native.Nat.{ℕ}
 use Rattle.valued.specs.Val.{Valued}
@@ -41,7 +41,8 @@ module _ {p : ℕ} {G H G′ H′ : List ℕ} (A₀ : Accepted p G H) (w : Way p
     one : (P : Basis (setting A′) → Type 0) {B B′ : List ℕ} → Over w B B′ → P (move B) → P (basisOf A′ B′)
     one P {B} {B′} o k = subst P (basis-over A A′ (A′ .prime) w B B′ (o .rows)) k
 
-    two : (P : Basis (setting A′) → Basis (setting A′) → Type 0) {B B′ E E′ : List ℕ} → Over w B B′ → Over w E E′ → P (move B) (move E) → P (basisOf A′ B′) (basisOf A′ E′)
+    two : (P : Basis (setting A′) → Basis (setting A′) → Type 0) {B B′ E E′ : List ℕ} → Over w B B′ → Over w E E′
+        → P (move B) (move E) → P (basisOf A′ B′) (basisOf A′ E′)
     two P {B′ = B′} {E = E} o u k = one (λ e. P (basisOf A′ B′) e) u (one (λ b. P b (move E)) o k)
 
   module _ {B B′ : List ℕ} (o : Over w B B′) where

@@ -6,3 +6,5 @@ pub mod Chains
 pub mod Told
 pub mod Six
 pub mod Made
+pub mod Steps
+pub mod Alike

@@ -6,18 +6,15 @@ use mathlib.Core.Logic.{_≢_}
 use mathlib.Core.List.{List}
 use Prim.Native.Nat.{ℕ, _*_}
 use native.Mathlib.Omega.{arith}
-use native.Mathlib.Decide.{ℕ-discrete}
 use lib.ListN.{length, replicate}
-use Rattle.field.specs.Refusal.{Refusal, Accepted}
-use Rattle.field.proofs.Accept.{accepted}
+use Rattle.field.specs.Refusal.{Accepted}
 use Rattle.unit.specs.declared.Made.{Made}
-use Rattle.unit.specs.Unit.{Lent, Refused, Success, Goes, bad, spent, narrow, made, Makes}
+use Rattle.unit.specs.Unit.{Lent, Refused, Goes, bad, spent, narrow, made, Makes}
 use Rattle.unit.proofs.Once.{makes-one}
 use Rattle.pairs.specs.OneField.{OneField, Coefficients}
 use Rattle.pairs.specs.Rows.{RowsCarry}
-use Rattle.onefield.proofs.Refused.{refusal-carry}
 use Rattle.alike.specs.Alike.{MadeSame}
-use Rattle.alike.proofs.Way.{Way, way}
+use Rattle.alike.proofs.Way.{Way, way, split}
 use Rattle.alike.proofs.Six.{rows-in, over, holds-over, finds-over, misses-over}
 
 -- rows of 6 c numbers that carry over
@@ -40,7 +37,8 @@ module _ {n : ℕ} {x y x′ y′ : List ℕ} (ex : length x ≡ length x′) (e
 
 module _ (p : ℕ) (G H G′ H′ : List ℕ) (n : ℕ) (x y x′ y′ : List ℕ) (ex : length x ≡ length x′) (ey : length y ≡ length y′) (v : Made) (r s : List ℕ) where
   -- a refusal leaves both slices
-  left : {a : ℕ} {Answer : List ℕ → List ℕ → Type 0} → a ≢ 0 → Refused a x y v r s → (Refused a x′ y′ v x′ y′ → Answer x′ y′) → MadeOver p G H G′ H′ v r Answer
+  left : {a : ℕ} {Answer : List ℕ → List ℕ → Type 0} → a ≢ 0 → Refused a x y v r s → (Refused a x′ y′ v x′ y′ → Answer x′ y′)
+      → MadeOver p G H G′ H′ v r Answer
   left f h k = record {
     rows = x′;
     scratch = y′;
@@ -67,23 +65,16 @@ module _ (p : ℕ) (G H G′ H′ : List ℕ) (n : ℕ) (x y x′ y′ : List �
         carried = λ z. (c, h .rows-hold .whole, o .size, rows-in w (o .rows));
       }
 
-  pub makes-over : Coefficients p G H → Coefficients p G′ H′ → OneField p G H G′ H′ → Makes p G H n x y v r s → MadeOver p G H G′ H′ v r (Makes p G′ H′ n x′ y′ v)
-  makes-over cs cs′ one a = go (ℕ-discrete (a .no) 0)
-    where
-      first : Refusal p G′ H′ (a .no)
-      first = refusal-carry p cs cs′ one (a .no) (a .first)
-
-      go : Dec (a .no ≡ 0) → MadeOver p G H G′ H′ v r (Makes p G′ H′ n x′ y′ v)
-      go (yes z) =
-          let A = accepted p G H (subst (Refusal p G H) z (a .first)) in
-          let g = goes-over A (way A (accepted p G′ H′ (subst (Refusal p G′ H′) z first)) one) (a .goes z) in
-          record {
-            rows = g .rows;
-            scratch = g .scratch;
-            answer = record { no = a .no; first = first; none = λ f. absurd (f z); goes = λ _. g .answer };
-            carried = g .carried;
-          }
-      go (no f) = left f (a .none f) (λ k. record { no = a .no; first = first; none = λ _. k; goes = λ z. absurd (f z) })
+  pub makes-over : Coefficients p G H → Coefficients p G′ H′ → OneField p G H G′ H′ → Makes p G H n x y v r s
+      → MadeOver p G H G′ H′ v r (Makes p G′ H′ n x′ y′ v)
+  makes-over cs cs′ one a = split p cs cs′ one (a .no) (a .first)
+      (λ f first. left f (a .none f) (λ k. record { no = a .no; first = first; none = λ _. k; goes = λ z. absurd (f z) }))
+      (λ z A A′ first. let g = goes-over A (way A A′ one) (a .goes z) in record {
+        rows = g .rows;
+        scratch = g .scratch;
+        answer = record { no = a .no; first = first; none = λ f. absurd (f z); goes = λ _. g .answer };
+        carried = g .carried;
+      })
 
 -- the same budget, slices of the same lengths
 pub made-same : (p : ℕ) {G H G′ H′ : List ℕ} → Coefficients p G H → Coefficients p G′ H′ → OneField p G H G′ H′

@@ -4,28 +4,23 @@
 --   basis-over                        as bases it is U, φM, σφN
 --   record-over, record-back          what a record carries over to is a record, and nothing else carries over to one
 --   record-of                         the record with the basis U, φM, σφN is the one that the record carries over to
-use mathlib.Core.Path.{_≡_, sym, ap, ap₂, _∙_, subst}
+use mathlib.Core.Path.{_≡_, sym, _∙_, subst}
 use mathlib.Core.List.{List}
-use Prim.Native.Nat.{ℕ, _<_, _≤_}
+use Prim.Native.Nat.{ℕ, _<_}
 use native.Mathlib.Omega.{arith}
 use native.Mathlib.Decide.{decLt}
 use lib.ListN.{length, getD}
-use Rattle.ring.specs.Ring.{Ops}
-use Rattle.ring.proofs.Laws as rg
 use Rattle.fp.specs.Fp.{Prime}
-use Rattle.valued.specs.Val.{Valued}
-use Rattle.valued.specs.Polynomial.{polys}
 use Rattle.reading.specs.Made.{reading}
 use Rattle.poly.specs.Factors.{polynomial}
 use Rattle.field.specs.Refusal.{Accepted}
-use Rattle.ideals.specs.Element.{O, sc}
 use Rattle.ideals.specs.Ideal.{Basis}
 use Rattle.ideals.specs.Basis.{Good}
 use Rattle.record.specs.Record.{part, setting, basisOf, IsRecord}
 use Rattle.record.proofs.Unique.{basis-unique}
 use Rattle.pairs.specs.Rows.{Stays, RecordCarries, straight, crossed}
 use Rattle.onefield.specs.Side.{at, side}
-use Rattle.onefield.specs.Carries.{Carries, carry}
+use Rattle.onefield.specs.Carries.{carry}
 use Rattle.onefield.proofs.Inverse.{back, carry-back}
 use Rattle.onefield.proofs.Transport.{good-carry}
 use Rattle.alike.proofs.Way.{primed, Way, same, swapped, map}
@@ -97,7 +92,8 @@ module _ {p : ℕ} {G H G′ H′ : List ℕ} where
         subst (Good (setting A′)) (basis-over A A′ pr w B B′ (o .rows)) (good-carry (reading p pr .𝓥) (map A A′ pr w) (basisOf A B) (r .good A));
   }
 
-  pub record-back : Accepted p G′ H′ → (w : Way p G H G′ H′) {B B′ : List ℕ} → length B ≡ 119 → ((i : ℕ) → getD B i 0 < p) → Over w B B′ → IsRecord p G′ H′ B′ → IsRecord p G H B
+  pub record-back : Accepted p G′ H′ → (w : Way p G H G′ H′) {B B′ : List ℕ} → length B ≡ 119 → ((i : ℕ) → getD B i 0 < p)
+      → Over w B B′ → IsRecord p G′ H′ B′ → IsRecord p G H B
   record-back A₀ w {B} {B′} size below o r = record {
     size = size;
     each = below;

@@ -3,24 +3,19 @@
 --   Over, rows-below, over      six rows of numbers below p that six rows carry over to; there are such
 --   holds-over                  rows that hold the unit and its inverse carry over to such rows
 --   finds-over, misses-over     the closing of the chain from the order, or that there is none
-use mathlib.Core.Path.{_≡_, refl, sym, _∙_, subst}
+use mathlib.Core.Path.{_≡_, subst}
 use mathlib.Core.List.{List}
-use Prim.Native.Nat.{ℕ, _+_, _*_, _<_, _≤_}
+use Prim.Native.Nat.{ℕ, _+_, _*_, _<_}
 use native.Mathlib.Omega.{arith}
 use native.Mathlib.Decide.{decLt}
 use lib.ListN.{length, getD}
-use Rattle.fp.specs.Fp.{Prime}
-use Rattle.valued.specs.Val.{Valued}
 use Rattle.reading.specs.Made.{reading}
 use Rattle.field.specs.Refusal.{Accepted}
-use Rattle.ideals.specs.Ideal.{Basis}
 use Rattle.chain.specs.Unit.{UnitOf}
 use Rattle.chain.proofs.Exists.{order-exists}
 use Rattle.record.specs.Record.{setting}
 use Rattle.unit.specs.Unit.{six, Finds, Misses, Holds}
 use Rattle.pairs.specs.Rows.{RowsCarry, straight, crossed}
-use Rattle.onefield.specs.Side.{side}
-use Rattle.onefield.specs.Carries.{Carries}
 use Rattle.onefield.proofs.Same as theory
 use Rattle.alike.proofs.Way.{primed, Way, same, swapped, map}
 use Rattle.alike.proofs.Rows.{ThreeIn, three-below, tri-over}

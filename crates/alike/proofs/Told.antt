@@ -1,17 +1,15 @@
 -- The walk from the order tells the same of two pairs of one field: what it answers for the one is an answer for the other, and there is
 -- one.
 --   told-same   the same refusal, period and regulator, whatever the budget
-use mathlib.Core.Path.{_≡_, subst}
+use mathlib.Core.Path.{_≡_}
 use mathlib.Core.List.{List}
 use Prim.Native.Nat.{ℕ}
-use Rattle.field.specs.Refusal.{Refusal, Accepted}
-use Rattle.field.proofs.Accept.{accepted}
+use Rattle.field.specs.Refusal.{Accepted}
 use Rattle.walks.specs.declared.Told.{Told}
-use Rattle.walks.specs.Order.{Periodic, Goes, budget, closed, spent, FromOrder}
+use Rattle.walks.specs.Order.{Goes, budget, closed, spent, FromOrder}
 use Rattle.walks.proofs.Order.{from-order-one}
 use Rattle.pairs.specs.OneField.{OneField, Coefficients}
-use Rattle.onefield.proofs.Refused.{refusal-carry}
-use Rattle.alike.proofs.Way.{Way, way}
+use Rattle.alike.proofs.Way.{Way, way, split}
 use Rattle.alike.proofs.Record.{over}
 use Rattle.alike.proofs.Chains.{first-over, open-over, closes-over}
 
@@ -28,16 +26,9 @@ module _ {p : ℕ} {G H G′ H′ : List ℕ} {n : ℕ} {v : Told} where
 
 module _ (p : ℕ) {G H G′ H′ : List ℕ} (s : Coefficients p G H) (s′ : Coefficients p G′ H′) (one : OneField p G H G′ H′) where
   from-order-over : (n : ℕ) (v : Told) → FromOrder p G H n v → FromOrder p G′ H′ n v
-  from-order-over n v a =
-      let first : Refusal p G′ H′ (a .no) = refusal-carry p s s′ one (a .no) (a .first) in
-      record {
-        no = a .no;
-        first = first;
-        none = a .none;
-        goes = λ z.
-            let A = accepted p G H (subst (Refusal p G H) z (a .first)) in
-            goes-over A (way A (accepted p G′ H′ (subst (Refusal p G′ H′) z first)) one) (a .goes z);
-      }
+  from-order-over n v a = split p s s′ one (a .no) (a .first)
+      (λ f first. record { no = a .no; first = first; none = a .none; goes = λ z. absurd (f z) })
+      (λ z A A′ first. record { no = a .no; first = first; none = a .none; goes = λ _. goes-over A (way A A′ one) (a .goes z) })
 
   pub told-same : (n : ℕ) (v w : Told) → FromOrder p G H n v → FromOrder p G′ H′ n w → v ≡ w
   told-same n v w a b = from-order-one p G′ H′ n v w (from-order-over n v a) b

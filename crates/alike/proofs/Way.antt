@@ -2,22 +2,26 @@
 --   primed          an accepted pair with the other's proof that p is prime, so that both have the same series
 --   Way             the order in which the pairs agree, and the factors as numbers
 --   way, one-of     of two accepted pairs of one field; and back
+--   split           two pairs of one field are refused alike, or both are accepted
 --   map             how the orders carry over
 --   map-same, map-swapped   what that does to an element
-use mathlib.Core.Path.{_≡_, ap₂, _∙_}
-use mathlib.Core.Logic.{inl, inr}
+use mathlib.Core.Path.{_≡_, ap₂, _∙_, subst}
+use mathlib.Core.Logic.{_≢_, inl, inr}
 use mathlib.Core.List.{List}
 use Prim.Native.Nat.{ℕ}
+use native.Mathlib.Decide.{ℕ-discrete}
 use Rattle.fp.specs.Fp.{Prime}
 use Rattle.valued.specs.Val.{Valued}
 use Rattle.valued.specs.Polynomial.{polys}
 use Rattle.reading.specs.Made.{reading}
-use Rattle.field.specs.Refusal.{Accepted}
-use Rattle.pairs.specs.OneField.{leading, Agree, OneField}
+use Rattle.field.specs.Refusal.{Refusal, Accepted}
+use Rattle.field.proofs.Accept.{accepted}
+use Rattle.pairs.specs.OneField.{leading, Agree, OneField, Coefficients}
 use Rattle.pairs.specs.Rows.{Law}
 use Rattle.onefield.specs.Side.{side}
 use Rattle.onefield.specs.Carries.{El, Carries, stretch, exchange}
 use Rattle.onefield.proofs.OneField as one
+use Rattle.onefield.proofs.Refused.{refusal-carry}
 use Rattle.onefield.proofs.Numbers.{constant, laws, constants}
 
 abbrev pub primed : {p : ℕ} {G H : List ℕ} → Prime p → Accepted p G H → Accepted p G H
@@ -41,6 +45,12 @@ primed pr A = record {
 pub data Way (p : ℕ) (G H G′ H′ : List ℕ) : Type 0 where
   same : Agree p G G′ → Agree p H H′ → (x y : ℕ) → Law p x y (leading G) (leading H) (leading G′) (leading H′) → Way p G H G′ H′
   swapped : Agree p G H′ → Agree p H G′ → (x y : ℕ) → Law p x y (leading H) (leading G) (leading G′) (leading H′) → Way p G H G′ H′
+
+pub split : (p : ℕ) {G H G′ H′ : List ℕ} → Coefficients p G H → Coefficients p G′ H′ → OneField p G H G′ H′ → {X : Type 0} (n : ℕ) → Refusal p G H n
+    → (n ≢ 0 → Refusal p G′ H′ n → X) → (n ≡ 0 → Accepted p G H → Accepted p G′ H′ → Refusal p G′ H′ n → X) → X
+split p {G} {H} {G′} {H′} s s′ one n r f g =
+    let r′ : Refusal p G′ H′ n = refusal-carry p s s′ one n r in
+    elim (ℕ-discrete n 0) [ yes z ↦ g z (accepted p G H (subst (Refusal p G H) z r)) (accepted p G′ H′ (subst (Refusal p G′ H′) z r′)) r′ | no z ↦ f z r′ ]
 
 module _ {p : ℕ} {G H G′ H′ : List ℕ} where
   pub one-of : Way p G H G′ H′ → OneField p G H G′ H′
