@@ -7,4 +7,5 @@ pub mod Told
 pub mod Six
 pub mod Made
 pub mod Steps
+pub mod Transferred
 pub mod Alike

@@ -1,15 +1,16 @@
 -- The unit of two pairs of one field: what `unit` answers for the one, its rows carried over, is an answer for the other, and there is one.
 --   MadeOver, makes-over   the answer for the other pair
+--   Rows, made-rows        the rows after success
 --   made-same              the same refusal, period and regulator, and after success rows that carry over
 use mathlib.Core.Path.{_≡_, refl, sym, _∙_, subst}
 use mathlib.Core.Logic.{_≢_}
 use mathlib.Core.List.{List}
-use Prim.Native.Nat.{ℕ, _*_}
+use Prim.Native.Nat.{ℕ, _*_, _≤_}
 use native.Mathlib.Omega.{arith}
 use lib.ListN.{length, replicate}
 use Rattle.field.specs.Refusal.{Accepted}
 use Rattle.unit.specs.declared.Made.{Made}
-use Rattle.unit.specs.Unit.{Lent, Refused, Goes, bad, spent, narrow, made, Makes}
+use Rattle.unit.specs.Unit.{longest, Lent, Refused, Goes, bad, spent, narrow, made, Makes}
 use Rattle.unit.proofs.Once.{makes-one}
 use Rattle.pairs.specs.OneField.{OneField, Coefficients}
 use Rattle.pairs.specs.Rows.{RowsCarry}
@@ -18,8 +19,12 @@ use Rattle.alike.proofs.Way.{Way, way, split}
 use Rattle.alike.proofs.Six.{rows-in, over, holds-over, finds-over, misses-over}
 
 -- rows of 6 c numbers that carry over
-abbrev Rows : ℕ → List ℕ → List ℕ → List ℕ → List ℕ → List ℕ → List ℕ → Type 0
-Rows p G H G′ H′ r r′ = (c : ℕ) × (length r ≡ 6 * c) × (length r′ ≡ 6 * c) × RowsCarry p G H G′ H′ c r r′
+pub record Rows (p : ℕ) (G H G′ H′ : List ℕ) (r r′ : List ℕ) : Type 0 where
+  pub c : ℕ
+  pub room : c ≤ longest
+  pub whole : length r ≡ 6 * c
+  pub whole′ : length r′ ≡ 6 * c
+  pub carries : RowsCarry p G H G′ H′ c r r′
 
 -- v with some slices is an answer, and after success the first slice is r carried over
 pub record MadeOver (p : ℕ) (G H G′ H′ : List ℕ) (v : Made) (r : List ℕ) (Answer : List ℕ → List ℕ → Type 0) : Type 0 where
@@ -62,7 +67,7 @@ module _ (p : ℕ) (G H G′ H′ : List ℕ) (n : ℕ) (x y x′ y′ : List �
           rows-hold = holds-over A w o (h .rows-hold);
           scratch-blank = refl;
         });
-        carried = λ z. (c, h .rows-hold .whole, o .size, rows-in w (o .rows));
+        carried = λ z. record { c = c; room = t .room; whole = h .rows-hold .whole; whole′ = o .size; carries = rows-in w (o .rows) };
       }
 
   pub makes-over : Coefficients p G H → Coefficients p G′ H′ → OneField p G H G′ H′ → Makes p G H n x y v r s
@@ -77,15 +82,20 @@ module _ (p : ℕ) (G H G′ H′ : List ℕ) (n : ℕ) (x y x′ y′ : List �
       })
 
 -- the same budget, slices of the same lengths
-pub made-same : (p : ℕ) {G H G′ H′ : List ℕ} → Coefficients p G H → Coefficients p G′ H′ → OneField p G H G′ H′
-    → (n : ℕ) (x y x′ y′ : List ℕ) → length x ≡ length x′ → length y ≡ length y′ → (v w : Made) (r r′ s s′ : List ℕ)
-    → Makes p G H n x y v r s → Makes p G′ H′ n x′ y′ w r′ s′ → MadeSame p G H G′ H′ v w r r′
-made-same p {G} {H} {G′} {H′} cs cs′ one n x y x′ y′ ex ey v w r r′ s s′ a b =
-    let o = makes-over p G H G′ H′ n x y x′ y′ ex ey v r s cs cs′ one a in
-    let q = makes-one p G′ H′ n x′ y′ v w (o .rows) r′ (o .scratch) s′ (o .answer) b in
-    record {
-      number = q .number;
-      period = q .period;
-      regulator = q .regulator;
-      rows = λ z. subst (Rows p G H G′ H′ r) (q .rows-same) (o .carried z);
-    }
+module _ (p : ℕ) {G H G′ H′ : List ℕ} (cs : Coefficients p G H) (cs′ : Coefficients p G′ H′) (one : OneField p G H G′ H′)
+    (n : ℕ) (x y x′ y′ : List ℕ) (ex : length x ≡ length x′) (ey : length y ≡ length y′) (v w : Made) (r r′ s s′ : List ℕ) where
+  pub made-rows : Makes p G H n x y v r s → Makes p G′ H′ n x′ y′ w r′ s′ → v .refusal ≡ 0 → Rows p G H G′ H′ r r′
+  made-rows a b z =
+      let o = makes-over p G H G′ H′ n x y x′ y′ ex ey v r s cs cs′ one a in
+      subst (Rows p G H G′ H′ r) (makes-one p G′ H′ n x′ y′ v w (o .rows) r′ (o .scratch) s′ (o .answer) b .rows-same) (o .carried z)
+
+  pub made-same : Makes p G H n x y v r s → Makes p G′ H′ n x′ y′ w r′ s′ → MadeSame p G H G′ H′ v w r r′
+  made-same a b =
+      let o = makes-over p G H G′ H′ n x y x′ y′ ex ey v r s cs cs′ one a in
+      let q = makes-one p G′ H′ n x′ y′ v w (o .rows) r′ (o .scratch) s′ (o .answer) b in
+      record {
+        number = q .number;
+        period = q .period;
+        regulator = q .regulator;
+        rows = λ z. let k = made-rows a b z in (k .c, k .whole, k .whole′, k .carries);
+      }

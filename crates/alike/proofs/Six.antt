@@ -7,7 +7,6 @@ use mathlib.Core.Path.{_≡_, subst}
 use mathlib.Core.List.{List}
 use Prim.Native.Nat.{ℕ, _+_, _*_, _<_}
 use native.Mathlib.Omega.{arith}
-use native.Mathlib.Decide.{decLt}
 use lib.ListN.{length, getD}
 use Rattle.reading.specs.Made.{reading}
 use Rattle.field.specs.Refusal.{Accepted}
@@ -16,10 +15,11 @@ use Rattle.chain.proofs.Exists.{order-exists}
 use Rattle.record.specs.Record.{setting}
 use Rattle.unit.specs.Unit.{six, Finds, Misses, Holds}
 use Rattle.pairs.specs.Rows.{RowsCarry, straight, crossed}
+use Rattle.transfer.proofs.Rows.{carried-each}
 use Rattle.onefield.proofs.Same as theory
 use Rattle.alike.proofs.Way.{primed, Way, same, swapped, map}
-use Rattle.alike.proofs.Rows.{ThreeIn, three-below, tri-over}
-use Rattle.alike.proofs.Blocks.{all-below, straights, crosseds, made, made-size, straight-rows, crossed-rows}
+use Rattle.alike.proofs.Rows.{ThreeIn, tri-over}
+use Rattle.alike.proofs.Blocks.{straights, crosseds, made, made-size, straight-rows, crossed-rows}
 
 module _ {p : ℕ} {G H G′ H′ : List ℕ} where
   abbrev pub RowsIn : Way p G H G′ H′ → ℕ → List ℕ → List ℕ → Type 0
@@ -41,14 +41,7 @@ module _ {p : ℕ} {G H G′ H′ : List ℕ} where
 
   module _ (c : ℕ) (r : List ℕ) (below : (i : ℕ) → getD r i 0 < p) where
     pub rows-below : (w : Way p G H G′ H′) (r′ : List ℕ) → length r′ ≡ 6 * c → RowsIn w c r r′ → Over w c r r′
-    rows-below w r′ z (e, f) = record {
-      size = z;
-      below = all-below p c r r′ below (6 * c) z (λ k u. elim (decLt k (0 + c + c + c)) [
-        | yes v ↦ three-below c r r′ below w 0 e k (omega arith) v
-        | no v ↦ three-below c r r′ below w (c + c + c) f k (omega arith) (omega arith)
-      ]);
-      rows = (e, f);
-    }
+    rows-below w r′ z k = record { size = z; below = carried-each p (omega (arith, below 0)) c r r′ z below (rows-in w k); rows = k }
 
     pub over : (w : Way p G H G′ H′) → (r′ : List ℕ) × Over w c r r′
     over (same a b x y l) =
