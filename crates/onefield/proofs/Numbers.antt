@@ -1,10 +1,11 @@
 -- The factors of two accepted pairs as numbers.
---   constant          the constant polynomial of a number
---   Number, number-of   a constant that is not 0 is that of a number from 1 to p − 1
---   law-of            the numbers x and y are settled by the leading coefficients
+--   constant             the constant polynomial of a number
+--   Number, number-of    a constant that is not 0 is that of a number below p
+--   laws                 the factors of B and C are numbers x and y, and what the leading coefficients say of them
+--   constants            which settles them
 use mathlib.Core.Path.{_≡_, refl, sym, ap, ap₂, _∙_, subst}
 use mathlib.Core.List.{List, [], _∷_}
-use Prim.Native.Nat.{ℕ, _<_}
+use Prim.Native.Nat.{ℕ, _%_, _<_}
 use Prim.Native.Nat as N
 use Rattle.ring.specs.Ring.{Ops}
 use Rattle.ring.proofs.Solve.{var, one, _:*_, hyp, solve, solve-by}
@@ -23,7 +24,8 @@ use Rattle.field.specs.Refusal.{Degree}
 use Rattle.field.proofs.Accept.{degree-size, degree-lead}
 use Rattle.pairs.specs.OneField.{leading}
 use Rattle.pairs.specs.Rows.{Law}
-use Rattle.pairs.proofs.Lists.{mod-of, leading-at}
+use Rattle.pairs.proofs.Lists.{mod-of, leading-at, leading-not}
+use Rattle.pairs.proofs.Laws.{law-one}
 use Rattle.onefield.specs.Carries.{Factors}
 
 module _ (p : ℕ) (pr : Prime p) where
@@ -62,7 +64,7 @@ module _ (p : ℕ) (pr : Prime p) where
       subst (λ i. Leads 𝓥 (polynomial p pr l .0) (cast i)) (sym (leading-at p pr h)) (n, 0, degree-lead pr h, size-lead ρ (degree-size h))
 
   -- G′ = αG at the leading coefficients
-  pub lead-times : {u : Poly 𝓥} (k : Number u) {l l′ : List ℕ} {n n′ : ℕ} → Degree p l n → Degree p l′ n′
+  lead-times : {u : Poly 𝓥} (k : Number u) {l l′ : List ℕ} {n n′ : ℕ} → Degree p l n → Degree p l′ n′
       → polynomial p pr l′ ≡ u ⊠ polynomial p pr l → cast (leading l′) ≡ cast (k .k) *ᵏ cast (leading l)
   lead-times k {l} {l′} h h′ e =
       leads-unique 𝓥 (list-leads h′) (subst (λ z. Leads 𝓥 (z .0) (cast (k .k) *ᵏ cast (leading l))) (sym e) (leads-mul 𝓥 (k .leads) (list-leads h)))
@@ -95,7 +97,7 @@ module _ (p : ℕ) (pr : Prime p) where
         leads-unique 𝓥 (ky .leads)
         (subst (λ z. Leads 𝓥 (z .0) (b *ᵏ (x *ᵏ x))) (sym (f .square)) (leads-mul 𝓥 (kb .leads) (leads-mul 𝓥 (kx .leads) (kx .leads))))
 
-    pub law-of : (g h g′ h′ : ℕ) → cast g′ ≡ a *ᵏ cast g → cast h′ ≡ b *ᵏ cast h → Law p X Y g h g′ h′
+    law-of : (g h g′ h′ : ℕ) → cast g′ ≡ a *ᵏ cast g → cast h′ ≡ b *ᵏ cast h → Law p X Y g h g′ h′
     law-of g h g′ h′ eg eh = record {
       x-below = kx .below;
       y-below = ky .below;
@@ -112,3 +114,26 @@ module _ (p : ℕ) (pr : Prime p) where
           ∙ solve K (var 0 :* (var 1 :* var 1) :* var 2) (var 1 :* var 1 :* (var 0 :* var 2)) tt (b ∷ x ∷ cast h ∷ [])
           ∙ sym (ρ .cast-mul (N._*_ X X) h′ ∙ ap₂ _*ᵏ_ (ρ .cast-mul X X) eh));
     }
+
+  -- ---- for lists with l′ = αl and m′ = βm
+  module _ (f : Factors 𝓥) {l m l′ m′ : List ℕ} {d e d′ e′ : ℕ} (hl : Degree p l d) (hm : Degree p m e) (hl′ : Degree p l′ d′) (hm′ : Degree p m′ e′)
+      (eα : polynomial p pr l′ ≡ f .α ⊠ polynomial p pr l) (eβ : polynomial p pr m′ ≡ f .β ⊠ polynomial p pr m) where
+    kx : Number (f .x)
+    kx = number-of (f .x) (f .x-unit)
+
+    ky : Number (f .y)
+    ky = number-of (f .y) (f .y-unit)
+
+    law : Law p (kx .k) (ky .k) (leading l) (leading m) (leading l′) (leading m′)
+    law =
+        let ka = number-of (f .α) (f .α-unit) in
+        let kb = number-of (f .β) (f .β-unit) in
+        law-of f ka kb kx ky (leading l) (leading m) (leading l′) (leading m′) (lead-times ka hl hl′ eα) (lead-times kb hm hm′ eβ)
+
+    pub laws : (x y : ℕ) × Law p x y (leading l) (leading m) (leading l′) (leading m′)
+    laws = (kx .k, ky .k, law)
+
+    pub constants : p % 3 ≡ 2 → {x y : ℕ} → Law p x y (leading l) (leading m) (leading l′) (leading m′) → (f .x ≡ constant x) × (f .y ≡ constant y)
+    constants kind h =
+        let (ex, ey) = law-one p pr kind (leading-not p pr hl′) (leading-not p pr hm′) (leading-not p pr hm) law h in
+        (kx .is ∙ ap constant ex, ky .is ∙ ap constant ey)

@@ -1,0 +1,143 @@
+-- Lists of rows of c numbers each.
+--   straight-below, crossed-below, turned-below   rows that carry over hold numbers below p
+--   all-below                                     and so does the whole list
+--   straight-rows, crossed-rows, turned-rows      the list that six or seven rows carry over to
+use mathlib.Core.Path.{_≡_, sym, ap, ap₂, _∙_, subst}
+use mathlib.Core.List.{List}
+use Prim.Native.Nat.{ℕ, zero, suc, _+_, _*_, _-_, _/_, _%_, _<_, _≤_}
+use native.Mathlib.Nat.{add-zero, mod-lt, mod-eq-of-lt, div-eq-of-lt, mul-add-div, mul-add-mod-self-left}
+use native.Mathlib.Omega.{arith}
+use native.Mathlib.Decide.{decLt}
+use lib.ListN.{length, getD, List·getD-eq-default}
+use Rattle.reading.specs.Row.{tab}
+use Rattle.reading.proofs.Tab.{length-tab, at-tab}
+use Rattle.pairs.specs.Rows.{Stays, Times, Straight, Crossed, Turned}
+
+-- ---- numbers below p
+module _ (P : ℕ → Type 0) (c : ℕ) where
+  in-row : (a : ℕ) → ((i : ℕ) → i < c → P (a + i)) → (k : ℕ) → a ≤ k → k < a + c → P k
+  in-row a h k u v = let e : a + (k - a) ≡ k = omega arith in subst P e (h (k - a) (omega arith))
+
+  in-three : (a : ℕ) → ((i : ℕ) → i < c → P (a + i)) → ((i : ℕ) → i < c → P (a + c + i)) → ((i : ℕ) → i < c → P (a + c + c + i))
+      → (k : ℕ) → a ≤ k → k < a + c + c + c → P k
+  in-three a f g h k u v = elim (decLt k (a + c)) [
+    | yes w ↦ in-row a f k u w
+    | no w ↦ elim (decLt k (a + c + c)) [ yes z ↦ in-row (a + c) g k (omega arith) z | no z ↦ in-row (a + c + c) h k (omega arith) v ]
+  ]
+
+module _ (p c : ℕ) (l l′ : List ℕ) (below : (i : ℕ) → getD l i 0 < p) where
+  pos : 0 < p
+  pos = omega (arith, below 0)
+
+  stays-below : (a : ℕ) → Stays c l a l′ → (i : ℕ) → i < c → getD l′ (a + i) 0 < p
+  stays-below a h i u = subst (λ z. z < p) (sym (h i u)) (below (a + i))
+
+  times-below : (k a b : ℕ) → Times p c k l a l′ b → (i : ℕ) → i < c → getD l′ (b + i) 0 < p
+  times-below k a b h i u = subst (λ z. z < p) (sym (h i u)) (mod-lt (k * getD l (a + i) 0) pos)
+
+  abbrev Small : ℕ → Type 0
+  Small k = getD l′ k 0 < p
+
+  pub row-below : (a : ℕ) → Stays c l a l′ → (k : ℕ) → a ≤ k → k < a + c → Small k
+  row-below a h = in-row Small c a (stays-below a h)
+
+  module _ {x y a : ℕ} where
+    pub straight-below : Straight p c x y l a l′ → (k : ℕ) → a ≤ k → k < a + c + c + c → Small k
+    straight-below h = in-three Small c a (stays-below a (h .A)) (times-below x (a + c) (a + c) (h .B)) (times-below y (a + c + c) (a + c + c) (h .C))
+
+    pub crossed-below : Crossed p c x y l a l′ → (k : ℕ) → a ≤ k → k < a + c + c + c → Small k
+    crossed-below h = in-three Small c a (stays-below a (h .A)) (times-below x (a + c + c) (a + c) (h .B)) (times-below y (a + c) (a + c + c) (h .C))
+
+    pub turned-below : Turned p c x y l a l′ → (k : ℕ) → a ≤ k → k < a + c + c + c → Small k
+    turned-below h =
+        in-three Small c a (times-below (p - 1) a a (h .A)) (times-below (p - x) (a + c + c) (a + c) (h .B)) (times-below (p - y) (a + c) (a + c + c) (h .C))
+
+  pub all-below : (n : ℕ) → length l′ ≡ n → ((k : ℕ) → k < n → Small k) → (k : ℕ) → Small k
+  all-below n e h k = elim (decLt k n) [
+    | yes u ↦ h k u
+    | no u ↦ subst (λ z. z < p) (sym (List·getD-eq-default l′ 0 {n = k} (omega arith))) pos
+  ]
+
+-- ---- the list that rows carry over to
+abbrev seven : (a b c d e f g : ℕ → ℕ) → ℕ → ℕ → ℕ
+seven a b c d e f g zero = a
+seven a b c d e f g (suc zero) = b
+seven a b c d e f g (suc (suc zero)) = c
+seven a b c d e f g (suc (suc (suc zero))) = d
+seven a b c d e f g (suc (suc (suc (suc zero)))) = e
+seven a b c d e f g (suc (suc (suc (suc (suc zero))))) = f
+seven a b c d e f g (suc (suc (suc (suc (suc (suc i)))))) = g
+
+module _ (n c : ℕ) (h : ℕ → ℕ → ℕ) where
+  -- number j of row i is h i j
+  pub made : List ℕ
+  made = tab n (λ k. h (k / c) (k % c))
+
+  pub made-size : length made ≡ n
+  unfolding made
+  made-size = length-tab n (λ k. h (k / c) (k % c))
+
+  made-at : (i a : ℕ) → a ≡ c * i → (j : ℕ) → j < c → a + j < n → getD made (a + j) 0 ≡ h i j
+  unfolding made
+  made-at i a e j u v =
+      let pos : 0 < c = omega arith in
+      at-tab n (λ k. h (k / c) (k % c)) (a + j) v
+      ∙ ap₂ h
+      (ap (λ z. (z + j) / c) e ∙ mul-add-div pos i j ∙ ap (λ z. i + z) (div-eq-of-lt u) ∙ add-zero i)
+      (ap (λ z. (z + j) % c) e ∙ mul-add-mod-self-left c i j ∙ mod-eq-of-lt u)
+
+  module _ (room : 6 * c ≤ n) where
+    row₀ : (j : ℕ) → j < c → getD made (0 + j) 0 ≡ h 0 j
+    row₀ j u = made-at 0 0 (omega arith) j u (omega arith)
+
+    row₁ : (j : ℕ) → j < c → getD made (0 + c + j) 0 ≡ h 1 j
+    row₁ j u = made-at 1 (0 + c) (omega arith) j u (omega arith)
+
+    row₂ : (j : ℕ) → j < c → getD made (0 + c + c + j) 0 ≡ h 2 j
+    row₂ j u = made-at 2 (0 + c + c) (omega arith) j u (omega arith)
+
+    row₃ : (j : ℕ) → j < c → getD made (c + c + c + j) 0 ≡ h 3 j
+    row₃ j u = made-at 3 (c + c + c) (omega arith) j u (omega arith)
+
+    row₄ : (j : ℕ) → j < c → getD made (c + c + c + c + j) 0 ≡ h 4 j
+    row₄ j u = made-at 4 (c + c + c + c) (omega arith) j u (omega arith)
+
+    row₅ : (j : ℕ) → j < c → getD made (c + c + c + c + c + j) 0 ≡ h 5 j
+    row₅ j u = made-at 5 (c + c + c + c + c) (omega arith) j u (omega arith)
+
+  pub last-row : 7 * c ≤ n → (j : ℕ) → j < c → getD made (c + c + c + c + c + c + j) 0 ≡ h 6 j
+  last-row room j u = made-at 6 (c + c + c + c + c + c) (omega arith) j u (omega arith)
+
+module _ (p c x y : ℕ) (l : List ℕ) where
+  -- c numbers from place a on, as they are, and times k
+  abbrev stay : ℕ → ℕ → ℕ
+  stay a j = getD l (a + j) 0
+
+  abbrev by : ℕ → ℕ → ℕ → ℕ
+  by k a j = (k * getD l (a + j) 0) % p
+
+  abbrev pub straights : ℕ → ℕ → ℕ
+  straights = seven (stay 0) (by x (0 + c)) (by y (0 + c + c)) (stay (c + c + c)) (by x (c + c + c + c)) (by y (c + c + c + c + c)) (stay (c + c + c + c + c + c))
+
+  abbrev pub crosseds : ℕ → ℕ → ℕ
+  crosseds = seven (stay 0) (by x (0 + c + c)) (by y (0 + c)) (stay (c + c + c)) (by x (c + c + c + c + c)) (by y (c + c + c + c)) (stay (c + c + c + c + c + c))
+
+  -- the second three with the other sign
+  abbrev pub turneds : ℕ → ℕ → ℕ
+  turneds = seven (stay 0) (by x (0 + c + c)) (by y (0 + c)) (by (p - 1) (c + c + c)) (by (p - x) (c + c + c + c + c)) (by (p - y) (c + c + c + c)) (stay (c + c + c + c + c + c))
+
+  module _ (n : ℕ) (room : 6 * c ≤ n) where
+    pub straight-rows : Straight p c x y l 0 (made n c straights) × Straight p c x y l (c + c + c) (made n c straights)
+    straight-rows =
+        let h = straights in
+        (record { A = row₀ n c h room; B = row₁ n c h room; C = row₂ n c h room }, record { A = row₃ n c h room; B = row₄ n c h room; C = row₅ n c h room })
+
+    pub crossed-rows : Crossed p c x y l 0 (made n c crosseds) × Crossed p c x y l (c + c + c) (made n c crosseds)
+    crossed-rows =
+        let h = crosseds in
+        (record { A = row₀ n c h room; B = row₁ n c h room; C = row₂ n c h room }, record { A = row₃ n c h room; B = row₄ n c h room; C = row₅ n c h room })
+
+    pub turned-rows : Crossed p c x y l 0 (made n c turneds) × Turned p c x y l (c + c + c) (made n c turneds)
+    turned-rows =
+        let h = turneds in
+        (record { A = row₀ n c h room; B = row₁ n c h room; C = row₂ n c h room }, record { A = row₃ n c h room; B = row₄ n c h room; C = row₅ n c h room })
