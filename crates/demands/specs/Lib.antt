@@ -2,3 +2,4 @@ pub mod Fixed
 pub mod Meaning
 pub mod Chain
 pub mod Smallest
+pub mod SameField

@@ -9,3 +9,4 @@ pub mod Numbers
 pub mod Refused
 pub mod Corresponds
 pub mod Least
+pub mod Shared

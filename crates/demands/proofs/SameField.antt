@@ -1,0 +1,58 @@
+-- Request E3 holds: what the layers prove, side by side.
+use mathlib.Core.Path.{_≡_, refl, ap}
+use mathlib.Core.Bool.{Bool, true, false}
+use mathlib.Core.List.{List}
+use Prim.Native.Nat.{ℕ, _<_, _≤_}
+use native.Mathlib.Omega.{arith}
+use lib.ListN.{length, take}
+use Rattle.field.specs.Refusal.{Accepted}
+use Rattle.field.proofs.Accept.{accepted-none}
+use Rattle.pairs.specs.OneField.{OneField}
+use Rattle.pairs.specs.declared.Compared.{Compared}
+use Rattle.pairs.specs.Answer as pairs
+use Rattle.pairs.proofs.Relation as relation
+use Rattle.pairs.proofs.Once.{refusals-one}
+use Rattle.onefield.proofs.Shared as theory
+use Rattle.transfer.proofs.Back.{transfers-back}
+use Rattle.alike.proofs.Alike as answers
+use Rattle.book_bytes.specs.Decides.{Decides}
+use Rattle.book_body.specs.Said.{Said, refused}
+use Rattle.book_body.specs.Body as body
+use Rattle.book.specs.Book as book
+use Rattle.book.specs.Answer as says
+use Rattle.book.proofs.Facts.{fault-thirteen}
+use Rattle.book_add.specs.Add as add
+use Rattle.book_add.proofs.One.{add-one}
+use Rattle.demands.specs.SameField.{SameField}
+
+yes-of : {A : Type 0} (r : Bool) → Decides r A → A → r ≡ true
+yes-of true d a = refl
+yes-of false d a = absurd (d .no! refl a)
+
+compared : {p : ℕ} {G H G′ H′ : List ℕ} → Accepted p G H → Accepted p G′ H′ → (a : Compared) → pairs.Compares p G H G′ H′ a →
+    OneField p G H G′ H′ → (a .refusal ≡ 0) × (a .same ≡ true)
+compared {p} {G} {H} {G′} {H′} A A′ a (pairs.refused f r e) o =
+    absurd (f (refusals-one r (pairs.second (accepted-none p G H A) (accepted-none p G′ H′ A′))))
+compared A A′ a (pairs.compared e r d) o = (e, yes-of (a .same) d o)
+
+number-of : {x y : Said} → x ≡ y → x .number ≡ y .number
+number-of e = ap (λ (x : Said). x .number) e
+
+twice : (s : List ℕ) (x : Said) → says.Tells s x → (i j : ℕ) → i < book.count s → j < i → body.OneField (book.entry s i) (book.entry s j) → x .number ≡ 13
+twice s x (says.mark f e) i j h k o = number-of e
+twice s x (says.contents m f e) i j h k o = number-of e
+twice s x (says.at-entry m l n u g f) i j h k o = fault-thirteen f
+twice s x (says.fine a e) i j h k o = absurd (a .good i h .once j k o)
+
+pub same-field : SameField
+same-field = record {
+  reflexive = λ p pr. relation.one-refl p pr;
+  symmetric = relation.one-sym;
+  transitive = λ p pr. relation.one-trans p pr;
+  compared = compared;
+  shared = theory.shared;
+  alike = answers.alike;
+  back = transfers-back;
+  twice = twice;
+  known = λ d b d′ n x t l a f j h o. add-one d n b t (add.known l a f j h o refl refl);
+}
