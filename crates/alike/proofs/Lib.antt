@@ -1,4 +1,5 @@
 pub mod Blocks
+pub mod Numbers
 pub mod Way
 pub mod Rows
 pub mod Record

@@ -22,7 +22,7 @@ use Rattle.onefield.specs.Side.{side}
 use Rattle.onefield.specs.Carries.{El, Carries, stretch, exchange}
 use Rattle.onefield.proofs.OneField as one
 use Rattle.onefield.proofs.Refused.{refusal-carry}
-use Rattle.onefield.proofs.Numbers.{constant, laws, constants}
+use Rattle.alike.proofs.Numbers.{constant, laws, constants}
 
 abbrev pub primed : {p : ℕ} {G H : List ℕ} → Prime p → Accepted p G H → Accepted p G H
 primed pr A = record {
