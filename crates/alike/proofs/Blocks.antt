@@ -1,7 +1,8 @@
 -- Lists of rows of c numbers each.
 --   straight-below, crossed-below, turned-below   rows that carry over hold numbers below p
 --   all-below                                     and so does the whole list
---   straight-rows, crossed-rows, turned-rows      the list that six or seven rows carry over to
+--   made, made-size                               a list by its rows
+--   straight-rows, crossed-rows, turned-rows      the list that six rows carry over to; `last-row`: and a seventh that stays
 use mathlib.Core.Path.{_≡_, sym, ap, ap₂, _∙_, subst}
 use mathlib.Core.List.{List}
 use Prim.Native.Nat.{ℕ, zero, suc, _+_, _*_, _-_, _/_, _%_, _<_, _≤_}

@@ -5,7 +5,7 @@ pub mod Rows
 pub mod Record
 pub mod Chains
 pub mod Told
-pub mod Six
+pub mod UnitRows
 pub mod Made
 pub mod Steps
 pub mod Transferred
