@@ -11,9 +11,9 @@ alike p G H G′ H′ s s′ one = record {
   refused = refusal-carry p s s′ one;
   told = told-same p s s′ one;
   made = made-same p s s′ one;
-  holds = λ h t. transferred-holds p h t;
-  transferred = transferred-unit p s s′ one;
   order = order-same p s s′ one;
   step = λ c. step-same p s s′ c;
   walk = λ c. walk-same p s s′ c;
+  holds = λ h t. transferred-holds p h t;
+  transferred = transferred-unit p s s′ one;
 }

@@ -1,30 +1,21 @@
 -- Lists of rows of c numbers each.
 --   straight-below, crossed-below, turned-below   rows that carry over hold numbers below p
 --   all-below                                     and so does the whole list
---   straight-rows, crossed-rows, turned-rows      the list that six or seven rows carry over to
+--   made, made-size                               a list by its rows
+--   straight-rows, crossed-rows, turned-rows      the list that six rows carry over to; `last-row`: and a seventh that stays
 use mathlib.Core.Path.{_≡_, sym, ap, ap₂, _∙_, subst}
 use mathlib.Core.List.{List}
 use Prim.Native.Nat.{ℕ, zero, suc, _+_, _*_, _-_, _/_, _%_, _<_, _≤_}
-use native.Mathlib.Nat.{add-zero, mod-lt, mod-eq-of-lt, div-eq-of-lt, mul-add-div, mul-add-mod-self-left}
+use native.Mathlib.Nat.{add-zero, mod-eq-of-lt, div-eq-of-lt, mul-add-div, mul-add-mod-self-left}
 use native.Mathlib.Omega.{arith}
 use native.Mathlib.Decide.{decLt}
 use lib.ListN.{length, getD, List·getD-eq-default}
 use Rattle.reading.specs.Row.{tab}
 use Rattle.reading.proofs.Tab.{length-tab, at-tab}
-use Rattle.pairs.specs.Rows.{Stays, Times, Straight, Crossed, Turned}
+use Rattle.pairs.specs.Rows.{Stays, Straight, Crossed, Turned}
+use Rattle.transfer.proofs.Rows.{three, times-below}
 
 -- ---- numbers below p
-module _ (P : ℕ → Type 0) (c : ℕ) where
-  in-row : (a : ℕ) → ((i : ℕ) → i < c → P (a + i)) → (k : ℕ) → a ≤ k → k < a + c → P k
-  in-row a h k u v = let e : a + (k - a) ≡ k = omega arith in subst P e (h (k - a) (omega arith))
-
-  in-three : (a : ℕ) → ((i : ℕ) → i < c → P (a + i)) → ((i : ℕ) → i < c → P (a + c + i)) → ((i : ℕ) → i < c → P (a + c + c + i))
-      → (k : ℕ) → a ≤ k → k < a + c + c + c → P k
-  in-three a f g h k u v = elim (decLt k (a + c)) [
-    | yes w ↦ in-row a f k u w
-    | no w ↦ elim (decLt k (a + c + c)) [ yes z ↦ in-row (a + c) g k (omega arith) z | no z ↦ in-row (a + c + c) h k (omega arith) v ]
-  ]
-
 module _ (p c : ℕ) (l l′ : List ℕ) (below : (i : ℕ) → getD l i 0 < p) where
   pos : 0 < p
   pos = omega (arith, below 0)
@@ -32,25 +23,23 @@ module _ (p c : ℕ) (l l′ : List ℕ) (below : (i : ℕ) → getD l i 0 < p) 
   stays-below : (a : ℕ) → Stays c l a l′ → (i : ℕ) → i < c → getD l′ (a + i) 0 < p
   stays-below a h i u = subst (λ z. z < p) (sym (h i u)) (below (a + i))
 
-  times-below : (k a b : ℕ) → Times p c k l a l′ b → (i : ℕ) → i < c → getD l′ (b + i) 0 < p
-  times-below k a b h i u = subst (λ z. z < p) (sym (h i u)) (mod-lt (k * getD l (a + i) 0) pos)
-
   abbrev Small : ℕ → Type 0
   Small k = getD l′ k 0 < p
 
   pub row-below : (a : ℕ) → Stays c l a l′ → (k : ℕ) → a ≤ k → k < a + c → Small k
-  row-below a h = in-row Small c a (stays-below a h)
+  row-below a h k u v = let e : a + (k - a) ≡ k = omega arith in subst Small e (stays-below a h (k - a) (omega arith))
 
   module _ {x y a : ℕ} where
     pub straight-below : Straight p c x y l a l′ → (k : ℕ) → a ≤ k → k < a + c + c + c → Small k
-    straight-below h = in-three Small c a (stays-below a (h .A)) (times-below x (a + c) (a + c) (h .B)) (times-below y (a + c + c) (a + c + c) (h .C))
+    straight-below h = three c a Small (stays-below a (h .A)) (times-below p pos c l l′ x (a + c) (a + c) (h .B)) (times-below p pos c l l′ y (a + c + c) (a + c + c) (h .C))
 
     pub crossed-below : Crossed p c x y l a l′ → (k : ℕ) → a ≤ k → k < a + c + c + c → Small k
-    crossed-below h = in-three Small c a (stays-below a (h .A)) (times-below x (a + c + c) (a + c) (h .B)) (times-below y (a + c) (a + c + c) (h .C))
+    crossed-below h = three c a Small (stays-below a (h .A)) (times-below p pos c l l′ x (a + c + c) (a + c) (h .B)) (times-below p pos c l l′ y (a + c) (a + c + c) (h .C))
 
     pub turned-below : Turned p c x y l a l′ → (k : ℕ) → a ≤ k → k < a + c + c + c → Small k
     turned-below h =
-        in-three Small c a (times-below (p - 1) a a (h .A)) (times-below (p - x) (a + c + c) (a + c) (h .B)) (times-below (p - y) (a + c) (a + c + c) (h .C))
+        three c a Small (times-below p pos c l l′ (p - 1) a a (h .A))
+        (times-below p pos c l l′ (p - x) (a + c + c) (a + c) (h .B)) (times-below p pos c l l′ (p - y) (a + c) (a + c + c) (h .C))
 
   pub all-below : (n : ℕ) → length l′ ≡ n → ((k : ℕ) → k < n → Small k) → (k : ℕ) → Small k
   all-below n e h k = elim (decLt k n) [

@@ -1,10 +1,11 @@
 pub mod Blocks
+pub mod Numbers
 pub mod Way
 pub mod Rows
 pub mod Record
 pub mod Chains
 pub mod Told
-pub mod Six
+pub mod UnitRows
 pub mod Made
 pub mod Steps
 pub mod Transferred

@@ -16,7 +16,7 @@ use Rattle.pairs.specs.OneField.{OneField, Coefficients}
 use Rattle.pairs.specs.Rows.{RowsCarry}
 use Rattle.alike.specs.Alike.{MadeSame}
 use Rattle.alike.proofs.Way.{Way, way, split}
-use Rattle.alike.proofs.Six.{rows-in, over, holds-over, finds-over, misses-over}
+use Rattle.alike.proofs.UnitRows.{rows-in, over, holds-over, finds-over, misses-over}
 
 -- rows of 6 c numbers that carry over
 pub record Rows (p : ℕ) (G H G′ H′ : List ℕ) (r r′ : List ℕ) : Type 0 where

@@ -26,7 +26,7 @@ use Rattle.ideals.proofs.Sizes.{O-path, sc-a, sc-b, sc-c}
 use Rattle.pairs.specs.Rows.{Stays, Times, Straight, Crossed, Turned}
 use Rattle.onefield.specs.Side.{Side, at, side}
 use Rattle.onefield.specs.Carries.{El, stretch, exchange}
-use Rattle.onefield.proofs.Numbers.{constant}
+use Rattle.alike.proofs.Numbers.{constant}
 use Rattle.alike.proofs.Way.{Way, same, swapped, map, map-same, map-swapped, map-plus, map-minus}
 use Rattle.alike.proofs.Blocks.{straight-below, crossed-below, turned-below}
 

@@ -62,6 +62,7 @@ module _ (p : ℕ) {G H G′ H′ : List ℕ} where
 
 -- ---- from counterparts
 module _ (p : ℕ) {G H G′ H′ : List ℕ} (s : Coefficients p G H) (s′ : Coefficients p G′ H′) {B B′ : List ℕ} (c : Counterpart p G H G′ H′ B B′) where
+  -- the way that the counterparts tell
   q : Way p G H G′ H′
   q = record-way (c .carries) .0
 
@@ -72,7 +73,8 @@ module _ (p : ℕ) {G H G′ H′ : List ℕ} (s : Coefficients p G H) (s′ : C
   step-refused : {n : ℕ} (v : Stepped) → n ≢ 0 → v ≡ stepped.refused n → StepSame p G H G′ H′ v v
   step-refused v f e = record { number = refl; degree = refl; basis = λ z. absurd (f (sym (ap (λ t. t .refusal) e) ∙ z)) }
 
-  step-goes : Accepted p G H → Accepted p G′ H′ → (v : Stepped) → stepped.Goes p G H B v → (u : Stepped) × stepped.Goes p G′ H′ B′ u × StepSame p G H G′ H′ v u
+  step-goes : Accepted p G H → Accepted p G′ H′ → (v : Stepped) → stepped.Goes p G H B v
+      → (u : Stepped) × stepped.Goes p G′ H′ B′ u × StepSame p G H G′ H′ v u
   step-goes A A′ v (stepped.no-record f e) = (v, stepped.no-record (λ r. f (record-back A′ q (c .size) (c .below) o r)) e, step-refused v (λ z. omega arith) e)
   step-goes A A′ v (stepped.taken r z t) =
       let (E′, u) = over (v .basis) (t .is-record .each) q in (

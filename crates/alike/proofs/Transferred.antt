@@ -17,10 +17,11 @@ use Rattle.pairs.proofs.Outcomes.{both-of}
 use Rattle.transfer.specs.Transfer.{Transfers, refused, unfit, carried}
 use Rattle.transfer.proofs.Once.{transfers-one}
 use Rattle.onefield.proofs.Refused.{refusal-carry}
-use Rattle.alike.proofs.Six.{rows-way, rows-below, holds-over}
+use Rattle.alike.proofs.UnitRows.{rows-way, rows-below, holds-over}
 use Rattle.alike.proofs.Made.{made-rows}
 
-pub transferred-holds : (p : ℕ) {G H G′ H′ : List ℕ} {l d c : ℕ} {r r₁ : List ℕ} → Holds p G H l d c r → Transfers p G H G′ H′ r 0 r₁ → Holds p G′ H′ l d c r₁
+pub transferred-holds : (p : ℕ) {G H G′ H′ : List ℕ} {l d c : ℕ} {r r₁ : List ℕ}
+    → Holds p G H l d c r → Transfers p G H G′ H′ r 0 r₁ → Holds p G′ H′ l d c r₁
 transferred-holds p h (refused f s e) = absurd (f refl)
 transferred-holds p h (unfit s u k e) = absurd (omega arith)
 transferred-holds p {G} {H} {G′} {H′} {c = c} {r} {r₁} h (carried s c′ t k e q) =

@@ -1,10 +1,11 @@
 -- The way from one accepted pair to another of the same field.
---   primed          an accepted pair with the other's proof that p is prime, so that both have the same series
---   Way             the order in which the pairs agree, and the factors as numbers
---   way, one-of     of two accepted pairs of one field; and back
---   split           two pairs of one field are refused alike, or both are accepted
---   map             how the orders carry over
+--   primed                  an accepted pair with the other's proof that p is prime, so that both have the same series
+--   Way                     the order in which the pairs agree, and the factors as numbers
+--   way, one-of             of two accepted pairs of one field; and back
+--   split                   two pairs of one field are refused alike, or both are accepted
+--   map                     how the orders carry over
 --   map-same, map-swapped   what that does to an element
+--   map-plus, map-minus     its sign
 use mathlib.Core.Path.{_≡_, ap₂, _∙_, subst}
 use mathlib.Core.Logic.{_≢_, inl, inr}
 use mathlib.Core.List.{List}
@@ -22,7 +23,7 @@ use Rattle.onefield.specs.Side.{side}
 use Rattle.onefield.specs.Carries.{El, Carries, stretch, exchange}
 use Rattle.onefield.proofs.OneField as one
 use Rattle.onefield.proofs.Refused.{refusal-carry}
-use Rattle.onefield.proofs.Numbers.{constant, laws, constants}
+use Rattle.alike.proofs.Numbers.{constant, laws, constants}
 
 abbrev pub primed : {p : ℕ} {G H : List ℕ} → Prime p → Accepted p G H → Accepted p G H
 primed pr A = record {

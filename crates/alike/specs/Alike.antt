@@ -62,15 +62,15 @@ module _ (p : ℕ) (G H G′ H′ : List ℕ) where
     -- "and say how the rows of the unit carry over: E1 and E2 change places on a swap and take constant factors, E0 stays"
     pub made : (n : ℕ) (x y x′ y′ : List ℕ) → length x ≡ length x′ → length y ≡ length y′ → (v w : Made) (r r′ s s′ : List ℕ)
         → Makes p G H n x y v r s → Makes p G′ H′ n x′ y′ w r′ s′ → MadeSame v w r r′
-    -- `transfer` makes the other unit's rows of them, the very rows that `unit` gives for the other pair
-    pub holds : {l d c : ℕ} {r r₁ : List ℕ} → Holds p G H l d c r → Transfers p G H G′ H′ r 0 r₁ → Holds p G′ H′ l d c r₁
-    pub transferred : (n : ℕ) (x y x′ y′ : List ℕ) → length x ≡ length x′ → length y ≡ length y′ → (v w : Made) (r r′ s s′ : List ℕ)
-        → Makes p G H n x y v r s → Makes p G′ H′ n x′ y′ w r′ s′ → v .refusal ≡ 0
-        → (k : ℕ) (r₁ : List ℕ) → Transfers p G H G′ H′ r k r₁ → (k ≡ 0) × (r₁ ≡ r′)
     -- the records of the two chains carry over too, from the order on
     pub order : (v w : Ordered) → Orders p G H v → Orders p G′ H′ w → OrderSame v w
     pub step : {B B′ : List ℕ} → Counterpart B B′ → (v w : Stepped) → Answers p G H B v → Answers p G′ H′ B′ w → StepSame v w
     pub walk : {B B′ : List ℕ} → Counterpart B B′ → (n : ℕ) (v w : Walked) → Walks p G H n B v → Walks p G′ H′ n B′ w → WalkSame v w
+    -- `transfer` makes of the unit's rows the rows of the other pair's unit, those that `unit` gives for it
+    pub holds : {l d c : ℕ} {r r₁ : List ℕ} → Holds p G H l d c r → Transfers p G H G′ H′ r 0 r₁ → Holds p G′ H′ l d c r₁
+    pub transferred : (n : ℕ) (x y x′ y′ : List ℕ) → length x ≡ length x′ → length y ≡ length y′ → (v w : Made) (r r′ s s′ : List ℕ)
+        → Makes p G H n x y v r s → Makes p G′ H′ n x′ y′ w r′ s′ → v .refusal ≡ 0
+        → (k : ℕ) (r₁ : List ℕ) → Transfers p G H G′ H′ r k r₁ → (k ≡ 0) × (r₁ ≡ r′)
 
 -- "Two pairs over the same p are of one field when they agree after both are made monic, in either order"
 abbrev pub Alike : Type 0

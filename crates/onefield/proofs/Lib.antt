@@ -5,7 +5,6 @@ pub mod OneField
 pub mod Transport
 pub mod Same
 pub mod Units
-pub mod Numbers
 pub mod Refused
 pub mod Corresponds
 pub mod Least

@@ -22,7 +22,7 @@ use Rattle.pairs.proofs.Relation.{not-both}
 use Rattle.pairs.proofs.Laws.{law-one}
 
 -- ---- what holds at three rows holds from the first to the last
-three : (c at : ℕ) (P : ℕ → Type 0) → ((i : ℕ) → i < c → P (at + i)) → ((i : ℕ) → i < c → P (at + c + i)) → ((i : ℕ) → i < c → P (at + c + c + i))
+pub three : (c at : ℕ) (P : ℕ → Type 0) → ((i : ℕ) → i < c → P (at + i)) → ((i : ℕ) → i < c → P (at + c + i)) → ((i : ℕ) → i < c → P (at + c + c + i))
     → (i : ℕ) → at ≤ i → i < at + c + c + c → P i
 three c at P a b d i u v = elim (decLt i (at + c)) [
   | yes k ↦ subst P (let o : at + (i - at) ≡ i = omega arith in o) (a (i - at) (omega arith))
@@ -76,7 +76,7 @@ module _ {p : ℕ} {G H G′ H′ : List ℕ} (t : Both p G H G′ H′) where
 
 -- ---- the numbers are below p
 module _ (p : ℕ) (pos : 0 < p) (c : ℕ) (l l′ : List ℕ) where
-  times-below : (k a b : ℕ) → Times p c k l a l′ b → (i : ℕ) → i < c → getD l′ (b + i) 0 < p
+  pub times-below : (k a b : ℕ) → Times p c k l a l′ b → (i : ℕ) → i < c → getD l′ (b + i) 0 < p
   times-below k a b s i u = subst (λ z. z < p) (sym (s i u)) (mod-lt (k * getD l (a + i) 0) pos)
 
   -- the second and the third of three rows

@@ -6,9 +6,8 @@
 use mathlib.Core.Path.{_≡_, refl, sym, ap, ap₂, _∙_, subst}
 use mathlib.Core.List.{List, [], _∷_}
 use Prim.Native.Nat.{ℕ, _%_, _<_}
-use Prim.Native.Nat as N
 use Rattle.ring.specs.Ring.{Ops}
-use Rattle.ring.proofs.Solve.{var, one, _:*_, hyp, solve, solve-by}
+use Rattle.ring.proofs.Solve.{var, one, _:*_, _:=_, hyp, solve-by, ring₃}
 use Rattle.fp.specs.Fp.{Prime}
 use Rattle.valued.specs.Val.{Valued}
 use Rattle.valued.specs.Degree.{Leads}
@@ -24,9 +23,9 @@ use Rattle.field.specs.Refusal.{Degree}
 use Rattle.field.proofs.Accept.{degree-size, degree-lead}
 use Rattle.pairs.specs.OneField.{leading}
 use Rattle.pairs.specs.Rows.{Law}
-use Rattle.pairs.proofs.Lists.{mod-of, leading-at, leading-not}
-use Rattle.pairs.proofs.Laws.{law-one}
+use Rattle.pairs.proofs.Lists.{leading-at, leading-not}
+use Rattle.pairs.proofs.Laws.{law-of, law-one}
 use Rattle.onefield.specs.Carries.{Factors}
 
 module _ (p : ℕ) (pr : Prime p) where
   abbrev ρ : Reading p
@@ -69,12 +68,20 @@ module _ (p : ℕ) (pr : Prime p) where
   lead-times k {l} {l′} h h′ e =
       leads-unique 𝓥 (list-leads h′) (subst (λ z. Leads 𝓥 (z .0) (cast (k .k) *ᵏ cast (leading l))) (sym e) (leads-mul 𝓥 (k .leads) (list-leads h)))
 
-  module _ (f : Factors 𝓥) (ka : Number (f .α)) (kb : Number (f .β)) (kx : Number (f .x)) (ky : Number (f .y)) where
-    abbrev X : ℕ
-    X = kx .k
+  -- ---- for lists with l′ = αl and m′ = βm
+  module _ (f : Factors 𝓥) {l m l′ m′ : List ℕ} {d e d′ e′ : ℕ} (hl : Degree p l d) (hm : Degree p m e) (hl′ : Degree p l′ d′) (hm′ : Degree p m′ e′)
+      (eα : polynomial p pr l′ ≡ f .α ⊠ polynomial p pr l) (eβ : polynomial p pr m′ ≡ f .β ⊠ polynomial p pr m) where
+    ka : Number (f .α)
+    ka = number-of (f .α) (f .α-unit)
 
-    abbrev Y : ℕ
-    Y = ky .k
+    kb : Number (f .β)
+    kb = number-of (f .β) (f .β-unit)
+
+    kx : Number (f .x)
+    kx = number-of (f .x) (f .x-unit)
+
+    ky : Number (f .y)
+    ky = number-of (f .y) (f .y-unit)
 
     abbrev a : K .El
     a = cast (ka .k)
@@ -83,7 +90,7 @@ module _ (p : ℕ) (pr : Prime p) where
     b = cast (kb .k)
 
     abbrev x : K .El
-    x = cast X
+    x = cast (kx .k)
 
     cube-at : x *ᵏ x *ᵏ x *ᵏ (a *ᵏ (b *ᵏ b)) ≡ K .ops .𝟏
     cube-at =
@@ -92,43 +99,24 @@ module _ (p : ℕ) (pr : Prime p) where
         (leads-mul 𝓥 (leads-mul 𝓥 (leads-mul 𝓥 (kx .leads) (kx .leads)) (kx .leads)) (leads-mul 𝓥 (ka .leads) (leads-mul 𝓥 (kb .leads) (kb .leads)))))
         (leads-one 𝓥)
 
-    square-at : cast Y ≡ b *ᵏ (x *ᵏ x)
+    square-at : cast (ky .k) ≡ b *ᵏ (x *ᵏ x)
     square-at =
         leads-unique 𝓥 (ky .leads)
         (subst (λ z. Leads 𝓥 (z .0) (b *ᵏ (x *ᵏ x))) (sym (f .square)) (leads-mul 𝓥 (kb .leads) (leads-mul 𝓥 (kx .leads) (kx .leads))))
 
-    law-of : (g h g′ h′ : ℕ) → cast g′ ≡ a *ᵏ cast g → cast h′ ≡ b *ᵏ cast h → Law p X Y g h g′ h′
-    law-of g h g′ h′ eg eh = record {
-      x-below = kx .below;
-      y-below = ky .below;
-      cube = mod-of p pr (N._*_ (N._*_ (N._*_ X X) X) (N._*_ g′ (N._*_ h′ h′))) (N._*_ g (N._*_ h h))
-          (ρ .cast-mul (N._*_ (N._*_ X X) X) (N._*_ g′ (N._*_ h′ h′))
-          ∙ ap₂ _*ᵏ_ (ρ .cast-mul (N._*_ X X) X ∙ ap (λ z. z *ᵏ x) (ρ .cast-mul X X))
-          (ρ .cast-mul g′ (N._*_ h′ h′) ∙ ap₂ _*ᵏ_ eg (ρ .cast-mul h′ h′ ∙ ap₂ _*ᵏ_ eh eh))
-          ∙ solve-by K (var 0 :* var 0 :* var 0 :* (var 1 :* var 3 :* (var 2 :* var 4 :* (var 2 :* var 4)))) (var 3 :* (var 4 :* var 4))
-          (hyp (var 3 :* (var 4 :* var 4)) (var 0 :* var 0 :* var 0 :* (var 1 :* (var 2 :* var 2))) one ∷ []) tt (x ∷ a ∷ b ∷ cast g ∷ cast h ∷ []) (cube-at, tt)
-          ∙ sym (ρ .cast-mul g (N._*_ h h) ∙ ap (λ z. cast g *ᵏ z) (ρ .cast-mul h h)));
-      square = mod-of p pr (N._*_ Y h) (N._*_ (N._*_ X X) h′)
-          (ρ .cast-mul Y h
-          ∙ ap (λ z. z *ᵏ cast h) square-at
-          ∙ solve K (var 0 :* (var 1 :* var 1) :* var 2) (var 1 :* var 1 :* (var 0 :* var 2)) tt (b ∷ x ∷ cast h ∷ [])
-          ∙ sym (ρ .cast-mul (N._*_ X X) h′ ∙ ap₂ _*ᵏ_ (ρ .cast-mul X X) eh));
-    }
-
-  -- ---- for lists with l′ = αl and m′ = βm
-  module _ (f : Factors 𝓥) {l m l′ m′ : List ℕ} {d e d′ e′ : ℕ} (hl : Degree p l d) (hm : Degree p m e) (hl′ : Degree p l′ d′) (hm′ : Degree p m′ e′)
-      (eα : polynomial p pr l′ ≡ f .α ⊠ polynomial p pr l) (eβ : polynomial p pr m′ ≡ f .β ⊠ polynomial p pr m) where
-    kx : Number (f .x)
-    kx = number-of (f .x) (f .x-unit)
-
-    ky : Number (f .y)
-    ky = number-of (f .y) (f .y-unit)
-
     law : Law p (kx .k) (ky .k) (leading l) (leading m) (leading l′) (leading m′)
     law =
-        let ka = number-of (f .α) (f .α-unit) in
-        let kb = number-of (f .β) (f .β-unit) in
-        law-of f ka kb kx ky (leading l) (leading m) (leading l′) (leading m′) (lead-times ka hl hl′ eα) (lead-times kb hm hm′ eβ)
+        let g = cast (leading l) in
+        let h = cast (leading m) in
+        let eg = lead-times ka hl hl′ eα in
+        let eh = lead-times kb hm hm′ eβ in
+        law-of p pr (kx .k) (ky .k) (leading l) (leading m) (leading l′) (leading m′) (kx .below) (ky .below)
+        (ap₂ (λ s t. x *ᵏ x *ᵏ x *ᵏ (s *ᵏ (t *ᵏ t))) eg eh
+        ∙ solve-by K (var 0 :* var 0 :* var 0 :* (var 1 :* var 3 :* (var 2 :* var 4 :* (var 2 :* var 4)))) (var 3 :* (var 4 :* var 4))
+        (hyp (var 3 :* (var 4 :* var 4)) (var 0 :* var 0 :* var 0 :* (var 1 :* (var 2 :* var 2))) one ∷ []) tt (x ∷ a ∷ b ∷ g ∷ h ∷ []) (cube-at, tt))
+        (ap (λ z. z *ᵏ h) square-at
+        ∙ ring₃ K (λ b x h. b :* (x :* x) :* h := x :* x :* (b :* h)) tt b x h
+        ∙ ap (λ z. x *ᵏ x *ᵏ z) (sym eh))
 
     pub laws : (x y : ℕ) × Law p x y (leading l) (leading m) (leading l′) (leading m′)
     laws = (kx .k, ky .k, law)
