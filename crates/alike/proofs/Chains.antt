@@ -10,6 +10,7 @@ use Prim.Native.Nat.{ℕ}
 use Rattle.valued.specs.Val.{Valued}
 use Rattle.reading.specs.Made.{reading}
 use Rattle.field.specs.Refusal.{Accepted}
+use Rattle.field.proofs.Accept.{with-prime}
 use Rattle.ideals.specs.Ideal.{Basis}
 use Rattle.ideals.specs.Next.{Next, Start}
 use Rattle.chain.specs.Chain.{Degree, Chain, Open, Closing}
@@ -20,14 +21,14 @@ use Rattle.walk.specs.Walk.{Reaches, Closes, StaysOpen}
 use Rattle.onefield.specs.Side.{side}
 use Rattle.onefield.specs.Carries.{Carries, carry}
 use Rattle.onefield.proofs.Transport.{start-carry, next-carry, degree-carry, chain-carry, open-carry, closing-carry}
-use Rattle.alike.proofs.Way.{primed, Way, map}
+use Rattle.alike.proofs.Way.{Way, map}
 use Rattle.alike.proofs.Record.{Over, basis-over, record-over}
 
 module _ {p : ℕ} {G H G′ H′ : List ℕ} (A₀ : Accepted p G H) (w : Way p G H G′ H′) where
   -- at a proof that p is prime, whichever the second pair has
   module _ (A′ : Accepted p G′ H′) where
     abbrev A : Accepted p G H
-    A = primed (A′ .prime) A₀
+    A = with-prime A₀ (A′ .prime)
 
     abbrev 𝓥 : Valued
     𝓥 = reading p (A′ .prime) .𝓥

@@ -14,6 +14,7 @@ use Rattle.fp.specs.Fp.{Prime}
 use Rattle.reading.specs.Made.{reading}
 use Rattle.poly.specs.Factors.{polynomial}
 use Rattle.field.specs.Refusal.{Accepted}
+use Rattle.field.proofs.Accept.{with-prime}
 use Rattle.ideals.specs.Ideal.{Basis}
 use Rattle.ideals.specs.Basis.{Good}
 use Rattle.record.specs.Record.{part, setting, basisOf, IsRecord}
@@ -23,7 +24,7 @@ use Rattle.onefield.specs.Side.{at, side}
 use Rattle.onefield.specs.Carries.{carry}
 use Rattle.onefield.proofs.Inverse.{back, carry-back}
 use Rattle.onefield.proofs.Transport.{good-carry}
-use Rattle.alike.proofs.Way.{primed, Way, same, swapped, map}
+use Rattle.alike.proofs.Way.{Way, same, swapped, map}
 use Rattle.alike.proofs.Rows.{stays-row, tri, ThreeIn, SignedIn, three-below, signed-below, tri-over, signed-over}
 use Rattle.alike.proofs.Blocks.{row-below, all-below, straights, turneds, made, made-size, straight-rows, turned-rows, last-row}
 
@@ -88,7 +89,7 @@ module _ {p : ℕ} {G H G′ H′ : List ℕ} where
     each = o .below;
     good = λ A′.
         let pr = A′ .prime in
-        let A = primed pr A₀ in
+        let A = with-prime A₀ pr in
         subst (Good (setting A′)) (basis-over A A′ pr w B B′ (o .rows)) (good-carry (reading p pr .𝓥) (map A A′ pr w) (basisOf A B) (r .good A));
   }
 
@@ -99,7 +100,7 @@ module _ {p : ℕ} {G H G′ H′ : List ℕ} where
     each = below;
     good = λ A.
         let pr = A .prime in
-        let A′ = primed pr A₀ in
+        let A′ = with-prime A₀ pr in
         let c = map A A′ pr w in
         let k = subst (Good (setting A′)) (sym (basis-over A A′ pr w B B′ (o .rows))) (r .good A′) in
         subst (Good (setting A)) (carry-back (reading p pr .𝓥) c (basisOf A B))
@@ -107,10 +108,10 @@ module _ {p : ℕ} {G H G′ H′ : List ℕ} where
   }
 
   pub record-of : (A : Accepted p G H) (A₀ : Accepted p G′ H′) (w : Way p G H G′ H′) {B B′ : List ℕ} → IsRecord p G H B → IsRecord p G′ H′ B′ →
-      (let pr = A .prime in let A′ = primed pr A₀ in carry (side A pr) (side A′ pr) (map A A′ pr w) (basisOf A B) ≡ basisOf A′ B′) → RecordCarries p G H G′ H′ B B′
+      (let pr = A .prime in let A′ = with-prime A₀ pr in carry (side A pr) (side A′ pr) (map A A′ pr w) (basisOf A B) ≡ basisOf A′ B′) → RecordCarries p G H G′ H′ B B′
   record-of A A₀ w {B} {B′} r r′ e =
       let pr = A .prime in
-      let A′ = primed pr A₀ in
+      let A′ = with-prime A₀ pr in
       let (B₁, o) = over B (r .each) w in
       let q : B₁ ≡ B′ = basis-unique A′ B₁ B′ (record-over A w o r) r′ (sym (basis-over A A′ pr w B B₁ (o .rows)) ∙ e) in
       record-in w (subst (RecordIn w B) q (o .rows))

@@ -10,6 +10,7 @@ use native.Mathlib.Omega.{arith}
 use lib.ListN.{length, getD}
 use Rattle.reading.specs.Made.{reading}
 use Rattle.field.specs.Refusal.{Accepted}
+use Rattle.field.proofs.Accept.{with-prime}
 use Rattle.chain.specs.Unit.{UnitOf}
 use Rattle.chain.proofs.Exists.{order-exists}
 use Rattle.record.specs.Record.{setting}
@@ -17,7 +18,7 @@ use Rattle.unit.specs.Unit.{six, Finds, Misses, Holds}
 use Rattle.pairs.specs.Rows.{RowsCarry, straight, crossed}
 use Rattle.transfer.proofs.Rows.{carried-each}
 use Rattle.onefield.proofs.Same as theory
-use Rattle.alike.proofs.Way.{primed, Way, same, swapped, map}
+use Rattle.alike.proofs.Way.{Way, same, swapped, map}
 use Rattle.alike.proofs.Rows.{ThreeIn, tri-over}
 use Rattle.alike.proofs.Blocks.{straights, crosseds, made, made-size, straight-rows, crossed-rows}
 
@@ -59,7 +60,7 @@ module _ {p : ℕ} {G H G′ H′ : List ℕ} where
       each = o .below;
       unit = λ A′ B₀′ st′.
           let pr = A′ .prime in
-          let A = primed pr A₀ in
+          let A = with-prime A₀ pr in
           let (B₀, st) = order-exists (setting A) in
           subst (λ E. UnitOf (setting A′) B₀′ l d E (six A′ c (c + c + c) r′)) (tri-over A A′ pr c 0 r r′ w (o .rows .0))
           (subst (λ F. UnitOf (setting A′) B₀′ l d (map A A′ pr w .to (six A c 0 r)) F) (tri-over A A′ pr c (c + c + c) r r′ w (o .rows .1))
@@ -69,13 +70,13 @@ module _ {p : ℕ} {G H G′ H′ : List ℕ} where
     pub finds-over : {l d : ℕ} → Finds p G H l d → Finds p G′ H′ l d
     finds-over f A′ B₀′ st′ =
         let pr = A′ .prime in
-        let A = primed pr A₀ in
+        let A = with-prime A₀ pr in
         let (B₀, st) = order-exists (setting A) in
         (_, theory.closing-over (reading p pr .𝓥) (map A A′ pr w) B₀ B₀′ st st′ (f A B₀ st .1))
 
     pub misses-over : {n : ℕ} → Misses p G H n → Misses p G′ H′ n
     misses-over h A′ B₀′ st′ =
         let pr = A′ .prime in
-        let A = primed pr A₀ in
+        let A = with-prime A₀ pr in
         let (B₀, st) = order-exists (setting A) in
         theory.open-over (reading p pr .𝓥) (map A A′ pr w) B₀ B₀′ st st′ (h A B₀ st)

@@ -1,5 +1,4 @@
 -- The way from one accepted pair to another of the same field.
---   primed                  an accepted pair with the other's proof that p is prime, so that both have the same series
 --   Way                     the order in which the pairs agree, and the factors as numbers
 --   way, one-of             of two accepted pairs of one field; and back
 --   split                   two pairs of one field are refused alike, or both are accepted
@@ -24,24 +23,6 @@ use Rattle.onefield.specs.Carries.{El, Carries, stretch, exchange}
 use Rattle.onefield.proofs.OneField as one
 use Rattle.onefield.proofs.Refused.{refusal-carry}
 use Rattle.alike.proofs.Numbers.{constant, laws, constants}
-
-abbrev pub primed : {p : ℕ} {G H : List ℕ} → Prime p → Accepted p G H → Accepted p G H
-primed pr A = record {
-  prime = pr;
-  low = A .low;
-  high = A .high;
-  kind = A .kind;
-  degG = A .degG;
-  degH = A .degH;
-  listG = A .listG;
-  listH = A .listH;
-  some = A .some;
-  sum = A .sum;
-  thirds = A .thirds;
-  freeG = A .freeG;
-  freeH = A .freeH;
-  apart = A .apart;
-}
 
 pub data Way (p : ℕ) (G H G′ H′ : List ℕ) : Type 0 where
   same : Agree p G G′ → Agree p H H′ → (x y : ℕ) → Law p x y (leading G) (leading H) (leading G′) (leading H′) → Way p G H G′ H′

@@ -4,6 +4,7 @@
 --   degree-size, degree-lead, degree-has   of a list of coefficients: its trimmed length, its leading coefficient, which is not 0, and the
 --                                       degree of its polynomial
 --   stop-p, stop-lists, pass-lists      the rows put together
+--   with-prime                          an accepted field at another proof that p is prime
 --   shaped                              what rows 1 to 6 leave to rows 7 and 8
 -- What is not at fault is good, since the faults 1 and 3 are of things that are decided, and the others are negations themselves.
 use mathlib.Core.Path.{_≡_, refl, sym, ap, _∙_, subst}
@@ -56,6 +57,24 @@ kind-of p pr l f =
     let z : p % 3 ≢ 0 = pr .only 3 (omega arith) (omega arith) in
     let b : p % 3 < 3 = mod-lt p (omega arith) in
     omega arith
+
+abbrev pub with-prime : {p : ℕ} {G H : List ℕ} → Accepted p G H → Prime p → Accepted p G H
+with-prime A pr = record {
+  prime = pr;
+  low = A .low;
+  high = A .high;
+  kind = A .kind;
+  degG = A .degG;
+  degH = A .degH;
+  listG = A .listG;
+  listH = A .listH;
+  some = A .some;
+  sum = A .sum;
+  thirds = A .thirds;
+  freeG = A .freeG;
+  freeH = A .freeH;
+  apart = A .apart;
+}
 
 -- ---- the degree of the polynomial
 pub degree-size : {p d : ℕ} {l : List ℕ} → Degree p l d → Size l (suc d)

@@ -26,6 +26,7 @@
 --   six           monic: monic-one; turn, where `Turnable`: turn-one (Long)
 --   six_invert    invert: invert-one (Long)
 --   unit          unit: makes-one (unit/proofs/Once)
+--   transfer      transfer: transfers-one (transfer/proofs/Once)
 --   book_bytes    same_list: decides-one (Tests); read_list, put_two, put_four, put_list, copy_in, lift: put-one (Bytes)
 --   book_body     body_rule, one_field, unit_list, first_list: decides-one (Tests); field_refusal, period_of: field-refusal-one, period-of-one (Bytes);
 --                 list_of: got-one (book_body/proofs/One)
@@ -39,9 +40,10 @@
 --   text_read     number, list_size, parse: number-unique, size-unique, parse-unique (text_read/proofs/Answers)
 --   lister_print  put_made, finish: placed-unique (text_put/proofs/Puts)
 --   lister        answer, pass: answer-one, passes-one (lister/proofs/Once)
---   capi          zaminuk_refusal, zaminuk_series, zaminuk_check: refusal-one, answer-one, checks-one as above; zaminuk_order, zaminuk_step,
---                 zaminuk_walk, zaminuk_from_order, zaminuk_unit: order-tells-one, step-tells-one, walk-tells-one, from-order-tells-one,
---                 unit-tells-one; zaminuk_book_check, _attest, _write, _add, zaminuk_body_list: check-says-one, attest-says-one,
---                 write-says-one, add-says-one, list-says-one (capi/proofs/Once); zaminuk_book_ask: ask-says-one as above
+--   capi          zaminuk_refusal, zaminuk_series, zaminuk_check, zaminuk_transfer: refusal-one, answer-one, checks-one, transfers-one as
+--                 above; zaminuk_order, zaminuk_step, zaminuk_walk, zaminuk_from_order, zaminuk_unit, zaminuk_one_field: order-tells-one,
+--                 step-tells-one, walk-tells-one, from-order-tells-one, unit-tells-one, one-field-tells-one; zaminuk_book_check, _attest,
+--                 _write, _add, zaminuk_body_list: check-says-one, attest-says-one, write-says-one, add-says-one, list-says-one
+--                 (capi/proofs/Once); zaminuk_book_ask: ask-says-one as above
 pub mod Turnable
 pub mod UpTo

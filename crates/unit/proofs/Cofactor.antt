@@ -1,5 +1,4 @@
 -- The inverse from the cofactor: the opened field meets what `six_invert::invert` asks, and what it hands out is cof(E)/N(E).
---   with-prime       an accepted field, with another proof that p is prime
 --   invert-in        what `invert` asks
 --   inverses         what it hands out
 use mathlib.Core.Path.{_≡_, sym, ap, ap₂, _∙_, subst}
@@ -16,6 +15,7 @@ use Rattle.reading.specs.Reading.{Reading}
 use Rattle.reading.specs.Made.{reading}
 use Rattle.reading.specs.Row.{Row, row}
 use Rattle.field.specs.Refusal.{Accepted}
+use Rattle.field.proofs.Accept.{with-prime}
 use Rattle.ideals.specs.Element.{O, sc, norm, cof}
 use Rattle.ideals.proofs.Sizes.{sc-a, sc-b, sc-c}
 use Rattle.record.specs.Record.{setting}
@@ -30,24 +30,6 @@ use Rattle.six_invert.specs.Inverse.{element, InvertIn, Inverted}
 use Rattle.unit.specs.Unit.{six}
 use Rattle.unit.specs.Making.{InverseIn, Inverses}
 use Rattle.unit.proofs.Turning.{p-is, kept, storable, storable-at, row-stored, six-path}
-
-abbrev pub with-prime : {p : ℕ} {G H : List ℕ} → Accepted p G H → Prime p → Accepted p G H
-with-prime A pr = record {
-  prime = pr;
-  low = A .low;
-  high = A .high;
-  kind = A .kind;
-  degG = A .degG;
-  degH = A .degH;
-  listG = A .listG;
-  listH = A .listH;
-  some = A .some;
-  sum = A .sum;
-  thirds = A .thirds;
-  freeG = A .freeG;
-  freeH = A .freeH;
-  apart = A .apart;
-}
 
 -- - G H
 pub minus-in : {f : Cubic} → Known f → Given (f .field .p) (f .field .gh)
