@@ -13,7 +13,7 @@ use Rattle.valued.specs.Val.{Valued}
 use Rattle.valued.specs.Degree.{Leads}
 use Rattle.valued.specs.Polynomial.{polys, Poly, IsUnit}
 use Rattle.valued.proofs.Degree.{lead-eq}
-use Rattle.valued.proofs.Compare.{leads-mul, leads-unique, leads-one}
+use Rattle.valued.proofs.Compare.{leads-mul, leads-cube, leads-unique, leads-one}
 use Rattle.valued.proofs.Polynomial.{const-path, unit-const}
 use Rattle.reading.specs.Reading.{Reading}
 use Rattle.reading.specs.Made.{reading}
@@ -96,7 +96,7 @@ module _ (p : ℕ) (pr : Prime p) where
     cube-at =
         leads-unique 𝓥
         (subst (λ z. Leads 𝓥 (z .0) (x *ᵏ x *ᵏ x *ᵏ (a *ᵏ (b *ᵏ b)))) (f .cube)
-        (leads-mul 𝓥 (leads-mul 𝓥 (leads-mul 𝓥 (kx .leads) (kx .leads)) (kx .leads)) (leads-mul 𝓥 (ka .leads) (leads-mul 𝓥 (kb .leads) (kb .leads)))))
+        (leads-mul 𝓥 (leads-cube 𝓥 (kx .leads)) (leads-mul 𝓥 (ka .leads) (leads-mul 𝓥 (kb .leads) (kb .leads)))))
         (leads-one 𝓥)
 
     square-at : cast (ky .k) ≡ b *ᵏ (x *ᵏ x)

@@ -4,12 +4,12 @@
 --   step-same    one step
 --   walk-same    a walk, closed or not
 use mathlib.Core.Path.{_≡_, refl, sym, ap, _∙_, subst}
-use mathlib.Core.Logic.{_≢_, _⊎_, inl, inr}
+use mathlib.Core.Logic.{_≢_, inl, inr}
 use mathlib.Core.List.{List}
-use Prim.Native.Nat.{ℕ, _≤_}
+use Prim.Native.Nat.{ℕ}
 use native.Mathlib.Omega.{arith}
-use Rattle.field.specs.Refusal.{Refusal, Accepted}
-use Rattle.field.proofs.Stages.{past}
+use Rattle.field.specs.Refusal.{Accepted}
+use Rattle.field.proofs.Stages.{numbered}
 use Rattle.record.specs.Record.{IsRecord}
 use Rattle.bases.specs.declared.Ordered.{Ordered}
 use Rattle.bases.specs.Answer.{Orders}
@@ -25,19 +25,6 @@ use Rattle.alike.specs.Alike.{Counterpart, OrderSame, StepSame, WalkSame
 use Rattle.alike.proofs.Way.{Way, way, one-of, split}
 use Rattle.alike.proofs.Record.{record-way, record-in, record-below, Over, over, record-over, record-back}
 use Rattle.alike.proofs.Chains.{first-over, steps-over, reaches-over, closes-over, open-over}
-
--- the table of refusals 1 to 8 has no number 10
-beneath : {A E N : Type 0} {n k : ℕ} → n ≡ 10 → k ≤ 8 → (A × (n ≡ k)) ⊎ (E × N) → N
-beneath e l r = past (λ f. omega arith) r .1
-
-not-ten : (p : ℕ) (G H : List ℕ) (n : ℕ) → Refusal p G H n → n ≢ 10
-unfolding Refusal
-not-ten p G H n r e =
-    let r₃ = beneath e (omega arith) (beneath e (omega arith) r) in
-    let r₅ = beneath e (omega arith) (beneath e (omega arith) (beneath e (omega arith) r₃)) in
-    let r₈ = beneath e (omega arith) (beneath e (omega arith) r₅) in
-    let z = beneath e (omega arith) (beneath e (omega arith) r₈) in
-    omega arith
 
 -- ---- the order
 module _ (p : ℕ) {G H G′ H′ : List ℕ} where
@@ -122,5 +109,5 @@ module _ (p : ℕ) {G H G′ H′ : List ℕ} (s : Coefficients p G H) (s′ : C
     where
       walk-over : (u : Walked) × walk.Walks p G′ H′ n B′ u × WalkSame p G H G′ H′ v u
       walk-over = split p s s′ (one-of q) (a .no) (a .first)
-          (λ f r. (v, record { no = a .no; first = r; none = a .none; goes = λ z. absurd (f z) }, walk-refused v f (not-ten p G H (a .no) (a .first)) (a .none f)))
+          (λ f r. (v, record { no = a .no; first = r; none = a .none; goes = λ z. absurd (f z) }, walk-refused v f (λ e. omega (arith, numbered p G H (a .no) (a .first))) (a .none f)))
           (λ z A A′ r. let (u, g, h) = walk-goes A A′ n v (a .goes z) in (u, record { no = a .no; first = r; none = λ f. absurd (f z); goes = λ _. g }, h))

@@ -2,8 +2,6 @@
 ghost use mathlib.Core.Path.{_≡_};
 ghost use Prim.Native.Nat.{_+_, _-_, _*_, _≤_, _<_};
 ghost use lib.ListN.{length, getD, take, drop};
-ghost use mathlib.Core.Bool.{true, false};
-ghost use Rattle.book_bytes.specs.Decides.{Decides};
 ghost use Rattle.book_bytes.specs.Bytes.{u2, u4, le, words, listStart, listAt, Small, Put};
 
 // The byte at i; 0 past the end.
@@ -52,30 +50,6 @@ pub fn start(s: &[u8], head: usize, from: usize, k: usize) -> usize
         i += 1;
     }
     at
-}
-
-// Are the lists k of s and t equal?
-pub fn same_list(s: &[u8], t: &[u8], head: usize, from: usize, k: usize) -> bool
-    requires { ⌜ (head < 1000) × (from < 1000) × (k < 8) ⌝ }
-    ensures { λ r. ⌜ Decides r (listAt head from (now (s .entry)) k ≡ listAt head from (now (t .entry)) k) ⌝ }
-{
-    let n = two(s, from + 2 * k);
-    let m = two(t, from + 2 * k);
-    if n != m {
-        return false;
-    }
-    let x = start(s, head, from, k);
-    let y = start(t, head, from, k);
-    let mut i: usize = 0;
-    while i < n {
-        let v = two(s, x + 2 * i);
-        let w = two(t, y + 2 * i);
-        if v != w {
-            return false;
-        }
-        i += 1;
-    }
-    true
 }
 
 // The number i of list k; 0 past its end.

@@ -7,10 +7,10 @@
 --   begins-row                a row begins with its coefficients, read from the top
 --   begins-cut, begins-floor  fewer coefficients; the polynomial parts of t^k z
 --   stand-in                  a series that begins so
---   cast-conv                 the coefficients of a product of numbers, in the field
+--   cast-conv                 the coefficients of a product of numbers, in the field; cast-cube: the cube of a number
 use mathlib.Core.Path.{_≡_, refl, sym, ap, ap₂, _∙_, subst}
 use mathlib.Core.List.{List, [], _∷_}
-use Prim.Native.Nat.{ℕ, zero, suc, _%_, _≤_, _<_}
+use Prim.Native.Nat.{ℕ, zero, suc, _≤_, _<_}
 use Prim.Native.Nat as N
 use native.Mathlib.Nat.{zero-add, add-zero, suc-add}
 use native.Mathlib.Decide.{decLe}
@@ -189,10 +189,6 @@ module _ {p : ℕ} (ρ : Reading p) where
   unfolding conv
   cast-conv zero f g = ρ .cast-mul (f 0) (g 0)
   cast-conv (suc n) f g = ρ .cast-add (N._*_ (f 0) (g (suc n))) _ ∙ ap₂ _+ᵏ_ (ρ .cast-mul (f 0) (g (suc n))) (cast-conv n (λ i. f (suc i)) g)
-
-  -- numbers and their classes
-  pub same-cast : (a b : ℕ) → a % p ≡ b % p → cast a ≡ cast b
-  same-cast a b e = sym (ρ .cast-mod a) ∙ ap cast e ∙ ρ .cast-mod b
 
   pub cast-cube : (a : ℕ) → cast (N._*_ (N._*_ a a) a) ≡ cast a *ᵏ cast a *ᵏ cast a
   cast-cube a = ρ .cast-mul (N._*_ a a) a ∙ ap (λ x. x *ᵏ cast a) (ρ .cast-mul a a)

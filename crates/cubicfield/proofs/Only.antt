@@ -15,12 +15,12 @@ use Rattle.valued.specs.Val.{Valued}
 use Rattle.reading.specs.Reading.{Reading}
 use Rattle.reading.specs.Made.{reading}
 use Rattle.reading.specs.Row.{fallAt, Reads}
-use Rattle.reading.proofs.Unique.{cast-inj}
+use Rattle.reading.proofs.Unique.{cast-inj, same-cast}
 use Rattle.field.specs.Refusal.{Degree, Accepted}
 use Rattle.cubicfield.specs.First.{conv, Begins}
 use Rattle.cubicfield.specs.SeriesOf.{top, entry, prod, SeriesOf}
 use Rattle.cubicfield.proofs.First.{convᵏ}
-use Rattle.cubicfield.proofs.Begin.{begins-row, begins-only, begins-floor, cast-conv, same-cast, cast-cube}
+use Rattle.cubicfield.proofs.Begin.{begins-row, begins-only, begins-floor, cast-conv, cast-cube}
 use Rattle.cubicfield.proofs.Near.{pair-begins}
 use Rattle.reading.proofs.Constants.{three≢, cube-inj}
 use Rattle.cubicfield.proofs.Root.{degR, degW, sizes, leadR, leadR-cube, leadR-not, H-has, root-r, root-w, root-pair}

@@ -27,6 +27,7 @@ use Rattle.poly.specs.Factors.{polynomial}
 use Rattle.field.specs.Refusal.{Accepted}
 use Rattle.field.proofs.Accept.{degree-size, degree-lead, degree-has}
 use Rattle.reading.proofs.Rows.{size-lead}
+use Rattle.reading.proofs.Unique.{same-cast}
 use Rattle.ideals.specs.Setting.{Setting}
 use Rattle.ideals.proofs.Roots.{roots-unique}
 use Rattle.cubicfield.specs.Pair.{RootPair}
@@ -74,9 +75,7 @@ module _ {p : ℕ} {G H : List ℕ} (A : Accepted p G H) (pr : Prime p) where
   cube-is =
       let r : ℕ = powMod p top-D (third p) in
       sym (cast-cube ρ r)
-      ∙ sym (ρ .cast-mod (r * r * r))
-      ∙ ap cast (root-value p pr top-D (mod-lt (lg * (lh * lh)) (ρ .pos)) (A .kind) r refl)
-      ∙ ρ .cast-mod (lg * (lh * lh))
+      ∙ same-cast ρ (r * r * r) (lg * (lh * lh)) (root-value p pr top-D (mod-lt (lg * (lh * lh)) (ρ .pos)) (A .kind) r refl)
       ∙ ρ .cast-mul lg (lh * lh)
       ∙ ap (λ x. cast lg *ᵏ x) (ρ .cast-mul lh lh)
 

@@ -4,7 +4,7 @@ use mathlib.Core.Logic.{_≢_}
 use mathlib.Core.List.{List}
 use Prim.Native.Nat.{ℕ, _≤_}
 use native.Mathlib.Decide.{ℕ-discrete}
-use Rattle.field.proofs.Stages.{refusal-one}
+use Rattle.field.proofs.Stages.{refusal-one, numbered}
 use Rattle.field.proofs.Opening.{opens-one}
 use Rattle.series.proofs.Answer.{answer-one}
 use Rattle.bases.proofs.Answer.{orders-one, checks-one}
@@ -29,7 +29,6 @@ use Rattle.book_add.specs.Add as add
 use Rattle.book_add.proofs.One.{add-one}
 use Rattle.book_attest.proofs.One.{attest-one}
 use Rattle.demands.specs.Fixed.{Demand1}
-use Rattle.demands.proofs.Numbered.{numbered}
 
 number-of : {x y : Said} → x ≡ y → x .number ≡ y .number
 number-of e = ap (λ (x : Said). x .number) e

@@ -4,18 +4,20 @@
 --   lin-a lin-b lin-c    the coordinates of αU + βM + γN; lin-M lin-N with two of the three coefficients 0
 --   sc-add sc-mul        polynomials as elements
 --   by-r by-w            r and w times an element
+--   by-all               an ideal is closed under every element of the order
+--   divides-all all-divides   a polynomial divides an element exactly where it divides the three coordinates
 use mathlib.Core.Path.{_≡_, refl, sym, ap, ap₂, _∙_, subst}
 use mathlib.Core.List.{List, [], _∷_}
 use Rattle.ring.specs.Ring.{Ops, CRing}
 use Rattle.ring.proofs.Solve.{var, exprs, one, zer, _:+_, _:*_, _:=_, solve, ring₃}
 use Rattle.cubic.specs.Tri.{triE, solve₃}
 use Rattle.cubic.specs.Order.{triops}
-use Rattle.valued.specs.Polynomial.{polys}
+use Rattle.valued.specs.Polynomial.{polys, Divides}
 use Rattle.valued.proofs.Polynomial.{P-path}
 use Rattle.ideals.specs.Setting.{Setting, P}
 use Rattle.ideals.specs.Element.{O, sc, el-r, el-w}
-use Rattle.ideals.specs.Ideal.{Basis, lin, In}
-use Rattle.ideals.proofs.Sizes.{O-path, linE, scE, gE, hE}
+use Rattle.ideals.specs.Ideal.{Basis, lin, In, Ideal}
+use Rattle.ideals.proofs.Sizes.{O-path, sc-a, sc-b, sc-c, linE, scE, gE, hE}
 
 module _ (S : Setting) where
   open Setting S using (𝓥, G, H)
@@ -45,8 +47,9 @@ module _ (S : Setting) where
   abbrev envP : List (P S) → List (P S)
   envP l = G ∷ H ∷ 0ₚ ∷ 0ₚ ∷ l
 
-  open Ops (triops exprs gE hE) using (mul as _:⊗_)
+  open Ops (triops exprs gE hE) using (add as _:⊕_, mul as _:⊗_)
 
+  infixl 60 _:⊕_
   infixl 70 _:⊗_
   pub sc-mul : (a b : P S) → sc S (a ⊠ b) ≡ sc S a ⊗ sc S b
   sc-mul a b =
@@ -118,3 +121,31 @@ module _ (S : Setting) where
   -- a lattice whose U, M and N lie in another lies in it
   pub in-lin : (B B′ : Basis S) → In S B (sc S (B′ .U)) → In S B (B′ .M) → In S B (B′ .N) → (v : O S .El) → In S B′ v → In S B v
   in-lin B B′ iu im in′ v i = subst (In S B) (sym (i .eq)) (in-add B _ _ (in-add B _ _ (in-scale B (i .α) _ iu) (in-scale B (i .β) _ im)) (in-scale B (i .γ) _ in′))
+
+  -- ---- an ideal is closed under every element of the order
+  split : (x : O S .El) → x ≡ sc S (x .a) ⊕ sc S (x .b) ⊗ el-r S ⊕ sc S (x .c) ⊗ el-w S
+  split x =
+      solve₃ R (triE (var 2) (var 3) (var 4)) (scE (var 2) :⊕ scE (var 3) :⊗ triE zer one zer :⊕ scE (var 4) :⊗ triE zer zer one) (tt, tt, tt) (G ∷ H ∷ x .a ∷ x .b ∷ x .c ∷ [])
+
+  pub by-all : (B : Basis S) → Ideal S B → (x v : O S .El) → In S B v → In S B (x ⊗ v)
+  by-all B i x v k = subst (In S B)
+      (solve (O S) (var 0 :* var 5 :+ var 1 :* (var 2 :* var 5) :+ var 3 :* (var 4 :* var 5)) ((var 0 :+ var 1 :* var 2 :+ var 3 :* var 4) :* var 5) tt
+      (sc S (x .a) ∷ sc S (x .b) ∷ el-r S ∷ sc S (x .c) ∷ el-w S ∷ v ∷ []) ∙ ap (λ z. z ⊗ v) (sym (split x)))
+      (in-add B _ _ (in-add B _ _ (in-scale B (x .a) v k) (in-scale B (x .b) _ (i .by-r v k))) (in-scale B (x .c) _ (i .by-w v k)))
+
+  -- ---- divisors of an element and of its coordinates
+  module _ (e : P S) (v : O S .El) where
+    abbrev Divided : P S → Type 0
+    Divided = Divides 𝓥 e
+
+    pub divides-all : Divided (v .a) → Divided (v .b) → Divided (v .c) → (q : O S .El) × (v ≡ sc S e ⊗ q)
+    divides-all (a, ea) (b, eb) (c, ec) =
+        let q : O S .El = record { a = a; b = b; c = c } in
+        (q, O-path S (ea ∙ sym (P-path 𝓥 (sc-a S e q))) (eb ∙ sym (P-path 𝓥 (sc-b S e q))) (ec ∙ sym (P-path 𝓥 (sc-c S e q))))
+
+    pub all-divides : (q : O S .El) → v ≡ sc S e ⊗ q → Divided (v .a) × Divided (v .b) × Divided (v .c)
+    all-divides q h = (
+      (q .a, ap (λ z. z .a) h ∙ P-path 𝓥 (sc-a S e q)),
+      (q .b, ap (λ z. z .b) h ∙ P-path 𝓥 (sc-b S e q)),
+      (q .c, ap (λ z. z .c) h ∙ P-path 𝓥 (sc-c S e q)),
+    )

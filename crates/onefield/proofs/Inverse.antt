@@ -1,13 +1,13 @@
 -- What carries over, carries back; and one after another.
---   undo, twice       k (k′ b) = b where k k′ = 1; σ (σ b) = b where σ σ = 1
+--   twice             σ (σ b) = b where σ σ = 1
 --   back              the inverse
 --   after             the composition
 --   ev-kept, Z-kept   the value and Z stay
 --   carry-back        a basis carried over and back is itself
 use mathlib.Core.Path.{_≡_, sym, ap, ap₂, _∙_}
 use mathlib.Core.List.{[], _∷_}
-use Rattle.ring.specs.Ring.{Ops, CRing}
-use Rattle.ring.proofs.Laws as rg
+use Rattle.ring.specs.Ring.{Ops}
+use Rattle.ring.proofs.Laws.{undo}
 use Rattle.ring.proofs.Solve.{var, one, minus, _:+_, _:*_, _:=_, hyp, solve-by, ring₃}
 use Rattle.valued.specs.Val.{Valued}
 use Rattle.valued.specs.Polynomial.{polys, Poly}
@@ -17,9 +17,6 @@ use Rattle.ideals.specs.Ideal.{Basis}
 use Rattle.ideals.proofs.Lattice.{sc-mul}
 use Rattle.onefield.specs.Side.{Side, at}
 use Rattle.onefield.specs.Carries.{El, Carries, carry}
-
-pub undo : (R : CRing) (k k′ b : R .El) → R .ops .mul k k′ ≡ R .ops .𝟏 → R .ops .mul k (R .ops .mul k′ b) ≡ b
-undo R k k′ b e = sym (R .laws .mul-assoc k k′ b) ∙ ap (λ z. R .ops .mul z b) e ∙ rg.one-mul R b
 
 module _ {A : Type 0} (_·_ _∘_ : A → A → A) where
   infixl 70 _·_ _∘_

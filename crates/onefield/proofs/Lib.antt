@@ -1,4 +1,3 @@
-pub mod Elements
 pub mod Inverse
 pub mod Pairs
 pub mod OneField

@@ -18,7 +18,7 @@ use Rattle.valued.specs.Val.{Valued}
 use Rattle.valued.specs.Degree.{Leads}
 use Rattle.valued.specs.Polynomial.{polys, Poly, IsUnit}
 use Rattle.valued.proofs.Degree as d
-use Rattle.valued.proofs.Compare.{has-scale, leads-mul, leads-unique}
+use Rattle.valued.proofs.Compare.{has-scale, leads-mul, leads-cube, leads-unique}
 use Rattle.valued.proofs.Polynomial.{unit-const, const-path, Unit₀, unit-of}
 use Rattle.ideals.specs.Element.{O, Y}
 use Rattle.ideals.proofs.Sizes.{O-path}
@@ -26,17 +26,10 @@ use Rattle.ideals.proofs.Values.{w-w, r-cube}
 use Rattle.ideals.proofs.Roots.{roots-unique}
 use Rattle.onefield.specs.Side.{Side, at}
 use Rattle.onefield.specs.Carries.{El, Carries, stretch, Stretched}
-use Rattle.onefield.proofs.Inverse.{undo}
 
 -- the second coordinate and the third change places
 abbrev pub turned : {A : Type 0} → Tri A → Tri A
 turned v = record { a = v .a; b = v .c; c = v .b }
-
--- k b z′ = b z where k k′ = 1 and z′ = k′ z
-pulled : (R : CRing) (k k′ b z z′ : R .El) → let o = R .ops in o .mul k k′ ≡ o .𝟏 → o .mul k′ z ≡ z′ → o .mul (o .mul k b) z′ ≡ o .mul b z
-pulled R k k′ b z z′ e f = solve-by R (var 0 :* var 2 :* var 4) (var 2 :* var 3)
-    (hyp (var 2 :* var 3) (var 0 :* var 1) one ∷ hyp (minus (var 0 :* var 2)) (var 1 :* var 3) (var 4) ∷ []) tt
-    (k ∷ k′ ∷ b ∷ z ∷ z′ ∷ []) (e, (f, tt))
 
 module _ (𝓥 : Valued) where
   open Valued 𝓥 using (K, L)
@@ -92,9 +85,6 @@ module _ (𝓥 : Valued) where
   }
 
   -- ---- a pair times constants
-  leads-cube : {z : L .El} {c : K .El} → Leads 𝓥 z c → Leads 𝓥 (z * z * z) (c *ᵏ c *ᵏ c)
-  leads-cube l = leads-mul 𝓥 (leads-mul 𝓥 l l) l
-
   -- (c′/c)³ = a b² where c′³ = a b² c³, with i for 1/c
   ratio : (a b c c′ i : K .El) → c *ᵏ i ≡ 1ᵏ → c′ *ᵏ c′ *ᵏ c′ ≡ a *ᵏ (b *ᵏ b) *ᵏ (c *ᵏ c *ᵏ c)
       → c′ *ᵏ i *ᵏ (c′ *ᵏ i) *ᵏ (c′ *ᵏ i) ≡ a *ᵏ (b *ᵏ b)
@@ -125,7 +115,7 @@ module _ (𝓥 : Valued) where
     lead-cubes : {a b c c′ : K .El} → Leads 𝓥 (α .0) a → Leads 𝓥 (β .0) b → Leads 𝓥 r c → Leads 𝓥 (s′ .r) c′
         → c′ *ᵏ c′ *ᵏ c′ ≡ a *ᵏ (b *ᵏ b) *ᵏ (c *ᵏ c *ᵏ c)
     lead-cubes {c′ = c′} la lb lc lc′ =
-        leads-unique 𝓥 (subst (λ z. Leads 𝓥 z (c′ *ᵏ c′ *ᵏ c′)) cubes (leads-cube lc′)) (leads-mul 𝓥 (leads-mul 𝓥 la (leads-mul 𝓥 lb lb)) (leads-cube lc))
+        leads-unique 𝓥 (subst (λ z. Leads 𝓥 z (c′ *ᵏ c′ *ᵏ c′)) cubes (leads-cube 𝓥 lc′)) (leads-mul 𝓥 (leads-mul 𝓥 la (leads-mul 𝓥 lb lb)) (leads-cube 𝓥 lc))
 
     pub record Scale : Type 0 where
       pub κ : Poly 𝓥
@@ -231,17 +221,17 @@ module _ (𝓥 : Valued) where
 
       -- ---- the sizes
       B-kept : (b : L .El) → x .0 * b * s′ .r ≡ b * r
-      B-kept b = pulled L (x .0) (k .κ .0) b r (s′ .r) (ap (λ z. z .0) x-inverse) (series .0)
+      B-kept b = rg.pulled L (x .0) (k .κ .0) b r (s′ .r) (ap (λ z. z .0) x-inverse) (series .0)
 
       C-kept : (c : L .El) → y .0 * c * s′ .w ≡ c * w
-      C-kept c = pulled L (y .0) (y′ .0) c w (s′ .w) (ap (λ z. z .0) y-inverse) (series .1)
+      C-kept c = rg.pulled L (y .0) (y′ .0) c w (s′ .w) (ap (λ z. z .0) y-inverse) (series .1)
 
       pub scaled : Carries s s′
       scaled = record {
         to = stretch 𝓥 x y;
         from = stretch 𝓥 (k .κ) y′;
-        to-from = λ v. O-path (at s′) refl (undo R x (k .κ) (v .b) x-inverse) (undo R y y′ (v .c) y-inverse);
-        from-to = λ v. O-path (at s) refl (undo R (k .κ) x (v .b) (k .inverse)) (undo R y′ y (v .c) (R .laws .mul-comm y′ y ∙ y-inverse));
+        to-from = λ v. O-path (at s′) refl (rg.undo R x (k .κ) (v .b) x-inverse) (rg.undo R y y′ (v .c) y-inverse);
+        from-to = λ v. O-path (at s) refl (rg.undo R (k .κ) x (v .b) (k .inverse)) (rg.undo R y′ y (v .c) (R .laws .mul-comm y′ y ∙ y-inverse));
         add = λ u v. O-path (at s′) refl (R .laws .mul-add x (u .b) (v .b)) (R .laws .mul-add y (u .c) (v .c));
         mul = times;
         poly = λ a. O-path (at s′) refl (rg.mul-zero R x) (rg.mul-zero R y);

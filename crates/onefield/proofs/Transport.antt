@@ -14,6 +14,7 @@ use Rattle.valued.specs.Val.{Valued}
 use Rattle.valued.specs.Degree.{Has, _≺_, _≼_, Leads}
 use Rattle.valued.specs.Polynomial.{polys, Poly}
 use Rattle.valued.proofs.Degree as d
+use Rattle.valued.proofs.Compare.{≺-left, ≺-right}
 use Rattle.valued.proofs.Polynomial.{unit-const}
 use Rattle.ideals.specs.Setting.{Setting}
 use Rattle.ideals.specs.Element.{O, sc, el-r, el-w, X, Y, Z}
@@ -21,13 +22,12 @@ use Rattle.ideals.specs.Ideal.{Basis, lin, In, det, Ideal}
 use Rattle.ideals.specs.Basis.{ReducedBasis, NoFactor, Scaled, Reduced, Good}
 use Rattle.ideals.specs.Next.{Next, Start}
 use Rattle.ideals.proofs.Sizes.{X-sc, Y-sc, Z-sc, X-Y-det}
-use Rattle.ideals.proofs.Lattice.{in-U, sc-mul}
+use Rattle.ideals.proofs.Lattice.{in-U, sc-mul, by-all, divides-all, all-divides}
 use Rattle.ideals.proofs.Form.{has-two}
 use Rattle.chain.specs.Chain.{Degree, Chain, here, then, tops, bottoms, Open, Closing}
 use Rattle.chain.specs.Unit.{UnitOf}
 use Rattle.onefield.specs.Side.{Side, at}
 use Rattle.onefield.specs.Carries.{El, Carries, carry}
-use Rattle.onefield.proofs.Elements.{by-all, divides-all, all-divides, ≺-left, ≺-right}
 use Rattle.onefield.proofs.Inverse.{twice, back, ev-kept, Z-kept, undone, carry-back}
 
 module _ (𝓥 : Valued) {s s′ : Side 𝓥} (c : Carries s s′) where

@@ -12,14 +12,12 @@ use Rattle.ring.specs.Ring.{Ops}
 use Rattle.ring.proofs.Solve.{Expr, var, one, minus, _:+_, _:*_, hyp, solve-by}
 use Rattle.fp.specs.Fp.{Prime}
 use Rattle.valued.specs.Val.{Valued}
-use Rattle.valued.proofs.Degree.{k-domain}
+use Rattle.valued.proofs.Degree.{k-domain, k-cancel}
 use Rattle.reading.specs.Reading.{Reading}
 use Rattle.reading.specs.Made.{reading}
-use Rattle.reading.proofs.Unique.{cast-inj}
+use Rattle.reading.proofs.Unique.{cast-inj, same-cast, mod-of}
 use Rattle.reading.proofs.Constants.{cube-inj}
 use Rattle.pairs.specs.Rows.{Law}
-use Rattle.pairs.proofs.Lists.{mod-of, same-cast}
-use Rattle.pairs.proofs.Relation.{k-cancel}
 
 -- x, y, g, h, g′, h′ and the two equations of the law, for the solver
 abbrev X : Expr
@@ -76,16 +74,16 @@ module _ (p : ℕ) (pr : Prime p) where
     law-of lx ly e f = record {
       x-below = lx;
       y-below = ly;
-      cube = mod-of p pr _ _ (cube-cast ∙ e ∙ sym (value-cast g h));
-      square = mod-of p pr _ _ (ρ .cast-mul y h ∙ f ∙ sym square-cast);
+      cube = mod-of ρ _ _ (cube-cast ∙ e ∙ sym (value-cast g h));
+      square = mod-of ρ _ _ (ρ .cast-mul y h ∙ f ∙ sym square-cast);
     }
 
     module _ (w : Law p x y g h g′ h′) where
       cubes : cast x * cast x * cast x * (cast g′ * (cast h′ * cast h′)) ≡ cast g * (cast h * cast h)
-      cubes = sym cube-cast ∙ same-cast p pr _ _ (w .cube) ∙ value-cast g h
+      cubes = sym cube-cast ∙ same-cast ρ _ _ (w .cube) ∙ value-cast g h
 
       squares : cast y * cast h ≡ cast x * cast x * cast h′
-      squares = sym (ρ .cast-mul y h) ∙ same-cast p pr _ _ (w .square) ∙ square-cast
+      squares = sym (ρ .cast-mul y h) ∙ same-cast ρ _ _ (w .square) ∙ square-cast
 
   -- x³ = g h²/(g′ h′²), and p mod 3 = 2
   pub law-one : p % 3 ≡ 2 → {x y x′ y′ g h g′ h′ : ℕ} → cast g′ ≢ 0ᵏ → cast h′ ≢ 0ᵏ → cast h ≢ 0ᵏ →
@@ -94,11 +92,11 @@ module _ (p : ℕ) (pr : Prime p) where
     where
       same-x : x ≡ x′
       same-x = cast-inj ρ x x′ (a .x-below) (b .x-below) (cube-inj ρ pr kind (cast x) (cast x′)
-          (k-cancel p pr (cast g′ * (cast h′ * cast h′)) _ _ (k-domain 𝓥 (cast g′) (cast h′ * cast h′) ng (k-domain 𝓥 (cast h′) (cast h′) nh nh))
+          (k-cancel 𝓥 (cast g′ * (cast h′ * cast h′)) _ _ (k-domain 𝓥 (cast g′) (cast h′ * cast h′) ng (k-domain 𝓥 (cast h′) (cast h′) nh nh))
           (K .laws .mul-comm _ _ ∙ cubes x y g h g′ h′ a ∙ sym (cubes x′ y′ g h g′ h′ b) ∙ K .laws .mul-comm _ _)))
 
       same-y : y ≡ y′
-      same-y = cast-inj ρ y y′ (a .y-below) (b .y-below) (k-cancel p pr (cast h) (cast y) (cast y′) ne
+      same-y = cast-inj ρ y y′ (a .y-below) (b .y-below) (k-cancel 𝓥 (cast h) (cast y) (cast y′) ne
           (K .laws .mul-comm (cast h) (cast y) ∙ squares x y g h g′ h′ a ∙ ap (λ z. cast z * cast z * cast h′) same-x ∙ sym (squares x′ y′ g h g′ h′ b) ∙ K .laws .mul-comm (cast y′) (cast h)))
 
   module _ (x y g h g′ h′ : ℕ) (w : Law p x y g h g′ h′) (nh : cast h ≢ 0ᵏ) where
@@ -106,7 +104,7 @@ module _ (p : ℕ) (pr : Prime p) where
     known = cast x ∷ cast y ∷ cast g ∷ cast h ∷ cast g′ ∷ cast h′ ∷ []
 
     under : (a b : K .El) → cast h * a ≡ cast h * b → a ≡ b
-    under a b = k-cancel p pr (cast h) a b nh
+    under a b = k-cancel 𝓥 (cast h) a b nh
 
     -- h³ y³ h′ g′² = x⁶ h′⁴ g′² = g² h⁴
     other-cube : cast y * cast y * cast y * (cast h′ * (cast g′ * cast g′)) ≡ cast h * (cast g * cast g)
@@ -129,7 +127,7 @@ module _ (p : ℕ) (pr : Prime p) where
     -- (x x′)³ g h² = g h²
     back-x : p % 3 ≡ 2 → cast x * cast x′ ≡ 1ᵏ
     back-x kind = cube-inj ρ pr kind (cast x * cast x′) 1ᵏ
-        (k-cancel p pr (cast g * (cast h * cast h)) _ _ (k-domain 𝓥 (cast g) (cast h * cast h) ng (k-domain 𝓥 (cast h) (cast h) nh nh))
+        (k-cancel 𝓥 (cast g * (cast h * cast h)) _ _ (k-domain 𝓥 (cast g) (cast h * cast h) ng (k-domain 𝓥 (cast h) (cast h) nh nh))
         (solve-by K (cubeʳ :* (var 0 :* var 1 :* (var 0 :* var 1) :* (var 0 :* var 1))) (cubeʳ :* (one :* one :* one))
         (hyp (var 0 :* var 0 :* var 0) (var 1 :* var 1 :* var 1 :* cubeʳ) (G′ :* (H′ :* H′)) ∷ hyp one (var 0 :* var 0 :* var 0 :* (G′ :* (H′ :* H′))) cubeʳ ∷ []) tt
         (cast x ∷ cast x′ ∷ cast g ∷ cast h ∷ cast g′ ∷ cast h′ ∷ [])
@@ -137,7 +135,7 @@ module _ (p : ℕ) (pr : Prime p) where
 
     -- h h′ y y′ = (x x′)² h h′
     back-y : cast x * cast x′ ≡ 1ᵏ → cast y * cast y′ ≡ 1ᵏ
-    back-y e = k-cancel p pr (cast h) _ _ nh (k-cancel p pr (cast h′) _ _ nh′
+    back-y e = k-cancel 𝓥 (cast h) _ _ nh (k-cancel 𝓥 (cast h′) _ _ nh′
         (solve-by K (H′ :* (H :* (var 2 :* var 4))) (H′ :* (H :* one))
         (hyp (var 4 :* H′) (var 2 :* H) (X :* X :* H′) ∷ hyp (X :* X :* H′) (var 4 :* H′) (var 1 :* var 1 :* H) ∷ hyp (H :* H′ :* (X :* var 1 :+ one)) (X :* var 1) one ∷ []) tt
         (cast x ∷ cast x′ ∷ cast y ∷ cast h ∷ cast y′ ∷ cast h′ ∷ [])

@@ -1,6 +1,5 @@
 -- Lists that agree after they are made monic.
 --   agree-sym, agree-degree   in either order; equally long
---   mod-of, same-cast         classes and remainders
 --   leading-at, leading-below, leading-some, leading-not   of a list of coefficients: its leading coefficient
 --   cross-of, agree-of        agreeing is cross multiplication; `cross-from`: only the entries that are there need be looked at
 --   monic-poly                the polynomial of a list is its leading coefficient times that of the list made monic
@@ -27,7 +26,7 @@ use Rattle.reading.specs.Made.{reading}
 use Rattle.reading.specs.Row.{tab, psum, coefs, row}
 use Rattle.reading.proofs.Rows.{psum-ext, psum-scale}
 use Rattle.reading.proofs.Tab.{length-tab, at-tab, past-tab}
-use Rattle.reading.proofs.Unique.{cast-inj}
+use Rattle.reading.proofs.Unique.{same-cast, mod-of}
 use Rattle.poly.specs.Factors.{polynomial}
 use Rattle.field.specs.Refusal.{Degree}
 use Rattle.pairs.specs.OneField.{leading, Monic, Agree, Cross}
@@ -66,21 +65,14 @@ module _ (p : ℕ) (pr : Prime p) where
   open Ops (polys 𝓥 .ops) using (mul as _⊠_)
 
   infixl 70 _*_ _⊠_ _*ᵏ_
-  -- classes and remainders
-  pub mod-of : (a b : ℕ) → cast a ≡ cast b → a % p ≡ b % p
-  mod-of a b e = cast-inj ρ (a % p) (b % p) (mod-lt a (ρ .pos)) (mod-lt b (ρ .pos)) (ρ .cast-mod a ∙ e ∙ sym (ρ .cast-mod b))
-
-  pub same-cast : (a b : ℕ) → a % p ≡ b % p → cast a ≡ cast b
-  same-cast a b e = sym (ρ .cast-mod a) ∙ ap cast e ∙ ρ .cast-mod b
-
   -- lc(l) · x = y, at numbers
   product-of : (a b c : ℕ) → (N._*_ a b) % p ≡ c % p → cast a *ᵏ cast b ≡ cast c
-  product-of a b c e = sym (ρ .cast-mul a b) ∙ same-cast (N._*_ a b) c e
+  product-of a b c e = sym (ρ .cast-mul a b) ∙ same-cast ρ (N._*_ a b) c e
 
   pub cross-of : (l l′ : List ℕ) → Agree p l l′ → Cross p l l′
   cross-of l l′ (m, a, b) = record {
     long = sym (a .long) ∙ b .long;
-    cross = λ i. mod-of (N._*_ (leading l′) (getD l i 0)) (N._*_ (leading l) (getD l′ i 0))
+    cross = λ i. mod-of ρ (N._*_ (leading l′) (getD l i 0)) (N._*_ (leading l) (getD l′ i 0))
         (ρ .cast-mul (leading l′) (getD l i 0)
         ∙ ap (λ z. cast (leading l′) *ᵏ z) (sym (product-of (leading l) (getD m i 0) (getD l i 0) (a .times i)))
         ∙ ring₃ K (λ x y z. x :* (y :* z) := y :* (x :* z)) tt (cast (leading l′)) (cast (leading l)) (cast (getD m i 0))
@@ -148,7 +140,7 @@ module _ (p : ℕ) (pr : Prime p) where
         long = made-long;
         below = made-below;
         one = made-one;
-        times = λ i. mod-of (N._*_ (leading l) (getD made i 0)) (getD l i 0)
+        times = λ i. mod-of ρ (N._*_ (leading l) (getD made i 0)) (getD l i 0)
             (ρ .cast-mul (leading l) (getD made i 0) ∙ ap (λ z. cast (leading l) *ᵏ z) (made-at i)
             ∙ solve-by K (var 0 :* (var 1 :* var 2)) (var 2) (hyp (var 2) (var 0 :* var 1) one ∷ []) tt (cast (leading l) ∷ cast i₀ ∷ cast (getD l i 0) ∷ []) (i₀-one, tt));
       },
@@ -156,11 +148,11 @@ module _ (p : ℕ) (pr : Prime p) where
         long = made-long ∙ c .long;
         below = made-below;
         one = made-one;
-        times = λ i. mod-of (N._*_ (leading l′) (getD made i 0)) (getD l′ i 0)
+        times = λ i. mod-of ρ (N._*_ (leading l′) (getD made i 0)) (getD l′ i 0)
             (ρ .cast-mul (leading l′) (getD made i 0) ∙ ap (λ z. cast (leading l′) *ᵏ z) (made-at i)
             ∙ solve-by K (var 3 :* (var 1 :* var 2)) (var 4) (hyp (var 1) (var 3 :* var 2) (var 0 :* var 4) ∷ hyp (var 4) (var 0 :* var 1) one ∷ []) tt
             (cast (leading l) ∷ cast i₀ ∷ cast (getD l i 0) ∷ cast (leading l′) ∷ cast (getD l′ i 0) ∷ [])
-            (sym (ρ .cast-mul (leading l′) (getD l i 0)) ∙ same-cast _ _ (c .cross i) ∙ ρ .cast-mul (leading l) (getD l′ i 0), (i₀-one, tt)));
+            (sym (ρ .cast-mul (leading l′) (getD l i 0)) ∙ same-cast ρ _ _ (c .cross i) ∙ ρ .cast-mul (leading l) (getD l′ i 0), (i₀-one, tt)));
       },
     )
 
@@ -177,7 +169,7 @@ module _ (p : ℕ) (pr : Prime p) where
   monic-poly l m h = P-path 𝓥
       (ap (λ n. psum ρ n (coefs ρ l)) (sym (h .long))
       ∙ psum-ext ρ (length m) (coefs ρ l) (λ i. cast (leading l) *ᵏ coefs ρ m i)
-      (λ i u. sym (same-cast (N._*_ (leading l) (getD m i 0)) (getD l i 0) (h .times i)) ∙ ρ .cast-mul (leading l) (getD m i 0))
+      (λ i u. sym (same-cast ρ (N._*_ (leading l) (getD m i 0)) (getD l i 0) (h .times i)) ∙ ρ .cast-mul (leading l) (getD m i 0))
       ∙ psum-scale ρ (length m) (cast (leading l)) (coefs ρ m))
 
   -- l′ = (lc l′ / lc l) l, where q and q′ are the inverses of lc l and lc l′

@@ -1,32 +1,28 @@
 -- To be of one field is an equivalence on pairs of lists of coefficients.
---   k-cancel    a factor that is not 0 cancels
 --   monic-one   a list is made monic in one way
 --   agree-refl, agree-trans
 --   one-refl, one-sym, one-trans   equal pairs are of one field; in either order; and with a third
 --   apart-lists   the two lists of an accepted pair never agree: the one would divide the other
 --   not-both      no list agrees with both lists of an accepted pair, so that two pairs agree in one order only
 use mathlib.Core.Path.{_≡_, refl, sym, _∙_, subst}
-use mathlib.Core.Logic.{_≢_, inl, inr}
-use mathlib.Core.List.{List, [], _∷_}
+use mathlib.Core.Logic.{inl, inr}
+use mathlib.Core.List.{List}
 use Prim.Native.Nat.{ℕ}
 use native.Mathlib.Omega.{arith}
 use lib.ListN.{getD}
 use lib.Seq.{ext-getD}
-use Rattle.ring.specs.Ring.{Ops}
-use Rattle.ring.proofs.Solve.{var, one, minus, _:*_, hyp, solve-by}
 use Rattle.fp.specs.Fp.{Prime}
-use Rattle.valued.specs.Val.{Valued}
 use Rattle.valued.specs.Polynomial.{polys, IsUnit}
-use Rattle.valued.proofs.Degree.{same}
+use Rattle.valued.proofs.Degree.{same, k-cancel}
 use Rattle.valued.proofs.Polynomial.{unit-const}
 use Rattle.reading.specs.Reading.{Reading}
 use Rattle.reading.specs.Made.{reading}
-use Rattle.reading.proofs.Unique.{cast-inj}
+use Rattle.reading.proofs.Unique.{cast-inj, same-cast}
 use Rattle.poly.specs.Factors.{polynomial}
 use Rattle.field.specs.Refusal.{Degree, Accepted}
 use Rattle.field.proofs.Accept.{degree-has}
 use Rattle.pairs.specs.OneField.{leading, Monic, Agree, OneField, Coefficients}
-use Rattle.pairs.proofs.Lists.{agree-sym, agree-degree, agree-poly, same-cast, leading-not, agree-of}
+use Rattle.pairs.proofs.Lists.{agree-sym, agree-degree, agree-poly, leading-not, agree-of}
 
 pub one-sym : {p : ℕ} {G H G′ H′ : List ℕ} → OneField p G H G′ H′ → OneField p G′ H′ G H
 one-sym (inl (a, b)) = inl (agree-sym a, agree-sym b)
@@ -37,19 +33,11 @@ module _ (p : ℕ) (pr : Prime p) where
   ρ = reading p pr
 
   open Reading ρ using (𝓥, cast)
-  open Valued 𝓥 using (K)
-  open Ops (K .ops) using (mul as _*ᵏ_, 𝟎 as 0ᵏ)
-
-  infixl 70 _*ᵏ_
-  pub k-cancel : (a x y : K .El) → a ≢ 0ᵏ → a *ᵏ x ≡ a *ᵏ y → x ≡ y
-  k-cancel a x y h e =
-      let (i, f) = 𝓥 .field .inv a h in
-      solve-by K (var 2) (var 3) (hyp (minus (var 2)) (var 0 :* var 1) one ∷ hyp (var 1) (var 0 :* var 2) (var 0 :* var 3) ∷ hyp (var 3) (var 0 :* var 1) one ∷ []) tt (a ∷ i ∷ x ∷ y ∷ []) (f, (e, (f, tt)))
 
   pub monic-one : {l m m′ : List ℕ} {n : ℕ} → Degree p l n → Monic p l m → Monic p l m′ → m ≡ m′
   monic-one {l} {m} {m′} h a b = ext-getD 0 m m′ (a .long ∙ sym (b .long)) (λ i k. cast-inj ρ (getD m i 0) (getD m′ i 0) (a .below i) (b .below i)
-      (k-cancel (cast (leading l)) (cast (getD m i 0)) (cast (getD m′ i 0)) (leading-not p pr h)
-      (sym (ρ .cast-mul (leading l) (getD m i 0)) ∙ same-cast p pr _ _ (a .times i ∙ sym (b .times i)) ∙ ρ .cast-mul (leading l) (getD m′ i 0))))
+      (k-cancel 𝓥 (cast (leading l)) (cast (getD m i 0)) (cast (getD m′ i 0)) (leading-not p pr h)
+      (sym (ρ .cast-mul (leading l) (getD m i 0)) ∙ same-cast ρ _ _ (a .times i ∙ sym (b .times i)) ∙ ρ .cast-mul (leading l) (getD m′ i 0))))
 
   pub agree-trans : {l l′ l″ : List ℕ} {n : ℕ} → Degree p l′ n → Agree p l l′ → Agree p l′ l″ → Agree p l l″
   agree-trans {l″ = l″} h (m, a, b) (m′, c, d) = (m, a, subst (λ z. Monic p l″ z) (sym (monic-one h b c)) d)

@@ -1,5 +1,6 @@
 -- Each polynomial of degree below 32 has just one row: numbers below p are told apart by their classes, coefficients by the polynomial.
 --   cast-inj      numbers below p with one class are one number
+--   same-cast     numbers with one remainder have one class; mod-of: numbers with one class have one remainder
 --   const-inj     constants that are one series are one element
 --   psum-unique   two sums of n terms that are one polynomial have the same coefficients
 --   list-unique   two lists of one length, entries below p, with one polynomial are one list
@@ -8,8 +9,9 @@
 --   list-exists   it has a list of n entries below p; row-exists: a row where n = 32
 use mathlib.Core.Path.{_≡_, refl, sym, ap, ap₂, _∙_}
 use mathlib.Core.List.{List, [], _∷_}
-use Prim.Native.Nat.{ℕ, zero, suc, _≤_, _<_}
+use Prim.Native.Nat.{ℕ, zero, suc, _%_, _≤_, _<_}
 use Prim.Native.Nat as N
+use native.Mathlib.Nat.{mod-lt}
 use native.Mathlib.Omega.{arith}
 use native.Mathlib.Decide.{decLe, decLt, ℕ-discrete}
 use lib.ListN.{length, getD}
@@ -44,6 +46,12 @@ module _ {p : ℕ} (ρ : Reading p) where
 
   pub cast-inj : (a b : ℕ) → a < p → b < p → cast a ≡ cast b → a ≡ b
   cast-inj a b g h e = elim (decLe a b) [ yes l ↦ cast-gap a b l h e | no l ↦ sym (cast-gap b a (omega arith) g (sym e)) ]
+
+  pub same-cast : (a b : ℕ) → a % p ≡ b % p → cast a ≡ cast b
+  same-cast a b e = sym (ρ .cast-mod a) ∙ ap cast e ∙ ρ .cast-mod b
+
+  pub mod-of : (a b : ℕ) → cast a ≡ cast b → a % p ≡ b % p
+  mod-of a b e = cast-inj (a % p) (b % p) (mod-lt a (ρ .pos)) (mod-lt b (ρ .pos)) (ρ .cast-mod a ∙ e ∙ sym (ρ .cast-mod b))
 
   pub const-inj : (a b : K .El) → const a ≡ const b → a ≡ b
   const-inj a b e = 𝓥 .lead-unique (𝓥 .const-lead a) (lead-eq 𝓥 (𝓥 .const-lead b) (sym e) refl)

@@ -1,4 +1,4 @@
--- What follows from the laws of a commutative ring: cancelling, signs, zero, numerals.
+-- What follows from the laws of a commutative ring: cancelling, signs, zero, inverses, numerals.
 use mathlib.Core.Path.{_≡_, refl, sym, ap, ap₂, _∙_}
 use Prim.Native.Nat.{ℕ, zero, suc}
 use Prim.Native.Nat as N
@@ -76,6 +76,14 @@ module _ (R : CRing) where
   -- a - b = 0 gives a = b
   pub eq-of-sub : (a b : R .El) → a + - b ≡ 𝟎 → a ≡ b
   eq-of-sub a b h = add-cancel a b (- b) (h ∙ sym (add-neg b))
+
+  -- k (k′ b) = b where k k′ = 1
+  pub undo : (k k′ b : R .El) → k * k′ ≡ 𝟏 → k * (k′ * b) ≡ b
+  undo k k′ b e = sym (mul-assoc k k′ b) ∙ ap (λ t. t * b) e ∙ one-mul b
+
+  -- k b z′ = b z where k k′ = 1 and z′ = k′ z
+  pub pulled : (k k′ b z z′ : R .El) → k * k′ ≡ 𝟏 → k′ * z ≡ z′ → k * b * z′ ≡ b * z
+  pulled k k′ b z z′ e f = ap (λ t. k * b * t) (sym f) ∙ mul-assoc k b (k′ * z) ∙ ap (λ t. k * t) (mul-left-comm b k′ z) ∙ undo k k′ (b * z) e
 
   -- numerals
   pub nat-add : (m n : ℕ) → nat (R .ops) (N._+_ m n) ≡ nat (R .ops) m + nat (R .ops) n

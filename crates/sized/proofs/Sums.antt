@@ -22,6 +22,7 @@ use Rattle.reading.specs.Reading.{Reading}
 use Rattle.reading.specs.Made.{reading}
 use Rattle.reading.specs.Row.{Row, row, coefs, tpow, psum}
 use Rattle.reading.proofs.Rows.{const-neg, psum-ext, row-32, row-upto, tpow-add}
+use Rattle.reading.proofs.Unique.{same-cast}
 use Rattle.poly.specs.Terms.{More}
 use Rattle.sized.specs.Sized.{signOf}
 use Rattle.sized.specs.Sums.{Loose, Signed, LayIn, Laid, GatherIn, Gathered, SettleIn, Settled}
@@ -95,7 +96,7 @@ module _ {p v : ℕ} {y : List ℕ} {m i : ℕ} {acc : List ℕ} (h : LayIn p v 
   laying-turn {o} {j} a g l w = record {
     loose = loose-set (N._+_ i j) a (g .loose) inside (w .low);
     law = λ pr. let ρ = reading p pr in let K = ρ .𝓥 .K .ops in let k = ρ .𝓥 .L .ops in let c = ρ .𝓥 .const in let s = getD o (N._+_ i j) 0 in
-        row-set ρ o (N._+_ i j) a (ρ .cast (N._*_ v (getD y j 0))) (g .loose .size) inside (sym (ρ .cast-mod a) ∙ ap (ρ .cast) (w .law) ∙ ρ .cast-mod (N._+_ s (N._*_ v (getD y j 0))) ∙ ρ .cast-add s (N._*_ v (getD y j 0)))
+        row-set ρ o (N._+_ i j) a (ρ .cast (N._*_ v (getD y j 0))) (g .loose .size) inside (same-cast ρ a (N._+_ s (N._*_ v (getD y j 0))) (w .law) ∙ ρ .cast-add s (N._*_ v (getD y j 0)))
         ∙ ap₂ (λ a b. k .add a b) (g .law pr) (ap₂ (λ a b. k .mul a b) (ap c (ρ .cast-mul v (getD y j 0)) ∙ ρ .const-mul (ρ .cast v) (ρ .cast (getD y j 0))) (tpow-add ρ i j))
         ∙ solve (ρ .𝓥 .L) (var 0 :+ var 1 :* (var 2 :* var 3) :+ var 1 :* var 4 :* (var 2 :* var 5)) (var 0 :+ var 1 :* (var 2 :* (var 3 :+ var 4 :* var 5))) tt
         (row ρ acc ∷ c (ρ .cast v) ∷ tpow ρ i ∷ psum ρ j (coefs ρ y) ∷ c (ρ .cast (getD y j 0)) ∷ tpow ρ j ∷ [])

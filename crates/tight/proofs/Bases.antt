@@ -16,8 +16,8 @@ use Rattle.fp.specs.Fp.{Prime}
 use Rattle.fp.proofs.Trial.{prime}
 use Rattle.valued.specs.Val.{Valued}
 use Rattle.valued.specs.Degree.{Has, Lt}
-use Rattle.valued.proofs.Degree.{k-domain, lead-eq, lt-eq, lt-add, lt-neg, lt-up, has-eq, has-mul, above, same}
-use Rattle.valued.proofs.Compare.{k-zero, leads-unique, lt-unscale, has-unscale}
+use Rattle.valued.proofs.Degree.{k-domain, k-cancel, lead-eq, lt-eq, lt-add, lt-neg, lt-up, has-eq, has-mul, above, same}
+use Rattle.valued.proofs.Compare.{leads-unique, lt-unscale, has-unscale}
 use Rattle.valued.proofs.Polynomial.{view}
 use Rattle.reading.specs.Reading.{Reading}
 use Rattle.reading.specs.Made.{reading}
@@ -51,11 +51,11 @@ module _ {p : ℕ} (ρ : Reading p) where
   open Reading ρ using (𝓥)
   open Valued 𝓥 using (K, L, IsPoly)
   open Ops (L .ops) using (add as _⊕_, mul as _⊗_, neg as ⊖_, 𝟎, 𝟏)
-  open Ops (K .ops) using (add as _+ᵏ_, mul as _*ᵏ_, neg as -ᵏ_, 𝟎 as 0ᵏ, 𝟏 as 1ᵏ)
+  open Ops (K .ops) using (add as _+ᵏ_, 𝟎 as 0ᵏ, 𝟏 as 1ᵏ)
 
   infixl 60 _⊕_ _+ᵏ_
-  infixl 70 _⊗_ _*ᵏ_
-  infix 80 ⊖_ -ᵏ_
+  infixl 70 _⊗_
+  infix 80 ⊖_
   two-has : 1ᵏ +ᵏ 1ᵏ ≢ 0ᵏ → Has 𝓥 (𝟏 ⊕ 𝟏) 0
   two-has h = (1ᵏ +ᵏ 1ᵏ, h, 𝓥 .lead-add (𝓥 .lead-one) (𝓥 .lead-one))
 
@@ -73,10 +73,6 @@ module _ {p : ℕ} (ρ : Reading p) where
       go : (k ⊕ ⊖ k′ ≡ 𝟎) ⊎ ((j : ℕ) × Has 𝓥 (k ⊕ ⊖ k′) j) → a ⊕ ⊖ a′ ≡ 𝟎
       go (inl q) = gap ∙ ap (λ t. u ⊗ t) q ∙ rg.mul-zero L u
       go (inr (j, h)) = absurd (omega (arith, above 𝓥 (has-mul 𝓥 hu h) (lt-eq 𝓥 low gap)))
-
-  k-cancel : (a b c : K .El) → c ≢ 0ᵏ → a *ᵏ c ≡ b *ᵏ c → a ≡ b
-  k-cancel a b c h e = rg.eq-of-sub K a b (k-zero 𝓥 c (a +ᵏ -ᵏ b) h
-      (solve K (var 2 :* (var 0 :+ minus (var 1))) (var 0 :* var 2 :+ minus (var 1 :* var 2)) tt (a ∷ b ∷ c ∷ []) ∙ ap (λ t. t +ᵏ -ᵏ (b *ᵏ c)) e ∙ K .laws .add-neg (b *ᵏ c)))
 
 -- ---- a record of numbers below p is settled by its seven polynomials
 by-parts : {p : ℕ} (ρ : Reading p) (B B′ : List ℕ) → length B ≡ 119 → length B′ ≡ 119 → ((i : ℕ) → getD B i 0 < p) → ((i : ℕ) → getD B′ i 0 < p)
@@ -117,9 +113,11 @@ module _ {F : Frame} {q : Pair} {d x1 y1 B B′ : List ℕ} (μ : Meaning F) (h 
   -- ν c = 1 = ν′ c, where d leads with c
   ν-same : h .ν ≡ h′ .ν
   ν-same =
-      k-cancel (rd μ) (h .ν) (h′ .ν) (d-has .0) (d-has .1)
-      (𝓥 .lead-unique (lead-scale (rd μ) (h .ν) (d-has .2)) (lead-eq 𝓥 (h .U-lead) (h .U-eq) refl)
-      ∙ sym (𝓥 .lead-unique (lead-scale (rd μ) (h′ .ν) (d-has .2)) (subst (λ n. 𝓥 .Lead (const (h′ .ν) ⊗ rowμ μ d) n 0 (K .ops .𝟏)) (sym u-same) (lead-eq 𝓥 (h′ .U-lead) (h′ .U-eq) refl))))
+      k-cancel 𝓥 (d-has .0) (h .ν) (h′ .ν) (d-has .1)
+      (K .laws .mul-comm (d-has .0) (h .ν)
+      ∙ 𝓥 .lead-unique (lead-scale (rd μ) (h .ν) (d-has .2)) (lead-eq 𝓥 (h .U-lead) (h .U-eq) refl)
+      ∙ sym (𝓥 .lead-unique (lead-scale (rd μ) (h′ .ν) (d-has .2)) (subst (λ n. 𝓥 .Lead (const (h′ .ν) ⊗ rowμ μ d) n 0 (K .ops .𝟏)) (sym u-same) (lead-eq 𝓥 (h′ .U-lead) (h′ .U-eq) refl)))
+      ∙ K .laws .mul-comm (h′ .ν) (d-has .0))
 
   U-same : at μ 6 B ≡ at μ 6 B′
   U-same = h .U-eq ∙ ap (λ z. const z ⊗ rowμ μ d) ν-same ∙ sym (h′ .U-eq)
@@ -135,8 +133,8 @@ module _ {F : Frame} {q : Pair} {d x1 y1 B B′ : List ℕ} (μ : Meaning F) (h 
   -- a leading coefficient that a constant keeps
   kept : (c v : K .El) (z z′ : L .El) (m n : ℕ) → c ≢ K .ops .𝟎 → v ≢ K .ops .𝟎 → 𝓥 .Lead z m 0 v → 𝓥 .Lead z′ n 0 v → z′ ≡ const c ⊗ z → const c ≡ 𝟏
   kept c v z z′ m n hc hv l l′ e =
-      ap const (k-cancel (rd μ) c (K .ops .𝟏) v hv
-      (leads-unique 𝓥 (m, 0, k-domain 𝓥 c v hc hv, lead-eq 𝓥 (lead-scale (rd μ) c l) (sym e) refl) (n, 0, hv, l′) ∙ sym (rg.one-mul K v)))
+      ap const (k-cancel 𝓥 v c (K .ops .𝟏) hv
+      (K .laws .mul-comm v c ∙ leads-unique 𝓥 (m, 0, k-domain 𝓥 c v hc hv, lead-eq 𝓥 (lead-scale (rd μ) c l) (sym e) refl) (n, 0, hv, l′) ∙ sym (K .laws .mul-one v)))
       ∙ rd μ .const-one
 
   a-one : const (scaled .a) ≡ 𝟏

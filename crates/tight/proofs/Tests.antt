@@ -15,7 +15,7 @@ use Rattle.opened.specs.Known.{Known}
 use Rattle.accepts.specs.Answer.{Accepts}
 use Rattle.accepts.proofs.Accepting as accepting
 
--- book_bytes: same_list. pairs: one_field. book_body: body_rule, one_field, unit_list, first_list. shape: below, narrow, shape
+-- pairs: one_field. book_body: body_rule, one_field, unit_list, first_list. shape: below, narrow, shape
 pub decides-one : {A : Type 0} (r s : Bool) → Decides r A → Decides s A → r ≡ s
 decides-one {A} r s h k = settled r s A h k
 

@@ -27,7 +27,7 @@
 --   six_invert    invert: invert-one (Long)
 --   unit          unit: makes-one (unit/proofs/Once)
 --   transfer      transfer: transfers-one (transfer/proofs/Once)
---   book_bytes    same_list: decides-one (Tests); read_list, put_two, put_four, put_list, copy_in, lift: put-one (Bytes)
+--   book_bytes    read_list, put_two, put_four, put_list, copy_in, lift: put-one (Bytes)
 --   book_body     body_rule, one_field, unit_list, first_list: decides-one (Tests); field_refusal, period_of: field-refusal-one, period-of-one (Bytes);
 --                 list_of: got-one (book_body/proofs/One)
 --   book          check, ask_answer: check-one, ask-answer-one (Bytes); ask, earlier, judge: part-one, earliest-one, judge-one (book/proofs/One)

@@ -1,7 +1,7 @@
 -- Comparisons of degrees as numbers, leading coefficients, and constant factors.
 --   ≺-lt ≺-has ≼-has lt-≺ at-most    between `x ≺ y`, `x ≼ y` and whole degrees
---   leads-unique leads-mul           one leading coefficient for each element, and that of a product
---   lt-scale lt-unscale has-scale has-unscale   a constant factor changes no degree
+--   leads-unique leads-mul leads-cube   one leading coefficient for each element, and that of a product and of a cube
+--   lt-scale lt-unscale has-scale has-unscale   a constant factor changes no degree, and (≺-left ≺-right) no comparison
 --   lt-mul-sharp                     the product of degrees ≤ m and < n
 --   k-zero                           a product of constants that is 0 has a factor that is 0
 use mathlib.Core.Path.{_≡_, refl, sym, ap, _∙_}
@@ -58,6 +58,9 @@ module _ (𝓥 : Valued) where
   pub leads-mul : {x y : L .El} {a b : K .El} → Leads 𝓥 x a → Leads 𝓥 y b → Leads 𝓥 (x * y) (a *ᵏ b)
   leads-mul {a} {b} (p, q, ha, h) (p′, q′, hb, g) = (p +ⁿ p′, q +ⁿ q′, d.k-domain 𝓥 a b ha hb, 𝓥 .lead-mul h g)
 
+  pub leads-cube : {x : L .El} {a : K .El} → Leads 𝓥 x a → Leads 𝓥 (x * x * x) (a *ᵏ a *ᵏ a)
+  leads-cube l = leads-mul (leads-mul l l) l
+
   pub leads-one : Leads 𝓥 𝟏 1ᵏ
   leads-one = (0, 0, 𝓥 .one≢zero, 𝓥 .lead-one)
 
@@ -77,6 +80,12 @@ module _ (𝓥 : Valued) where
 
   pub has-scale : {s x : L .El} {p q : ℕ} → Has 𝓥 s 0 → HasDeg 𝓥 x p q → HasDeg 𝓥 (s * x) p q
   has-scale {s} {x} {p} {q} h g = let (c, hc, k) = d.has-mul 𝓥 h g in (c, hc, 𝓥 .lead-move p q k (omega arith))
+
+  pub ≺-left : {s x y : L .El} → Has 𝓥 s 0 → _≺_ 𝓥 x y → _≺_ 𝓥 (s * x) y
+  ≺-left (c, hc, h) (p, q, hy, hx) = (p, q, hy, 𝓥 .lead-move p q (d.lead-eq 𝓥 (𝓥 .lead-mul h hx) refl (r.mul-zero K c)) (omega arith))
+
+  pub ≺-right : {s x y : L .El} → Has 𝓥 s 0 → _≺_ 𝓥 x y → _≺_ 𝓥 x (s * y)
+  ≺-right h (p, q, hy, hx) = (p, q, has-scale h hy, hx)
 
   pub has-unscale : {s x : L .El} {p q : ℕ} → Has 𝓥 s 0 → HasDeg 𝓥 (s * x) p q → HasDeg 𝓥 x p q
   has-unscale {s} {x} h g =

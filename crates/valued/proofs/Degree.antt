@@ -25,6 +25,12 @@ module _ (𝓥 : Valued) where
       let i = 𝓥 .field .inv a ha in
       hb (sym (r.one-mul K b) ∙ ap (λ z. z *ᵏ b) (sym (i .1)) ∙ ring₃ K (λ x y z. x :* y :* z := y :* (x :* z)) tt a (i .0) b ∙ ap (λ z. i .0 *ᵏ z) e ∙ r.mul-zero K (i .0))
 
+  pub k-cancel : (a x y : K .El) → a ≢ 0ᵏ → a *ᵏ x ≡ a *ᵏ y → x ≡ y
+  k-cancel a x y h e =
+      let (i, f) = 𝓥 .field .inv a h in
+      let g : i *ᵏ a ≡ 1ᵏ = K .laws .mul-comm i a ∙ f in
+      sym (r.undo K i a x g) ∙ ap (λ z. i *ᵏ z) e ∙ r.undo K i a y g
+
   pub k-neg : (a : K .El) → a ≢ 0ᵏ → -ᵏ a ≢ 0ᵏ
   k-neg a ha e = ha (sym (r.neg-neg K a) ∙ ap (λ z. -ᵏ z) e ∙ r.neg-zero K)
 

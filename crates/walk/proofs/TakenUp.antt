@@ -3,7 +3,7 @@
 --   closed-later spent-later    of records
 --   taken-up                    of the whole answers: a walk refused with 10, and the walk from where it stopped, are the long walk
 use mathlib.Core.Path.{_≡_, refl, sym, ap, _∙_}
-use mathlib.Core.Logic.{_≢_, _⊎_, inl, inr}
+use mathlib.Core.Logic.{_≢_}
 use mathlib.Core.List.{List}
 use Prim.Native.Nat.{ℕ, _+_, _-_, _≤_, _<_}
 use native.Mathlib.Omega.{arith}
@@ -14,8 +14,7 @@ use Rattle.ideals.specs.Ideal.{Basis}
 use Rattle.ideals.specs.Basis.{Good}
 use Rattle.chain.specs.Chain.{Chain, Closing, Open}
 use Rattle.chain.proofs.Walk.{same-chain, chain-then, prefix}
-use Rattle.field.specs.Refusal.{Refusal}
-use Rattle.field.proofs.Stages.{refusal-one}
+use Rattle.field.proofs.Stages.{refusal-one, numbered}
 use Rattle.record.specs.Record.{setting, basisOf, IsRecord}
 use Rattle.walk.specs.declared.Walked.{Walked}
 use Rattle.walk.specs.Walk.{most, refused, Closed, Spent, Goes, budget, no-record, closed, spent, Walks}
@@ -78,15 +77,6 @@ module _ (p : ℕ) (G H : List ℕ) (n m : ℕ) (B : List ℕ) (is : IsRecord p 
   }
 
 -- ---- of answers
-stage-low : {A E N : Type 0} {n k : ℕ} → k ≤ 8 → (N → n ≤ 8) → (A × (n ≡ k)) ⊎ (E × N) → n ≤ 8
-stage-low l f (inl (a, e)) = omega arith
-stage-low l f (inr (a, h)) = f h
-
--- the numbers of the table
-refusal-low : (p : ℕ) (G H : List ℕ) (n : ℕ) → Refusal p G H n → n ≤ 8
-unfolding Refusal
-refusal-low p G H n = stage-low (omega arith) (stage-low (omega arith) (stage-low (omega arith) (stage-low (omega arith) (stage-low (omega arith) (stage-low (omega arith) (stage-low (omega arith) (stage-low (omega arith) (stage-low (omega arith) (λ e. omega arith)))))))))
-
 -- the answer to the long walk
 abbrev pub joined : ℕ → Walked → Walked → Walked
 joined n v w = record { refusal = w .refusal; steps = n + w .steps; sum = v .sum + w .sum; basis = w .basis }
@@ -117,6 +107,6 @@ module _ (p : ℕ) (G H : List ℕ) (n m : ℕ) (B : List ℕ) (v w : Walked) (w
           let (rec, sp) = was-spent (a .goes z) t in
           record { no = a .no; first = a .first; none = λ f. absurd (f z); goes = λ _. goes-later rec sp (b .goes (sym same ∙ z)) }
       go (no f) = absurd (
-          let l : a .no ≤ 8 = refusal-low p G H (a .no) (a .first) in
+          let l : a .no ≤ 8 = numbered p G H (a .no) (a .first) in
           let e : a .no ≡ 10 = sym (ap (λ z. z .refusal) (a .none f)) ∙ t in
           omega arith)
