@@ -7,13 +7,13 @@ use native.Mathlib.Omega.{arith}
 use lib.ListN.{length, drop, length-append}
 use lib.Seq.{sets-eq}
 use Rattle.field.specs.Refusal.{Refusal}
+use Rattle.field.proofs.Stages.{numbered}
 use Rattle.book_bytes.specs.Bytes.{le, words, Put}
 use Rattle.book_bytes.proofs.Read.{length-words}
 use Rattle.book_bytes.proofs.Write.{andThen}
 use Rattle.book_body.specs.Said.{passed, refused}
 use Rattle.book_body.specs.Body.{Body, Rule, FieldSays, bodyBytes}
 use Rattle.book_body.proofs.Field.{Fits, fits}
-use Rattle.book_body.proofs.One.{field-most}
 use Rattle.book_write.specs.Write.{bodyFrom, WriteTells, field, done}
 use Rattle.book_write.specs.Code.{Head, headBytes, Lists, listBytes, listLong}
 
@@ -90,7 +90,7 @@ done-of b d d1 d2 x r o ru m q u =
 
 -- the field is refused with one of its numbers
 pub field-of : (b : Body) (d : List ℕ) (n : ℕ) → n ≢ 0 → FieldSays b n → WriteTells b d (refused n) d × ((1 ≤ n) × (n ≤ 8))
-field-of b d n h o = (field n h o refl refl, (low n h, field-most b n o))
+field-of b d n h o = (field n h o refl refl, (low n h, numbered (b .p) (b .G) (b .H) n o))
   where
     low : (k : ℕ) → k ≢ 0 → 1 ≤ k
     low zero h = absurd (h refl)

@@ -14,13 +14,13 @@ use Prim.Native.Nat.{ℕ, _≤_, _+_ as _+ⁿ_, _-_ as _-ⁿ_}
 use native.Mathlib.Omega.{arith}
 use Rattle.ring.proofs.Laws as rg
 use Rattle.ring.specs.Ring.{Ops, CRing}
-use Rattle.ring.proofs.Solve.{exprs, var, hyp, one, zer, minus, _:+_, _:*_, _:=_, solve, solve-by, ring₃}
+use Rattle.ring.proofs.Solve.{exprs, var, hyp, one, zer, minus, _:*_, _:=_, solve, solve-by, ring₃}
 use Rattle.cubic.specs.Tri.{triE, normT}
 use Rattle.valued.specs.Val.{Valued}
 use Rattle.valued.specs.Degree.{HasDeg, Has, Lt, Leads}
 use Rattle.valued.specs.Polynomial.{polys, IsUnit}
 use Rattle.valued.proofs.Degree as d
-use Rattle.valued.proofs.Compare.{has-scale, has-unscale, leads-mul, leads-unique, k-zero}
+use Rattle.valued.proofs.Compare.{has-scale, has-unscale, leads-mul, leads-unique}
 use Rattle.valued.proofs.Polynomial.{view, unit-of, unit-const, const-path, not-zero}
 use Rattle.ideals.specs.Setting.{Setting, P}
 use Rattle.ideals.specs.Element.{O, sc, ev, Y, Z, norm, cof}
@@ -40,13 +40,13 @@ module _ (S : Setting) where
   open Setting S using (𝓥, G, H, r, w)
   open Valued 𝓥 using (K, L, Lead)
   open Ops (L .ops) using (add as _+_, mul as _*_, neg as -_, 𝟎, 𝟏)
-  open Ops (K .ops) using (add as _+ᵏ_, mul as _*ᵏ_, neg as -ᵏ_, 𝟎 as 0ᵏ, 𝟏 as 1ᵏ)
+  open Ops (K .ops) using (mul as _*ᵏ_, 𝟎 as 0ᵏ, 𝟏 as 1ᵏ)
   open Ops (polys 𝓥 .ops) using (add as _⊞_, mul as _⊠_, neg as ⊟_, 𝟎 as 0ₚ, 𝟏 as 1ₚ)
   open Ops (O S .ops) using (add as _⊕_, mul as _⊗_, 𝟏 as 1ₒ)
 
-  infixl 60 _+_ _+ᵏ_ _⊕_ _⊞_
+  infixl 60 _+_ _⊕_ _⊞_
   infixl 70 _*_ _*ᵏ_ _⊗_ _⊠_
-  infix 80 -_ -ᵏ_ ⊟_
+  infix 80 -_ ⊟_
   abbrev R : CRing
   R = polys 𝓥
 
@@ -126,7 +126,7 @@ module _ (S : Setting) where
         let (b, hb, g) = unit-const 𝓥 s′ us′ in
         let e : a *ᵏ c ≡ k = leads-unique 𝓥 (leads-mul 𝓥 (0, 0, ha, h) lv) (subst (λ z. Leads 𝓥 z k) (f-sc s v) ls) in
         let e′ : b *ᵏ c ≡ k = leads-unique 𝓥 (leads-mul 𝓥 (0, 0, hb, g) lv) (subst (λ z. Leads 𝓥 z k) (f-sc s′ v) ls′) in
-        let ab : a ≡ b = rg.eq-of-sub K a b (k-zero 𝓥 c (a +ᵏ -ᵏ b) (lv .2) (ring₃ K (λ a b c. c :* (a :+ minus b) := a :* c :+ minus (b :* c)) tt a b c ∙ ap₂ (λ x y. x +ᵏ -ᵏ y) e e′ ∙ K .laws .add-neg k)) in
+        let ab : a ≡ b = d.k-cancel 𝓥 c a b (lv .2) (K .laws .mul-comm c a ∙ e ∙ sym e′ ∙ K .laws .mul-comm b c) in
         const-path 𝓥 (d.lead-eq 𝓥 h refl ab) g
 
   -- ---- at a closing

@@ -1,7 +1,7 @@
 -- How long an answer is.
 --   lists-short   it has at most `room` bytes
 use mathlib.Core.Path.{_≡_, sym, _∙_, subst}
-use mathlib.Core.Logic.{_≢_, inl, inr}
+use mathlib.Core.Logic.{_≢_}
 use mathlib.Core.List.{List, [], _∷_, _++_, map}
 use Prim.Native.Nat.{ℕ, suc, _+_, _*_, _≤_, _<_}
 use native.Mathlib.Omega.{arith}
@@ -13,7 +13,7 @@ use Rattle.text_read.proofs.Inverse.{text-numeral}
 use Rattle.text_read.proofs.Writings.{Small, line-is-text, reads-below}
 use Rattle.reading.proofs.Floors.{sized}
 use Rattle.reading.proofs.Tab.{length-tab, at-tab}
-use Rattle.field.specs.Refusal.{Refusal}
+use Rattle.field.proofs.Stages.{numbered}
 use Rattle.six.specs.Six.{cut}
 use Rattle.unit.specs.declared.Made.{Made}
 use Rattle.unit.specs.Unit.{Makes, Goes, bad, spent, narrow, made}
@@ -91,19 +91,6 @@ unit-short s l R E0 E1 E2 a b c d =
     omega arith
 
 -- ---- what `unit` answers
-refusal-most : (p : ℕ) (G H : List ℕ) (n : ℕ) → Refusal p G H n → n ≤ 8
-unfolding Refusal
-refusal-most p G H n (inl (x, e)) = omega arith
-refusal-most p G H n (inr (x, inl (y, e))) = omega arith
-refusal-most p G H n (inr (x, inr (y, inl (z, e)))) = omega arith
-refusal-most p G H n (inr (x, inr (y, inr (z, inl (u, e))))) = omega arith
-refusal-most p G H n (inr (x, inr (y, inr (z, inr (u, inl (v, e)))))) = omega arith
-refusal-most p G H n (inr (x, inr (y, inr (z, inr (u, inr (v, inl (w, e))))))) = omega arith
-refusal-most p G H n (inr (x, inr (y, inr (z, inr (u, inr (v, inr (w, inl (a, e)))))))) = omega arith
-refusal-most p G H n (inr (x, inr (y, inr (z, inr (u, inr (v, inr (w, inr (a, inl (b, e))))))))) = omega arith
-refusal-most p G H n (inr (x, inr (y, inr (z, inr (u, inr (v, inr (w, inr (a, inr (b, inl (c, e)))))))))) = omega arith
-refusal-most p G H n (inr (x, inr (y, inr (z, inr (u, inr (v, inr (w, inr (a, inr (b, inr (c, e)))))))))) = omega arith
-
 record Fits (m : Made) (rows : List ℕ) : Type 0 where
   pub p : ℕ
   pub below : p < 100000
@@ -142,7 +129,7 @@ makes-short : (s : List ℕ) (p : ℕ) (G H : List ℕ) (m : Made) (rows scratch
     → length (made-text s m rows) ≤ room
 makes-short s p G H m rows scratch b l x = elim (ℕ-discrete (x .no) 0) [
   | yes e ↦ goes-short s p G H m rows scratch b l (x .goes e)
-  | no f ↦ let k = refusal-most p G H (x .no) (x .first) in refused-made s m rows (x .none f .number) (omega arith) (omega arith)
+  | no f ↦ let k = numbered p G H (x .no) (x .first) in refused-made s m rows (x .none f .number) (omega arith) (omega arith)
 ]
 
 pub lists-short : {line t : List ℕ} → Lists line t → length t ≤ room
