@@ -10,11 +10,11 @@ use Rattle.book_bytes.specs.Bytes.{le, Bytes}
 use Rattle.book_bytes.proofs.Read.{length-le2, length-le4}
 use Rattle.book_body.specs.Said.{Said}
 use Rattle.book_body.specs.Body.{Body, Rule, FieldSays, OneField, bodyOf, Finished}
-use Rattle.book.specs.Book.{mark, width, count, lengthAt, entry, Accepted}
-use Rattle.book.specs.Value.{bookBytes, valueOf, none, at, Obeys}
-use Rattle.book.proofs.Value.{length-rows, at-rows, book-obeys}
-use Rattle.book.proofs.Written.{writing-accepted, value-back}
-use Rattle.book.proofs.Facts.{told-fine, body-thirteen}
+use Rattle.book_check.specs.Book.{mark, width, count, lengthAt, entry, Accepted}
+use Rattle.book_check.specs.Value.{bookBytes, valueOf, none, at, Obeys}
+use Rattle.book_check.proofs.Value.{length-rows, at-rows, book-obeys}
+use Rattle.book_check.proofs.Written.{writing-accepted, value-back}
+use Rattle.book_check.proofs.Facts.{told-fine, body-thirteen}
 use Rattle.book_add.specs.Add.{Unlisted, newLength, newBook, AddTells, length-out, book, body, known, short, added}
 use Rattle.book_add.specs.Code.{lineEnd, lines}
 use Rattle.book_add.proofs.New.{low, new-book}

@@ -6,8 +6,8 @@ use Prim.Native.Nat.{ℕ, _<_, _≤_}
 use lib.ListN.{length, take, drop}
 use Rattle.book_bytes.specs.Bytes.{Bytes}
 use Rattle.book_body.specs.Said.{passed, refused}
-use Rattle.book.specs.Answer.{reasonSays}
-use Rattle.book.specs.declared.Reason.{Reason}
+use Rattle.book_check.specs.Answer.{reasonSays}
+use Rattle.book_check.specs.declared.Reason.{Reason}
 use Rattle.book_add.specs.Add.{newLength, AddTells, book, body, known, short, added}
 use Rattle.book_add.specs.Code.{newBytes, Place, VerdictTells}
 use Rattle.book_add.specs.declared.Verdict.{Verdict}

@@ -7,7 +7,7 @@ use native.Mathlib.Omega.{arith}
 use lib.ListN.{length}
 use Rattle.book_bytes.specs.Bytes.{le, val, u4, Put}
 use Rattle.book_bytes.proofs.Write.{andThen}
-use Rattle.book.specs.Book.{lengthAt}
+use Rattle.book_check.specs.Book.{lengthAt}
 use Rattle.book_add.specs.Code.{lineEnd, lines}
 use Rattle.book_add.proofs.Sets.{drop-sets}
 

@@ -5,16 +5,16 @@ use mathlib.Core.List.{List}
 use Prim.Native.Nat.{ℕ, _<_, _≤_}
 use native.Mathlib.Omega.{arith}
 use Rattle.book_body.specs.Body.{FieldSays, bodyOf, Formed, Finished}
-use Rattle.book.specs.Book.{count, Accepted}
-use Rattle.book.specs.Answer.{reasonSays, answerSays, BodyFault, Tells}
-use Rattle.book.specs.Code.{Earliest, JudgeTells}
-use Rattle.book.proofs.Facts.{judge-bad}
-use Rattle.book.proofs.Asking.{refused-of, refused-no}
-use Rattle.book.specs.declared.Reason.{Reason}
-use Rattle.book.specs.declared.Answer.{Answer}
-use Rattle.book.specs.declared.Answer.the-variants.{Refused}
-use Rattle.book.specs.declared.Seen.{Seen}
-use Rattle.book.specs.declared.Seen.the-variants.{Bad}
+use Rattle.book_check.specs.Book.{count, Accepted}
+use Rattle.book_check.specs.Answer.{reasonSays, answerSays, BodyFault, Tells}
+use Rattle.book_check.specs.Code.{Earliest, JudgeTells}
+use Rattle.book_check.proofs.Facts.{judge-bad}
+use Rattle.book_check.proofs.Asking.{refused-of, refused-no}
+use Rattle.book_check.specs.declared.Reason.{Reason}
+use Rattle.book_check.specs.declared.Answer.{Answer}
+use Rattle.book_check.specs.declared.Answer.the-variants.{Refused}
+use Rattle.book_check.specs.declared.Seen.{Seen}
+use Rattle.book_check.specs.declared.Seen.the-variants.{Bad}
 use Rattle.book_add.specs.Code.{VerdictTells}
 use Rattle.book_add.specs.declared.Verdict.the-variants.{May, No, Has}
 

@@ -10,10 +10,10 @@ use lib.ListN.{length, drop, length-append, length-drop}
 use Rattle.book_bytes.specs.Bytes.{le, Bytes}
 use Rattle.book_body.specs.Body.{Body, bodyBytes, bodyOf, Formed}
 use Rattle.book_body.proofs.Body.{body-back}
-use Rattle.book.specs.Book.{mark, width, count, startAt, lengthAt, ends, entry, Accepted}
-use Rattle.book.specs.Value.{table, bodies, bookBytes, rows, valueOf}
-use Rattle.book.proofs.Facts.{ends-zero, ends-more, inside}
-use Rattle.book.proofs.Value.{length-rows, part-long, bodies-back}
+use Rattle.book_check.specs.Book.{mark, width, count, startAt, lengthAt, ends, entry, Accepted}
+use Rattle.book_check.specs.Value.{table, bodies, bookBytes, rows, valueOf}
+use Rattle.book_check.proofs.Facts.{ends-zero, ends-more, inside}
+use Rattle.book_check.proofs.Value.{length-rows, part-long, bodies-back}
 use Rattle.book_add.specs.Add.{newBook}
 use Rattle.book_add.specs.Code.{lineEnd, lines}
 

@@ -10,10 +10,10 @@ use native.Mathlib.Omega.{arith}
 use lib.ListN.{length, take}
 use Rattle.book_body.specs.Said.{Said}
 use Rattle.book_body.specs.Body.{Finished}
-use Rattle.book.specs.Book.{Accepted}
-use Rattle.book.proofs.One.{tells-one, body-one, finished-no, reason, reasonOf, reason-one}
-use Rattle.book.specs.declared.Reason.{Reason}
-use Rattle.book.specs.declared.Reason.the-variants.{Mark, Contents, BodyRule, Field, Twice}
+use Rattle.book_check.specs.Book.{Accepted}
+use Rattle.book_check.proofs.One.{tells-one, body-one, finished-no, reason, reasonOf, reason-one}
+use Rattle.book_check.specs.declared.Reason.{Reason}
+use Rattle.book_check.specs.declared.Reason.the-variants.{Mark, Contents, BodyRule, Field, Twice}
 use Rattle.book_add.specs.Code.{VerdictTells}
 use Rattle.book_add.specs.declared.Added.{Added}
 use Rattle.book_add.specs.declared.Added.the-variants.{Length, LengthOut, Refused, Known, Short}

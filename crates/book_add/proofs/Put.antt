@@ -9,7 +9,7 @@ use Rattle.book_bytes.specs.Bytes.{le, val, u2, u4, Bytes, Put}
 use Rattle.book_bytes.proofs.Read.{val2, val4}
 use Rattle.book_bytes.proofs.Write.{andThen}
 use Rattle.book_body.specs.Body.{Formed}
-use Rattle.book.specs.Book.{mark, width, count, lengthAt, Accepted}
+use Rattle.book_check.specs.Book.{mark, width, count, lengthAt, Accepted}
 use Rattle.book_add.specs.Add.{newBook, newLength}
 use Rattle.book_add.specs.Code.{lineEnd, lines, newBytes, Place}
 use Rattle.book_add.proofs.Sets.{drop-sets, u4-below, three-pieces}

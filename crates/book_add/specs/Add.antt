@@ -15,9 +15,9 @@ use Prim.Native.Nat.{ℕ, _+_, _<_, _≤_}
 use lib.ListN.{length, take, drop}
 use Rattle.book_body.specs.Said.{Said, passed, refused}
 use Rattle.book_body.specs.Body.{OneField, bodyOf, Finished}
-use Rattle.book.specs.Book.{width, count, entry, Accepted}
-use Rattle.book.specs.Value.{bookBytes, valueOf}
-use Rattle.book.specs.Answer.{reasonSays, BodyFault, Tells}
+use Rattle.book_check.specs.Book.{width, count, entry, Accepted}
+use Rattle.book_check.specs.Value.{bookBytes, valueOf}
+use Rattle.book_check.specs.Answer.{reasonSays, BodyFault, Tells}
 use Rattle.book_add.specs.declared.Added.{Added}
 use Rattle.book_add.specs.declared.Added.the-variants.{Length, LengthOut, Refused, Known, Short}
 

@@ -11,8 +11,8 @@ use Prim.Native.Nat.{ℕ, zero, suc, _+_, _-_, _*_, _<_, _≤_}
 use lib.ListN.{length, take, drop}
 use Rattle.book_bytes.specs.Bytes.{le}
 use Rattle.book_body.specs.Body.{OneField, bodyOf, Finished}
-use Rattle.book.specs.Book.{width, count, lengthAt, entry, Accepted}
-use Rattle.book.specs.Answer.{reasonSays, BodyFault, Tells}
+use Rattle.book_check.specs.Book.{width, count, lengthAt, entry, Accepted}
+use Rattle.book_check.specs.Answer.{reasonSays, BodyFault, Tells}
 use Rattle.book_add.specs.Add.{Unlisted, newLength}
 use Rattle.book_add.specs.declared.Verdict.{Verdict}
 use Rattle.book_add.specs.declared.Verdict.the-variants.{May, No, Has}

@@ -14,7 +14,7 @@ const WIDTH: usize = 8;
 pub enum Added {
     Length(usize),
     LengthOut,
-    Refused(book::Reason),
+    Refused(book_check::Reason),
     Known,
     Short,
 }
@@ -22,7 +22,7 @@ pub enum Added {
 // May the body be added: yes, with the number of bodies in the book; 13 with the reason; 15.
 pub enum Verdict {
     May(usize),
-    No(book::Reason),
+    No(book_check::Reason),
     Has,
 }
 
@@ -30,23 +30,23 @@ pub enum Verdict {
 pub fn may_add(s: &[u8], b: &[u8]) -> Verdict
     ensures { λ r. ⌜ VerdictTells (now (s .entry)) (now (b .entry)) r ⌝ }
 {
-    let a = book::check(s);
+    let a = book_check::check(s);
     match a {
-        book::Answer::Yes => {
-            let c = book::bodies(s);
-            let own = book::judge(b, c);
+        book_check::Answer::Yes => {
+            let c = book_check::bodies(s);
+            let own = book_check::judge(b, c);
             match own {
-                book::Seen::Good => {
-                    let j = book::earlier(s, b, c);
+                book_check::Seen::Good => {
+                    let j = book_check::earlier(s, b, c);
                     if j < c {
                         return Verdict::Has;
                     }
                     Verdict::May(c)
                 }
-                book::Seen::Bad(why) => Verdict::No(why),
+                book_check::Seen::Bad(why) => Verdict::No(why),
             }
         }
-        book::Answer::Refused(why) => Verdict::No(why),
+        book_check::Answer::Refused(why) => Verdict::No(why),
     }
 }
 

@@ -5,13 +5,13 @@ use Prim.Native.Nat.{ℕ, _<_}
 use native.Mathlib.Omega.{arith}
 use Rattle.book_body.specs.Said.{Said, passed, refused}
 use Rattle.book_body.specs.Body.{bodyOf, Finished}
-use Rattle.book.specs.Book.{count, part, Accepted}
-use Rattle.book.specs.Answer as asking
-use Rattle.book.specs.Answer.{reasonSays, requestSays, Tells, AskTells}
-use Rattle.book.proofs.Facts.{thirteen, fault-thirteen}
-use Rattle.book.specs.declared.Reason.{Reason}
-use Rattle.book.specs.declared.Request.{Request}
-use Rattle.book.specs.declared.Request.the-variants as asked
+use Rattle.book_check.specs.Book.{count, part, Accepted}
+use Rattle.book_check.specs.Answer as asking
+use Rattle.book_check.specs.Answer.{reasonSays, requestSays, Tells, AskTells}
+use Rattle.book_check.proofs.Facts.{thirteen, fault-thirteen}
+use Rattle.book_check.specs.declared.Reason.{Reason}
+use Rattle.book_check.specs.declared.Request.{Request}
+use Rattle.book_check.specs.declared.Request.the-variants as asked
 use Rattle.book_attest.specs.Attest.{Attested, AttestTells, book, no-entry, yes, no}
 
 number-of : {x y : Said} → x ≡ y → x .number ≡ y .number

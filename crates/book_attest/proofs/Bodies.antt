@@ -6,18 +6,18 @@ use Prim.Native.Nat.{ℕ, zero, suc, _+_, _-_, _<_, _≤_}
 use native.Mathlib.Omega.{arith}
 use native.Mathlib.Decide.{decLt}
 use lib.ListN.{length, getD, replicate, List·getD-eq-default}
-use Rattle.ring.proofs.Solve.{var, one, zer, _:+_, _:*_, solve}
-use Rattle.cubic.specs.Tri.{normT}
-use Rattle.fp.specs.Fp.{Prime}
-use Rattle.valued.specs.Val.{Valued}
-use Rattle.reading.specs.Reading.{Reading}
-use Rattle.reading.specs.Made.{reading}
-use Rattle.reading.specs.Row.{Size, tpow, psum, coefs, row}
-use Rattle.reading.proofs.Rows.{const-zero, psum-ext, psum-cut, row-upto, row-cut}
-use Rattle.reading.proofs.Tab.{Filled}
-use Rattle.reading.proofs.Unique.{const-inj, psum-unique}
-use Rattle.field.specs.Refusal as field
-use Rattle.field.proofs.Accept.{accepted}
+use Rattle.math_ring.proofs.Solve.{var, one, zer, _:+_, _:*_, solve}
+use Rattle.math_triple.specs.Tri.{normT}
+use Rattle.math_fp.specs.Fp.{Prime}
+use Rattle.math_valued.specs.Val.{Valued}
+use Rattle.math_rows.specs.Reading.{Reading}
+use Rattle.math_rows.specs.Made.{reading}
+use Rattle.math_rows.specs.Row.{Size, tpow, psum, coefs, row}
+use Rattle.math_rows.proofs.Rows.{const-zero, psum-ext, psum-cut, row-upto, row-cut}
+use Rattle.math_rows.proofs.Tab.{Filled}
+use Rattle.math_rows.proofs.Unique.{const-inj, psum-unique}
+use Rattle.field_open.specs.Refusal as field
+use Rattle.field_open.proofs.Accept.{accepted}
 use Rattle.book_body.specs.Body.{listAt, bodyOf, Finished}
 use Rattle.book_attest.specs.Attest.{NonZeroConstant, Attested}
 use Rattle.book_attest.specs.Code.{LoadIn, Loaded, NormIn, Norm, BodyNorm}

@@ -4,13 +4,13 @@ use mathlib.Core.List.{List, [], _∷_}
 use Prim.Native.Nat.{ℕ, _+_, _-_, _≤_}
 use native.Mathlib.Omega.{arith}
 use lib.ListN.{length}
-use Rattle.ring.proofs.Solve.{var, one, minus, _:+_, _:*_, solve}
-use Rattle.reading.specs.Reading.{Reading}
-use Rattle.reading.specs.Made.{reading}
-use Rattle.reading.specs.Row.{row}
-use Rattle.reading.proofs.Rows.{const-neg, cast-sub}
-use Rattle.long.specs.Long.{Mixed, Times, Scaled}
-use Rattle.long.proofs.Low.{whole}
+use Rattle.math_ring.proofs.Solve.{var, one, minus, _:+_, _:*_, solve}
+use Rattle.math_rows.specs.Reading.{Reading}
+use Rattle.math_rows.specs.Made.{reading}
+use Rattle.math_rows.specs.Row.{row}
+use Rattle.math_rows.proofs.Rows.{const-neg, cast-sub}
+use Rattle.poly_long.specs.Long.{Mixed, Times, Scaled}
+use Rattle.poly_long.proofs.Low.{whole}
 use Rattle.book_attest.specs.Code.{SquareIn, Square, CubesIn, Cubes, cubesOf, NormIn, Norm}
 
 -- the remainder p − 3 stands for −3

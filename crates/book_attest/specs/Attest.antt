@@ -9,17 +9,17 @@ use mathlib.Core.Path.{_≡_}
 use mathlib.Core.Logic.{_≢_}
 use mathlib.Core.List.{List}
 use Prim.Native.Nat.{ℕ, _<_, _≤_}
-use Rattle.ring.specs.Ring.{Ops, CRing}
-use Rattle.cubic.specs.Tri.{normT}
-use Rattle.fp.specs.Fp.{Prime}
-use Rattle.valued.specs.Val.{Valued}
-use Rattle.reading.specs.Reading.{Reading}
-use Rattle.reading.specs.Made.{reading}
-use Rattle.reading.specs.Row.{row}
+use Rattle.math_ring.specs.Ring.{Ops, CRing}
+use Rattle.math_triple.specs.Tri.{normT}
+use Rattle.math_fp.specs.Fp.{Prime}
+use Rattle.math_valued.specs.Val.{Valued}
+use Rattle.math_rows.specs.Reading.{Reading}
+use Rattle.math_rows.specs.Made.{reading}
+use Rattle.math_rows.specs.Row.{row}
 use Rattle.book_body.specs.Said.{Said, passed, refused}
 use Rattle.book_body.specs.Body.{Body}
-use Rattle.book.specs.Book.{count, entry, Accepted}
-use Rattle.book.specs.Answer.{reasonSays, Tells}
+use Rattle.book_check.specs.Book.{count, entry, Accepted}
+use Rattle.book_check.specs.Answer.{reasonSays, Tells}
 use Rattle.book_attest.specs.declared.Attestation.{Attestation}
 use Rattle.book_attest.specs.declared.Attestation.the-variants.{Yes, No, Refused, NoEntry}
 

@@ -1,4 +1,4 @@
--- What the code's own functions ask of and promise each other. Polynomials are `row` of lists (crate reading).
+-- What the code's own functions ask of and promise each other. Polynomials are `row` of lists (crate math_rows).
 --   load        Loaded          the slice holds list k of the body, zeros above it
 --   square      Square          a² − 3 gh b c
 --   cubes       Cubes           h b³ + g c³
@@ -9,11 +9,11 @@ use mathlib.Core.Path.{_≡_}
 use mathlib.Core.List.{List}
 use Prim.Native.Nat.{ℕ, _<_, _≤_}
 use lib.ListN.{length, getD}
-use Rattle.ring.specs.Ring.{Ops}
-use Rattle.fp.specs.Fp.{Prime}
-use Rattle.reading.specs.Made.{reading}
-use Rattle.reading.specs.Row.{row}
-use Rattle.long.specs.Long.{Storable}
+use Rattle.math_ring.specs.Ring.{Ops}
+use Rattle.math_fp.specs.Fp.{Prime}
+use Rattle.math_rows.specs.Made.{reading}
+use Rattle.math_rows.specs.Row.{row}
+use Rattle.poly_long.specs.Long.{Storable}
 use Rattle.book_body.specs.Body.{listAt, bodyOf, Finished}
 use Rattle.book_attest.specs.Attest.{norm}
 

@@ -4,10 +4,10 @@
 // and for a product the sum of its factors' lengths: 12,327 for the norm.
 use book_body::HEAD;
 use book_body::LENGTHS;
-use long::mix;
-use long::scale;
-use long::size;
-use long::times;
+use poly_long::mix;
+use poly_long::scale;
+use poly_long::size;
+use poly_long::times;
 ghost use mathlib.Core.Path.{_≡_};
 ghost use Prim.Native.Nat.{_<_};
 ghost use Rattle.book_bytes.specs.Decides.{Decides};
@@ -19,7 +19,7 @@ ghost use Rattle.book_attest.specs.Code.{LoadIn, Loaded, SquareIn, Squar
 pub enum Attestation {
     Yes,
     No,
-    Refused(book::Reason),
+    Refused(book_check::Reason),
     NoEntry,
 }
 
@@ -116,14 +116,14 @@ fn constant_norm(s: &[u8]) -> bool
 pub fn attest(s: &[u8], i: usize) -> Attestation
     ensures { λ r. ⌜ AttestTells (now (s .entry)) i (attestSays r) ⌝ }
 {
-    let a = book::ask_answer(s, i);
+    let a = book_check::ask_answer(s, i);
     match a {
-        book::Request::There => {
-            let b = book::part_of(s, i);
+        book_check::Request::There => {
+            let b = book_check::part_of(s, i);
             let u = constant_norm(b);
             if u { Attestation::Yes } else { Attestation::No }
         }
-        book::Request::Refused(why) => Attestation::Refused(why),
-        book::Request::NoEntry => Attestation::NoEntry,
+        book_check::Request::Refused(why) => Attestation::Refused(why),
+        book_check::Request::NoEntry => Attestation::NoEntry,
     }
 }

@@ -10,10 +10,10 @@ use mathlib.Core.List.{List}
 use Prim.Native.Nat.{ℕ, _≤_}
 use native.Mathlib.Omega.{arith}
 use lib.ListN.{length}
-use Rattle.field.specs.Refusal.{Accepted}
-use Rattle.field.proofs.Accept.{accepted}
-use Rattle.pairs.specs.OneField as pairs
-use Rattle.pairs.specs.Answer.{Both}
+use Rattle.field_open.specs.Refusal.{Accepted}
+use Rattle.field_open.proofs.Accept.{accepted}
+use Rattle.pair_agree.specs.OneField as pairs
+use Rattle.pair_agree.specs.Answer.{Both}
 use Rattle.book_bytes.specs.Bytes.{u2}
 use Rattle.book_bytes.specs.Decides.{Decides}
 use Rattle.book_bytes.proofs.Lists.{length-list}

@@ -8,11 +8,11 @@ use native.Mathlib.Omega.{arith}
 use native.Mathlib.Decide.{decLe}
 use lib.ListN.{length, getD, take}
 use lib.Seq.{ext-getD, getD-take, length-take-le, take-all}
-use Rattle.reading.specs.Row.{tab}
-use Rattle.reading.proofs.Tab.{at-tab, length-tab}
-use Rattle.field.specs.Refusal.{Fault3, Refusal, Accepted}
-use Rattle.field.proofs.Stages.{later}
-use Rattle.field.proofs.Accept.{accepted}
+use Rattle.math_rows.specs.Row.{tab}
+use Rattle.math_rows.proofs.Tab.{at-tab, length-tab}
+use Rattle.field_open.specs.Refusal.{Fault3, Refusal, Accepted}
+use Rattle.field_open.proofs.Stages.{later}
+use Rattle.field_open.proofs.Accept.{accepted}
 use Rattle.book_bytes.specs.Bytes.{u2, Small}
 use Rattle.book_bytes.proofs.Lists.{length-list}
 use Rattle.book_body.specs.Body.{Body, Rule, FieldSays, listAt, bodyOf}

@@ -2,9 +2,9 @@
 --   one-refl, one-sym, one-trans
 use mathlib.Core.Path.{refl, sym, _∙_, subst}
 use Prim.Native.Nat.{ℕ}
-use Rattle.field.proofs.Accept.{accepted}
-use Rattle.pairs.specs.OneField as pairs
-use Rattle.pairs.proofs.Relation as pairs′
+use Rattle.field_open.proofs.Accept.{accepted}
+use Rattle.pair_agree.specs.OneField as pairs
+use Rattle.pair_agree.proofs.Relation as pairs′
 use Rattle.book_body.specs.Body.{Body, FieldSays, OneField}
 
 coefficients : (b : Body) → FieldSays b 0 → pairs.Coefficients (b .p) (b .G) (b .H)

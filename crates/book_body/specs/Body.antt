@@ -17,8 +17,8 @@ use mathlib.Core.Logic.{_≢_}
 use mathlib.Core.List.{List, [], _∷_, _++_}
 use Prim.Native.Nat.{ℕ, _-_, _%_, _<_, _≤_}
 use lib.ListN.{length, getD}
-use Rattle.field.specs.Refusal.{Refusal}
-use Rattle.pairs.specs.OneField as pairs
+use Rattle.field_open.specs.Refusal.{Refusal}
+use Rattle.pair_agree.specs.OneField as pairs
 use Rattle.book_bytes.specs.Bytes.{le, words, u2, u4}
 use Rattle.book_bytes.specs.Bytes as bytes
 

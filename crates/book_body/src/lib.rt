@@ -2,7 +2,7 @@
 ghost use mathlib.Core.Path.{_≡_};
 ghost use Prim.Native.Nat.{_+_, _*_, _<_};
 ghost use lib.ListN.{getD};
-ghost use Rattle.reading.specs.Row.{tab};
+ghost use Rattle.math_rows.specs.Row.{tab};
 ghost use Rattle.book_bytes.specs.Bytes.{u2};
 ghost use Rattle.book_bytes.specs.Decides.{Decides};
 ghost use Rattle.book_body.specs.Body.{UnitList, First, FirstList, FieldSays, OneField, listAt, bodyOf, Formed};
@@ -135,7 +135,7 @@ fn same_pair(a: &[u8], b: &[u8]) -> bool
     let m = book_bytes::read_list(a, HEAD, LENGTHS, 1, &mut h);
     let n2 = book_bytes::read_list(b, HEAD, LENGTHS, 0, &mut g2);
     let m2 = book_bytes::read_list(b, HEAD, LENGTHS, 1, &mut h2);
-    pairs::one_field(p as u64, &g[..n], &h[..m], &g2[..n2], &h2[..m2])
+    pair_agree::one_field(p as u64, &g[..n], &h[..m], &g2[..n2], &h2[..m2])
 }
 
 // Are two bodies of one field? Bodies over different primes never are.
@@ -182,7 +182,7 @@ pub fn field_refusal(s: &[u8]) -> u32
     let h = first_14(s, 1);
     let n = clip(book_bytes::two(s, 2));
     let m = clip(book_bytes::two(s, 4));
-    field::refusal(p as u64, &g[..n], &h[..m])
+    field_open::refusal(p as u64, &g[..n], &h[..m])
 }
 
 // The prime of a body.
@@ -194,11 +194,11 @@ pub fn prime_of(s: &[u8]) -> u64
 }
 
 // The period of a body.
-pub fn period_of(s: &[u8]) -> counts::Period
+pub fn period_of(s: &[u8]) -> base_answers::Period
     ensures { λ r. ⌜ r .0 ≡ bodyOf (now (s .entry)) .period ⌝ }
 {
     let t = book_bytes::four(s, 12);
-    counts::Period(t as u64)
+    base_answers::Period(t as u64)
 }
 
 // List k of a body, 0 to 4 for G, H, E0, E1, E2, into the front of a lent slice.

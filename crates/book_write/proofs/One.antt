@@ -5,7 +5,7 @@ use mathlib.Core.Path.{_≡_, refl, sym, ap, _∙_}
 use mathlib.Core.List.{List}
 use Prim.Native.Nat.{ℕ, _≤_}
 use native.Mathlib.Omega.{arith}
-use Rattle.field.proofs.Stages.{refusal-one}
+use Rattle.field_open.proofs.Stages.{refusal-one}
 use Rattle.book_body.specs.Said.{Said, refused}
 use Rattle.book_body.specs.Body.{Body, FieldSays}
 use Rattle.book_write.specs.Write.{wroteSays, WriteTells, Numbered, field, rule, short, done}

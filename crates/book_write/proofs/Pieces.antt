@@ -6,8 +6,8 @@ use Prim.Native.Nat.{ℕ, zero, suc, _+_, _*_, _≤_}
 use native.Mathlib.Omega.{arith}
 use lib.ListN.{length, drop, length-append}
 use lib.Seq.{sets-eq}
-use Rattle.field.specs.Refusal.{Refusal}
-use Rattle.field.proofs.Stages.{numbered}
+use Rattle.field_open.specs.Refusal.{Refusal}
+use Rattle.field_open.proofs.Stages.{numbered}
 use Rattle.book_bytes.specs.Bytes.{le, words, Put}
 use Rattle.book_bytes.proofs.Read.{length-words}
 use Rattle.book_bytes.proofs.Write.{andThen}

@@ -87,7 +87,7 @@ pub fn write_body(
     p: u64,
     g: &[u64],
     h: &[u64],
-    period: counts::Period,
+    period: base_answers::Period,
     a: &[u64],
     b: &[u64],
     c: &[u64],
@@ -97,7 +97,7 @@ pub fn write_body(
         ⌜ WriteTells (bodyFrom p (now (g .entry)) (now (h .entry)) (period .0) (now (a .entry)) (now (b .entry)) (now (c .entry)))
         (now (out .entry)) (wroteSays r) (now (out .exit)) × Numbered r ⌝ }
 {
-    let x = field::refusal(p, g, h);
+    let x = field_open::refusal(p, g, h);
     if x != 0 {
         return Wrote::FieldRefused(x);
     }

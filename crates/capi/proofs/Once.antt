@@ -8,22 +8,22 @@ use Prim.Native.Nat.{ℕ, zero, suc}
 use native.Mathlib.Omega.{arith}
 use Rattle.book_body.specs.Body.{Body}
 use Rattle.book_body.proofs.One.{list-one}
-use Rattle.book.proofs.One.{tells-one}
+use Rattle.book_check.proofs.One.{tells-one}
 use Rattle.book_write.proofs.One.{write-one}
 use Rattle.book_add.proofs.One.{add-one}
 use Rattle.book_attest.proofs.One.{attest-one}
-use Rattle.book_said.proofs.Same.{same-numbers}
-use Rattle.bases.specs.declared.Ordered.{Ordered}
-use Rattle.bases.proofs.Answer.{orders-one}
-use Rattle.stepped.specs.declared.Stepped.{Stepped}
-use Rattle.stepped.proofs.Answers.{answers-one}
-use Rattle.walk.proofs.Walk.{walks-one}
-use Rattle.walk_in_place.proofs.Once.{puts-one}
-use Rattle.walks.specs.declared.Told.{Told}
-use Rattle.walks.proofs.Order.{from-order-one}
-use Rattle.unit.proofs.Once.{makes-one}
-use Rattle.pairs.specs.declared.Compared.{Compared}
-use Rattle.pairs.proofs.Once.{compares-one}
+use Rattle.book_numbers.proofs.Same.{same-numbers}
+use Rattle.door_basis.specs.declared.Ordered.{Ordered}
+use Rattle.door_basis.proofs.Answer.{orders-one}
+use Rattle.door_step.specs.declared.Stepped.{Stepped}
+use Rattle.door_step.proofs.Answers.{answers-one}
+use Rattle.walk_chain.proofs.Walk.{walks-one}
+use Rattle.capi_walk.proofs.Once.{puts-one}
+use Rattle.door_walk.specs.declared.Told.{Told}
+use Rattle.door_walk.proofs.Order.{from-order-one}
+use Rattle.door_unit.proofs.Once.{makes-one}
+use Rattle.pair_agree.specs.declared.Compared.{Compared}
+use Rattle.pair_agree.proofs.Once.{compares-one}
 use Rattle.capi.specs.Told.{Left, OrderTells, StepTells, WalkTells, FromOrderTells, UnitTells, asNumber, OneFieldTells}
 use Rattle.capi.specs.Books.{CheckSays, ListSays, WriteSays, AddSays, AttestSays}
 

@@ -8,11 +8,11 @@ use Prim.Native.Nat.{ℕ}
 use Rattle.book_body.specs.Said.{Said}
 use Rattle.book_body.specs.Body.{Body}
 use Rattle.book_body.specs.Code.{ListTells}
-use Rattle.book.specs.Answer.{Tells}
+use Rattle.book_check.specs.Answer.{Tells}
 use Rattle.book_write.specs.Write.{WriteTells}
 use Rattle.book_add.specs.Add.{AddTells}
 use Rattle.book_attest.specs.Attest.{AttestTells}
-use Rattle.book_said.specs.Numbers.{numbers}
+use Rattle.book_numbers.specs.Numbers.{numbers}
 
 pub record CheckSays (s out : List ℕ) : Type 0 where
   pub said : Said

@@ -12,19 +12,19 @@ use mathlib.Core.Logic.{_≢_}
 use mathlib.Core.Bool.{Bool, true, false}
 use mathlib.Core.List.{List}
 use Prim.Native.Nat.{ℕ}
-use Rattle.bases.specs.declared.Ordered.{Ordered}
-use Rattle.bases.specs.Answer.{Orders}
-use Rattle.stepped.specs.declared.Stepped.{Stepped}
-use Rattle.stepped.specs.Answer.{Answers}
-use Rattle.walk.specs.declared.Walked.{Walked}
-use Rattle.walk.specs.Walk.{Walks}
-use Rattle.walk_in_place.specs.Puts.{Puts}
-use Rattle.walks.specs.declared.Told.{Told}
-use Rattle.walks.specs.Order.{FromOrder}
-use Rattle.unit.specs.declared.Made.{Made}
-use Rattle.unit.specs.Unit.{Makes}
-use Rattle.pairs.specs.declared.Compared.{Compared}
-use Rattle.pairs.specs.Answer.{Compares}
+use Rattle.door_basis.specs.declared.Ordered.{Ordered}
+use Rattle.door_basis.specs.Answer.{Orders}
+use Rattle.door_step.specs.declared.Stepped.{Stepped}
+use Rattle.door_step.specs.Answer.{Answers}
+use Rattle.walk_chain.specs.declared.Walked.{Walked}
+use Rattle.walk_chain.specs.Walk.{Walks}
+use Rattle.capi_walk.specs.Puts.{Puts}
+use Rattle.door_walk.specs.declared.Told.{Told}
+use Rattle.door_walk.specs.Order.{FromOrder}
+use Rattle.door_unit.specs.declared.Made.{Made}
+use Rattle.door_unit.specs.Unit.{Makes}
+use Rattle.pair_agree.specs.declared.Compared.{Compared}
+use Rattle.pair_agree.specs.Answer.{Compares}
 
 pub record Left (n : ℕ) (before after x : List ℕ) : Type 0 where
   pub stored : n ≡ 0 → after ≡ x

@@ -1,14 +1,14 @@
 // The library for C and Rust: each entry point under a name of its own, on numbers and slices (a slice passes as pointer, then length).
 // The contracts are those of the functions behind them.
-ghost use Rattle.field.specs.Refusal.{Refusal};
-ghost use Rattle.series.specs.Answer.{Answer};
-ghost use Rattle.bases.specs.Answer.{Checks};
+ghost use Rattle.field_open.specs.Refusal.{Refusal};
+ghost use Rattle.field_series.specs.Answer.{Answer};
+ghost use Rattle.door_basis.specs.Answer.{Checks};
 ghost use mathlib.Core.Path.{_≡_};
-ghost use Rattle.book.specs.Book.{count};
+ghost use Rattle.book_check.specs.Book.{count};
 ghost use Rattle.book_body.specs.Body.{bodyOf};
 ghost use Rattle.book_write.specs.Write.{bodyFrom};
-ghost use Rattle.book_asked.specs.Place.{AskSays};
-ghost use Rattle.transfer.specs.Transfer.{Transfers};
+ghost use Rattle.book_place.specs.Place.{AskSays};
+ghost use Rattle.door_transfer.specs.Transfer.{Transfers};
 ghost use Rattle.capi.specs.Told.{OrderTells, StepTells, WalkTells, FromOrderTells, UnitTells, OneFieldTells};
 ghost use Rattle.capi.specs.Books.{CheckSays, ListSays, WriteSays, AddSays, AttestSays};
 
@@ -17,7 +17,7 @@ ghost use Rattle.capi.specs.Books.{CheckSays, ListSays, WriteSays, AddSa
 pub extern "C" fn zaminuk_refusal(p: u64, g: &[u64], h: &[u64]) -> u32
     ensures { λ n. ⌜ Refusal p (now (g .entry)) (now (h .entry)) n ⌝ }
 {
-    field::refusal(p, g, h)
+    field_open::refusal(p, g, h)
 }
 
 // The first coefficients of r and of w, highest power first, into two slices of equal length, at most 4,096.
@@ -25,7 +25,7 @@ pub extern "C" fn zaminuk_refusal(p: u64, g: &[u64], h: &[u64]) -> u32
 pub extern "C" fn zaminuk_series(p: u64, g: &[u64], h: &[u64], r: &mut [u16], w: &mut [u16]) -> u32
     ensures { λ n. ⌜ Answer p (now (g .entry)) (now (h .entry)) (now (r .entry)) (now (w .entry)) (now (r .exit)) (now (w .exit)) n ⌝ }
 {
-    series::series(p, g, h, r, w)
+    field_series::series(p, g, h, r, w)
 }
 
 // The basis of the order, into a lent record.
@@ -33,7 +33,7 @@ pub extern "C" fn zaminuk_series(p: u64, g: &[u64], h: &[u64], r: &mut [u16], w:
 pub extern "C" fn zaminuk_order(p: u64, g: &[u64], h: &[u64], rows: &mut [u16; 119]) -> u32
     ensures { λ n. ⌜ OrderTells p (now (g .entry)) (now (h .entry)) (now (rows .entry)) n (now (rows .exit)) ⌝ }
 {
-    let o = bases::order(p, g, h);
+    let o = door_basis::order(p, g, h);
     let n = o.refusal;
     if n == 0 {
         let b = o.basis;
@@ -48,7 +48,7 @@ pub extern "C" fn zaminuk_check(p: u64, g: &[u64], h: &[u64], rows: &[u16; 119])
     ensures { λ n. ⌜ Checks p (now (g .entry)) (now (h .entry)) (now (rows .entry)) n ⌝ }
 {
     let b = *rows;
-    bases::check(p, g, h, b)
+    door_basis::check(p, g, h, b)
 }
 
 // One step, in place: the next record, and the degree of the m divided by, 0 beside a refusal.
@@ -63,7 +63,7 @@ pub extern "C" fn zaminuk_step(
     ensures { λ n. ⌜ StepTells p (now (g .entry)) (now (h .entry)) (now (rows .entry)) n (now (degree .exit)) (now (rows .exit)) ⌝ }
 {
     let from = *rows;
-    let s = stepped::step(p, g, h, from);
+    let s = door_step::step(p, g, h, from);
     let n = s.refusal;
     *degree = s.degree;
     if n == 0 {
@@ -88,8 +88,8 @@ pub extern "C" fn zaminuk_walk(
     ensures { λ n. ⌜ WalkTells p (now (g .entry)) (now (h .entry)) budget (now (rows .entry)) n (now (steps .exit)) (now (sum .exit)) (now (rows .exit)) ⌝ }
 {
     let from = *rows;
-    let o = walks::walk(p, g, h, from, budget);
-    walk_in_place::put(o, rows, steps, sum)
+    let o = door_walk::walk(p, g, h, from, budget);
+    capi_walk::put(o, rows, steps, sum)
 }
 
 // The walk of at most `budget` steps from the order: its refusal; period and regulator, 0 beside a refusal.
@@ -104,7 +104,7 @@ pub extern "C" fn zaminuk_from_order(
 ) -> u32
     ensures { λ n. ⌜ FromOrderTells p (now (g .entry)) (now (h .entry)) budget n (now (period .exit)) (now (regulator .exit)) ⌝ }
 {
-    let o = walks::from_order(p, g, h, budget);
+    let o = door_walk::from_order(p, g, h, budget);
     let t = o.period;
     let r = o.regulator;
     *period = t.0;
@@ -126,7 +126,7 @@ pub extern "C" fn zaminuk_unit(
 ) -> u32
     ensures { λ n. ⌜ UnitTells p (now (g .entry)) (now (h .entry)) budget (now (rows .entry)) (now (scratch .entry)) n (now (period .exit)) (now (regulator .exit)) (now (rows .exit)) (now (scratch .exit)) ⌝ }
 {
-    let o = unit::unit(p, g, h, budget, rows, scratch);
+    let o = door_unit::unit(p, g, h, budget, rows, scratch);
     let t = o.period;
     let r = o.regulator;
     *period = t.0;
@@ -146,7 +146,7 @@ pub extern "C" fn zaminuk_one_field(
 ) -> u32
     ensures { λ n. ⌜ OneFieldTells p (now (g .entry)) (now (h .entry)) (now (g2 .entry)) (now (h2 .entry)) n (now (same .exit)) ⌝ }
 {
-    let a = pairs::compare(p, g, h, g2, h2);
+    let a = pair_agree::compare(p, g, h, g2, h2);
     let b = a.same;
     *same = if b { 1 } else { 0 };
     a.refusal
@@ -164,7 +164,7 @@ pub extern "C" fn zaminuk_transfer(
 ) -> u32
     ensures { λ n. ⌜ Transfers p (now (g .entry)) (now (h .entry)) (now (g2 .entry)) (now (h2 .entry)) (now (rows .entry)) n (now (rows .exit)) ⌝ }
 {
-    transfer::transfer(p, g, h, g2, h2, rows)
+    door_transfer::transfer(p, g, h, g2, h2, rows)
 }
 
 // Checks a book: five numbers, the refusal, the inner reason, its entry, its other number, the result.
@@ -172,8 +172,8 @@ pub extern "C" fn zaminuk_transfer(
 pub extern "C" fn zaminuk_book_check(book: &[u8], said: &mut [u64; 5])
     ensures { λ _. ⌜ CheckSays (now (book .entry)) (now (said .exit)) ⌝ }
 {
-    let a = book::check(book);
-    let o = book_said::answer_row(a);
+    let a = book_check::check(book);
+    let o = book_numbers::answer_row(a);
     *said = o;
 }
 
@@ -182,7 +182,7 @@ pub extern "C" fn zaminuk_book_check(book: &[u8], said: &mut [u64; 5])
 pub extern "C" fn zaminuk_book_bodies(book: &[u8]) -> usize
     ensures { λ n. ⌜ n ≡ count (now (book .entry)) ⌝ }
 {
-    book::bodies(book)
+    book_check::bodies(book)
 }
 
 // Asks for entry i: where its part of the book starts, and how long it is.
@@ -196,7 +196,7 @@ pub extern "C" fn zaminuk_book_ask(
 )
     ensures { λ _. ⌜ AskSays (now (book .entry)) i (now (start .exit)) (now (size .exit)) (now (said .exit)) ⌝ }
 {
-    book_asked::ask(book, i, start, size, said);
+    book_place::ask(book, i, start, size, said);
 }
 
 // Attests entry i: the result is 1 for yes.
@@ -205,7 +205,7 @@ pub extern "C" fn zaminuk_book_attest(book: &[u8], i: usize, said: &mut [u64; 5]
     ensures { λ _. ⌜ AttestSays (now (book .entry)) i (now (said .exit)) ⌝ }
 {
     let a = book_attest::attest(book, i);
-    let o = book_said::attest_row(a);
+    let o = book_numbers::attest_row(a);
     *said = o;
 }
 
@@ -232,7 +232,7 @@ pub extern "C" fn zaminuk_body_list(body: &[u8], k: usize, out: &mut [u64], said
     ensures { λ _. ⌜ ListSays (now (body .entry)) k (now (out .entry)) (now (out .exit)) (now (said .exit)) ⌝ }
 {
     let a = book_body::list_of(body, k, out);
-    let o = book_said::got_row(a);
+    let o = book_numbers::got_row(a);
     *said = o;
 }
 
@@ -251,8 +251,8 @@ pub extern "C" fn zaminuk_book_write(
 )
     ensures { λ _. ⌜ WriteSays (bodyFrom p (now (g .entry)) (now (h .entry)) period (now (a .entry)) (now (b .entry)) (now (c .entry))) (now (out .entry)) (now (out .exit)) (now (said .exit)) ⌝ }
 {
-    let w = book_write::write_body(p, g, h, counts::Period(period), a, b, c, out);
-    let o = book_said::wrote_row(w);
+    let w = book_write::write_body(p, g, h, base_answers::Period(period), a, b, c, out);
+    let o = book_numbers::wrote_row(w);
     *said = o;
 }
 
@@ -262,6 +262,6 @@ pub extern "C" fn zaminuk_book_add(out: &mut [u8], n: usize, body: &[u8], said: 
     ensures { λ _. ⌜ AddSays (now (out .entry)) n (now (body .entry)) (now (out .exit)) (now (said .exit)) ⌝ }
 {
     let a = book_add::add(out, n, body);
-    let o = book_said::added_row(a);
+    let o = book_numbers::added_row(a);
     *said = o;
 }

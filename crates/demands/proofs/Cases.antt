@@ -9,19 +9,19 @@ use mathlib.Core.Logic.{_⊎_, inl, inr}
 use mathlib.Core.List.{List}
 use Prim.Native.Nat.{ℕ, _+_, _≤_}
 use native.Mathlib.Omega.{arith}
-use Rattle.field.specs.Refusal.{Accepted, Refusal}
-use Rattle.field.proofs.Accept.{accepted}
-use Rattle.ideals.specs.Ideal.{Basis}
-use Rattle.ideals.specs.Next.{Start}
-use Rattle.chain.specs.Unit.{UnitOf}
-use Rattle.record.specs.Record.{setting}
-use Rattle.bases.specs.Answer.{IsFirst}
-use Rattle.walk.specs.declared.Walked.{Walked}
-use Rattle.walk.specs.Walk as walk
-use Rattle.walks.specs.declared.Told.{Told}
-use Rattle.walks.specs.Order as walks
-use Rattle.unit.specs.declared.Made.{Made}
-use Rattle.unit.specs.Unit as unit
+use Rattle.field_open.specs.Refusal.{Accepted, Refusal}
+use Rattle.field_open.proofs.Accept.{accepted}
+use Rattle.math_ideals.specs.Ideal.{Basis}
+use Rattle.math_ideals.specs.Next.{Start}
+use Rattle.math_chain.specs.Unit.{UnitOf}
+use Rattle.basis_record.specs.Record.{setting}
+use Rattle.door_basis.specs.Answer.{IsFirst}
+use Rattle.walk_chain.specs.declared.Walked.{Walked}
+use Rattle.walk_chain.specs.Walk as walk
+use Rattle.door_walk.specs.declared.Told.{Told}
+use Rattle.door_walk.specs.Order as walks
+use Rattle.door_unit.specs.declared.Made.{Made}
+use Rattle.door_unit.specs.Unit as unit
 use Rattle.demands.proofs.Numbered.{passes}
 
 -- ---- the walk

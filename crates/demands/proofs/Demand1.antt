@@ -4,27 +4,27 @@ use mathlib.Core.Logic.{_≢_}
 use mathlib.Core.List.{List}
 use Prim.Native.Nat.{ℕ, _≤_}
 use native.Mathlib.Decide.{ℕ-discrete}
-use Rattle.field.proofs.Stages.{refusal-one, numbered}
-use Rattle.field.proofs.Opening.{opens-one}
-use Rattle.series.proofs.Answer.{answer-one}
-use Rattle.bases.proofs.Answer.{orders-one, checks-one}
-use Rattle.stepped.proofs.Answers.{answers-one}
-use Rattle.walk.proofs.Walk.{walks-one}
-use Rattle.walks.proofs.Order.{from-order-one}
-use Rattle.unit.specs.declared.Made.{Made}
-use Rattle.unit.specs.Unit as unit
-use Rattle.unit.proofs.Once.{makes-one}
-use Rattle.pairs.specs.Answer as pairs
-use Rattle.pairs.proofs.Once.{compares-one}
-use Rattle.transfer.specs.Transfer as transfer
-use Rattle.transfer.proofs.Once.{transfers-one}
+use Rattle.field_open.proofs.Stages.{refusal-one, numbered}
+use Rattle.field_open.proofs.Opening.{opens-one}
+use Rattle.field_series.proofs.Answer.{answer-one}
+use Rattle.door_basis.proofs.Answer.{orders-one, checks-one}
+use Rattle.door_step.proofs.Answers.{answers-one}
+use Rattle.walk_chain.proofs.Walk.{walks-one}
+use Rattle.door_walk.proofs.Order.{from-order-one}
+use Rattle.door_unit.specs.declared.Made.{Made}
+use Rattle.door_unit.specs.Unit as unit
+use Rattle.door_unit.proofs.Once.{makes-one}
+use Rattle.pair_agree.specs.Answer as pairs
+use Rattle.pair_agree.proofs.Once.{compares-one}
+use Rattle.door_transfer.specs.Transfer as transfer
+use Rattle.door_transfer.proofs.Once.{transfers-one}
 use Rattle.book_body.specs.Said.{Said}
 use Rattle.book_body.specs.Body.{Body}
 use Rattle.book_body.specs.Code as code
 use Rattle.book_body.proofs.One.{list-one}
 use Rattle.book_write.specs.Write as write
 use Rattle.book_write.proofs.One.{write-one}
-use Rattle.book.proofs.One.{tells-one, ask-one, part-one}
+use Rattle.book_check.proofs.One.{tells-one, ask-one, part-one}
 use Rattle.book_add.specs.Add as add
 use Rattle.book_add.proofs.One.{add-one}
 use Rattle.book_attest.proofs.One.{attest-one}

@@ -5,26 +5,26 @@ use mathlib.Core.List.{List}
 use Prim.Native.Nat.{ℕ, _+_, _≤_}
 use native.Mathlib.Omega.{arith}
 use native.Mathlib.Decide.{ℕ-discrete}
-use Rattle.field.specs.Refusal.{Accepted}
-use Rattle.ideals.specs.Setting.{Setting}
-use Rattle.ideals.specs.Ideal.{Basis}
-use Rattle.ideals.specs.Next.{Next, Start}
-use Rattle.chain.specs.Chain.{Chain, Closing}
-use Rattle.chain.specs.Unit.{UnitOf}
-use Rattle.chain.proofs.Walk.{chain-good}
-use Rattle.chain.proofs.Closing.{start-unique, closing-start}
-use Rattle.record.specs.Record.{setting, basisOf, IsRecord}
-use Rattle.record.proofs.Unique.{record-unique}
-use Rattle.stepped.specs.declared.Stepped.{Stepped}
-use Rattle.stepped.specs.Answer as stepped
-use Rattle.walk.specs.declared.Walked.{Walked}
-use Rattle.walk.specs.Walk as walk
-use Rattle.walks.specs.declared.Told.{Told}
-use Rattle.walks.specs.Order as walks
-use Rattle.unit.specs.declared.Made.{Made}
-use Rattle.unit.specs.Unit as unit
-use Rattle.book.proofs.Value.{book-back, book-obeys}
-use Rattle.book.proofs.Written.{writing-accepted, written-count, reads-back, one-value}
+use Rattle.field_open.specs.Refusal.{Accepted}
+use Rattle.math_ideals.specs.Setting.{Setting}
+use Rattle.math_ideals.specs.Ideal.{Basis}
+use Rattle.math_ideals.specs.Next.{Next, Start}
+use Rattle.math_chain.specs.Chain.{Chain, Closing}
+use Rattle.math_chain.specs.Unit.{UnitOf}
+use Rattle.math_chain.proofs.Walk.{chain-good}
+use Rattle.math_chain.proofs.Closing.{start-unique, closing-start}
+use Rattle.basis_record.specs.Record.{setting, basisOf, IsRecord}
+use Rattle.basis_record.proofs.Unique.{record-unique}
+use Rattle.door_step.specs.declared.Stepped.{Stepped}
+use Rattle.door_step.specs.Answer as stepped
+use Rattle.walk_chain.specs.declared.Walked.{Walked}
+use Rattle.walk_chain.specs.Walk as walk
+use Rattle.door_walk.specs.declared.Told.{Told}
+use Rattle.door_walk.specs.Order as walks
+use Rattle.door_unit.specs.declared.Made.{Made}
+use Rattle.door_unit.specs.Unit as unit
+use Rattle.book_check.proofs.Value.{book-back, book-obeys}
+use Rattle.book_check.proofs.Written.{writing-accepted, written-count, reads-back, one-value}
 use Rattle.demands.specs.Meaning.{BackFirst, Demand2}
 use Rattle.demands.proofs.Cases.{walk-closed, walk-spent, told-closed, unit-made, success-unit}
 

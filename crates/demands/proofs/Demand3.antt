@@ -1,10 +1,10 @@
 -- Demand 3 holds: the chain theorem, and the inverse that is part of what a unit is.
 use native.Mathlib.Omega.{arith}
 use Prim.Native.Nat.{suc}
-use Rattle.valued.proofs.Degree as d
-use Rattle.ideals.specs.Setting.{dGH}
-use Rattle.chain.proofs.Passed.{chain-theorem}
-use Rattle.record.specs.Record.{setting}
+use Rattle.math_valued.proofs.Degree as d
+use Rattle.math_ideals.specs.Setting.{dGH}
+use Rattle.math_chain.proofs.Passed.{chain-theorem}
+use Rattle.basis_record.specs.Record.{setting}
 use Rattle.demands.specs.Chain.{Demand3, After}
 
 pub demand-3 : Demand3

@@ -6,8 +6,8 @@ use mathlib.Core.List.{List}
 use Prim.Native.Nat.{ℕ, _≤_}
 use native.Mathlib.Omega.{arith}
 use native.Mathlib.Decide.{ℕ-discrete}
-use Rattle.field.specs.Refusal.{Refusal}
-use Rattle.field.proofs.Stages.{numbered}
+use Rattle.field_open.specs.Refusal.{Refusal}
+use Rattle.field_open.proofs.Stages.{numbered}
 
 pub passes : (p : ℕ) (G H : List ℕ) {k m : ℕ} → Refusal p G H k → (k ≢ 0 → m ≡ k) → (m ≡ 0) ⊎ (9 ≤ m) → k ≡ 0
 passes p G H {k} {m} first told z = go (ℕ-discrete k 0) z

@@ -5,22 +5,22 @@ use mathlib.Core.List.{List}
 use Prim.Native.Nat.{ℕ, _<_, _≤_}
 use native.Mathlib.Omega.{arith}
 use lib.ListN.{length, take}
-use Rattle.field.specs.Refusal.{Accepted}
-use Rattle.field.proofs.Accept.{accepted-none}
-use Rattle.pairs.specs.OneField.{OneField}
-use Rattle.pairs.specs.declared.Compared.{Compared}
-use Rattle.pairs.specs.Answer as pairs
-use Rattle.pairs.proofs.Relation as relation
-use Rattle.pairs.proofs.Once.{refusals-one}
-use Rattle.onefield.proofs.Shared as theory
-use Rattle.transfer.proofs.Back.{transfers-back}
-use Rattle.alike.proofs.Alike as answers
+use Rattle.field_open.specs.Refusal.{Accepted}
+use Rattle.field_open.proofs.Accept.{accepted-none}
+use Rattle.pair_agree.specs.OneField.{OneField}
+use Rattle.pair_agree.specs.declared.Compared.{Compared}
+use Rattle.pair_agree.specs.Answer as pairs
+use Rattle.pair_agree.proofs.Relation as relation
+use Rattle.pair_agree.proofs.Once.{refusals-one}
+use Rattle.pair_theory.proofs.Shared as theory
+use Rattle.door_transfer.proofs.Back.{transfers-back}
+use Rattle.pair_answers.proofs.Alike as answers
 use Rattle.book_bytes.specs.Decides.{Decides}
 use Rattle.book_body.specs.Said.{Said, refused}
 use Rattle.book_body.specs.Body as body
-use Rattle.book.specs.Book as book
-use Rattle.book.specs.Answer as says
-use Rattle.book.proofs.Facts.{fault-thirteen}
+use Rattle.book_check.specs.Book as book
+use Rattle.book_check.specs.Answer as says
+use Rattle.book_check.proofs.Facts.{fault-thirteen}
 use Rattle.book_add.specs.Add as add
 use Rattle.book_add.proofs.One.{add-one}
 use Rattle.demands.specs.SameField.{SameField}

@@ -1,26 +1,26 @@
--- Request E8 holds: crate fundamental, of the setting of an accepted field and of what the functions answer.
+-- Request E8 holds: crate math_fundamental, of the setting of an accepted field and of what the functions answer.
 use mathlib.Core.Path.{_≡_, sym, _∙_, subst}
 use mathlib.Core.List.{List}
 use Prim.Native.Nat.{ℕ, _+_, _*_}
 use native.Mathlib.Omega.{arith}
 use lib.ListN.{length}
-use Rattle.field.specs.Refusal.{Accepted}
-use Rattle.chain.proofs.Exists.{order-exists}
-use Rattle.chain.proofs.Unit.{unit-unique}
-use Rattle.fundamental.proofs.Complete.{completeness}
-use Rattle.fundamental.proofs.Units.{unit-closes, none-below, none-within}
-use Rattle.fundamental.proofs.Fundamental.{unit-fundamental, unit-smallest, closing-least}
-use Rattle.fundamental.proofs.Agree.{least-one, smallest-one, constant-norm}
-use Rattle.record.specs.Record.{setting, basisOf}
-use Rattle.onefield.proofs.Least.{least-agree}
-use Rattle.bases.specs.Answer.{IsFirst}
-use Rattle.walk.specs.Walk as walk
-use Rattle.walk.proofs.Walk.{closes-one}
-use Rattle.walks.specs.declared.Told.{Told}
-use Rattle.walks.specs.Order as walks
-use Rattle.walks.proofs.Order.{first-one}
-use Rattle.unit.specs.declared.Made.{Made}
-use Rattle.unit.specs.Unit.{Makes, Success, six}
+use Rattle.field_open.specs.Refusal.{Accepted}
+use Rattle.math_chain.proofs.Exists.{order-exists}
+use Rattle.math_chain.proofs.Unit.{unit-unique}
+use Rattle.math_fundamental.proofs.Complete.{completeness}
+use Rattle.math_fundamental.proofs.Units.{unit-closes, none-below, none-within}
+use Rattle.math_fundamental.proofs.Fundamental.{unit-fundamental, unit-smallest, closing-least}
+use Rattle.math_fundamental.proofs.Agree.{least-one, smallest-one, constant-norm}
+use Rattle.basis_record.specs.Record.{setting, basisOf}
+use Rattle.pair_theory.proofs.Least.{least-agree}
+use Rattle.door_basis.specs.Answer.{IsFirst}
+use Rattle.walk_chain.specs.Walk as walk
+use Rattle.walk_chain.proofs.Walk.{closes-one}
+use Rattle.door_walk.specs.declared.Told.{Told}
+use Rattle.door_walk.specs.Order as walks
+use Rattle.door_walk.proofs.Order.{first-one}
+use Rattle.door_unit.specs.declared.Made.{Made}
+use Rattle.door_unit.specs.Unit.{Makes, Success, six}
 use Rattle.demands.specs.Smallest.{SmallestRows, SmallestUnit}
 use Rattle.demands.proofs.Cases.{walk-closed, walk-spent, told-closed, told-spent, told-accepted, unit-made, unit-spent, unit-narrow, unit-accepted, success-unit}
 

@@ -8,18 +8,18 @@
 use mathlib.Core.Path.{_≡_}
 use mathlib.Core.List.{List}
 use Prim.Native.Nat.{ℕ, suc}
-use Rattle.ring.specs.Ring.{Ops}
-use Rattle.cubic.specs.Mat3.{Mat, det}
-use Rattle.valued.specs.Degree.{Lt}
-use Rattle.valued.specs.Polynomial.{polys, IsUnit}
-use Rattle.field.specs.Refusal.{Accepted}
-use Rattle.ideals.specs.Setting.{Setting, P, dGH}
-use Rattle.ideals.specs.Element.{O, sc}
-use Rattle.ideals.specs.Ideal.{Basis}
-use Rattle.ideals.specs.Next.{Start}
-use Rattle.chain.specs.Chain.{Chain, Product}
-use Rattle.chain.specs.Unit.{UnitOf}
-use Rattle.record.specs.Record.{setting}
+use Rattle.math_ring.specs.Ring.{Ops}
+use Rattle.math_triple.specs.Mat3.{Mat, det}
+use Rattle.math_valued.specs.Degree.{Lt}
+use Rattle.math_valued.specs.Polynomial.{polys, IsUnit}
+use Rattle.field_open.specs.Refusal.{Accepted}
+use Rattle.math_ideals.specs.Setting.{Setting, P, dGH}
+use Rattle.math_ideals.specs.Element.{O, sc}
+use Rattle.math_ideals.specs.Ideal.{Basis}
+use Rattle.math_ideals.specs.Next.{Start}
+use Rattle.math_chain.specs.Chain.{Chain, Product}
+use Rattle.math_chain.specs.Unit.{UnitOf}
+use Rattle.basis_record.specs.Record.{setting}
 
 module _ (S : Setting) where
   open Setting S using (𝓥)

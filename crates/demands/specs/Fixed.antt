@@ -9,28 +9,28 @@ use mathlib.Core.Path.{_≡_}
 use mathlib.Core.Logic.{_≢_}
 use mathlib.Core.List.{List}
 use Prim.Native.Nat.{ℕ, _≤_}
-use Rattle.field.specs.Refusal.{Refusal}
-use Rattle.field.specs.Opening.{Opens}
-use Rattle.field.specs.declared.Opened.{Opened}
-use Rattle.series.specs.Answer as series
-use Rattle.bases.specs.declared.Ordered.{Ordered}
-use Rattle.bases.specs.Answer.{Orders, Checks}
-use Rattle.stepped.specs.declared.Stepped.{Stepped}
-use Rattle.stepped.specs.Answer.{Answers}
-use Rattle.walk.specs.declared.Walked.{Walked}
-use Rattle.walk.specs.Walk.{Walks}
-use Rattle.walks.specs.declared.Told.{Told}
-use Rattle.walks.specs.Order.{FromOrder}
-use Rattle.unit.specs.declared.Made.{Made}
-use Rattle.unit.specs.Unit.{Makes}
-use Rattle.pairs.specs.declared.Compared.{Compared}
-use Rattle.pairs.specs.Answer.{Refusals, Compares}
-use Rattle.transfer.specs.Transfer.{Transfers}
+use Rattle.field_open.specs.Refusal.{Refusal}
+use Rattle.field_open.specs.Opening.{Opens}
+use Rattle.field_open.specs.declared.Opened.{Opened}
+use Rattle.field_series.specs.Answer as series
+use Rattle.door_basis.specs.declared.Ordered.{Ordered}
+use Rattle.door_basis.specs.Answer.{Orders, Checks}
+use Rattle.door_step.specs.declared.Stepped.{Stepped}
+use Rattle.door_step.specs.Answer.{Answers}
+use Rattle.walk_chain.specs.declared.Walked.{Walked}
+use Rattle.walk_chain.specs.Walk.{Walks}
+use Rattle.door_walk.specs.declared.Told.{Told}
+use Rattle.door_walk.specs.Order.{FromOrder}
+use Rattle.door_unit.specs.declared.Made.{Made}
+use Rattle.door_unit.specs.Unit.{Makes}
+use Rattle.pair_agree.specs.declared.Compared.{Compared}
+use Rattle.pair_agree.specs.Answer.{Refusals, Compares}
+use Rattle.door_transfer.specs.Transfer.{Transfers}
 use Rattle.book_body.specs.Said.{Said}
 use Rattle.book_body.specs.Body.{Body}
 use Rattle.book_body.specs.Code.{ListTells}
 use Rattle.book_write.specs.Write.{WriteTells}
-use Rattle.book.specs.Answer.{Tells, AskTells, AskedPart}
+use Rattle.book_check.specs.Answer.{Tells, AskTells, AskedPart}
 use Rattle.book_add.specs.Add.{AddTells}
 use Rattle.book_attest.specs.Attest.{AttestTells}
 

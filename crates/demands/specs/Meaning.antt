@@ -11,27 +11,27 @@ use mathlib.Core.Logic.{_⊎_}
 use mathlib.Core.List.{List}
 use Prim.Native.Nat.{ℕ, _+_, _≤_, _<_}
 use lib.ListN.{length}
-use Rattle.field.specs.Refusal.{Accepted}
-use Rattle.ideals.specs.Setting.{Setting}
-use Rattle.ideals.specs.Ideal.{Basis}
-use Rattle.ideals.specs.Next.{Next, Same, Start}
-use Rattle.chain.specs.Chain.{Chain}
-use Rattle.chain.specs.Unit.{UnitOf}
-use Rattle.record.specs.Record.{setting, basisOf, IsRecord}
-use Rattle.bases.specs.declared.Ordered.{Ordered}
-use Rattle.bases.specs.Answer.{Orders, IsFirst}
-use Rattle.stepped.specs.declared.Stepped.{Stepped}
-use Rattle.stepped.specs.Answer.{Answers}
-use Rattle.walk.specs.declared.Walked.{Walked}
-use Rattle.walk.specs.Walk.{Walks, Reaches}
-use Rattle.walks.specs.declared.Told.{Told}
-use Rattle.walks.specs.Order.{FromOrder}
-use Rattle.unit.specs.declared.Made.{Made}
-use Rattle.unit.specs.Unit.{Makes, six}
+use Rattle.field_open.specs.Refusal.{Accepted}
+use Rattle.math_ideals.specs.Setting.{Setting}
+use Rattle.math_ideals.specs.Ideal.{Basis}
+use Rattle.math_ideals.specs.Next.{Next, Same, Start}
+use Rattle.math_chain.specs.Chain.{Chain}
+use Rattle.math_chain.specs.Unit.{UnitOf}
+use Rattle.basis_record.specs.Record.{setting, basisOf, IsRecord}
+use Rattle.door_basis.specs.declared.Ordered.{Ordered}
+use Rattle.door_basis.specs.Answer.{Orders, IsFirst}
+use Rattle.door_step.specs.declared.Stepped.{Stepped}
+use Rattle.door_step.specs.Answer.{Answers}
+use Rattle.walk_chain.specs.declared.Walked.{Walked}
+use Rattle.walk_chain.specs.Walk.{Walks, Reaches}
+use Rattle.door_walk.specs.declared.Told.{Told}
+use Rattle.door_walk.specs.Order.{FromOrder}
+use Rattle.door_unit.specs.declared.Made.{Made}
+use Rattle.door_unit.specs.Unit.{Makes, six}
 use Rattle.book_bytes.specs.Bytes.{Bytes}
 use Rattle.book_body.specs.Body.{Body}
-use Rattle.book.specs.Book as book
-use Rattle.book.specs.Value.{Obeys, bookBytes, valueOf, at}
+use Rattle.book_check.specs.Book as book
+use Rattle.book_check.specs.Value.{Obeys, bookBytes, valueOf, at}
 
 pub record BackFirst (S : Setting) (B₀ : Basis S) (l d : ℕ) : Type 0 where
   pub some : 1 ≤ l

@@ -11,20 +11,20 @@ use mathlib.Core.Bool.{true}
 use mathlib.Core.List.{List}
 use Prim.Native.Nat.{ℕ, _<_, _≤_}
 use lib.ListN.{length, getD, take}
-use Rattle.fp.specs.Fp.{Prime}
-use Rattle.reading.specs.Made.{reading}
-use Rattle.field.specs.Refusal.{Accepted}
-use Rattle.pairs.specs.OneField.{OneField, Coefficients}
-use Rattle.pairs.specs.declared.Compared.{Compared}
-use Rattle.pairs.specs.Answer.{Compares}
-use Rattle.onefield.specs.Side.{side}
-use Rattle.onefield.specs.Shared.{Shared}
-use Rattle.transfer.specs.Transfer.{Transfers}
-use Rattle.alike.specs.Alike.{Alike}
+use Rattle.math_fp.specs.Fp.{Prime}
+use Rattle.math_rows.specs.Made.{reading}
+use Rattle.field_open.specs.Refusal.{Accepted}
+use Rattle.pair_agree.specs.OneField.{OneField, Coefficients}
+use Rattle.pair_agree.specs.declared.Compared.{Compared}
+use Rattle.pair_agree.specs.Answer.{Compares}
+use Rattle.pair_theory.specs.Side.{side}
+use Rattle.pair_theory.specs.Shared.{Shared}
+use Rattle.door_transfer.specs.Transfer.{Transfers}
+use Rattle.pair_answers.specs.Alike.{Alike}
 use Rattle.book_body.specs.Said.{Said, refused}
 use Rattle.book_body.specs.Body as body
-use Rattle.book.specs.Book as book
-use Rattle.book.specs.Answer.{Tells}
+use Rattle.book_check.specs.Book as book
+use Rattle.book_check.specs.Answer.{Tells}
 use Rattle.book_add.specs.Add.{AddTells}
 
 pub record SameField : Type 0 where

@@ -4,32 +4,32 @@
 --   SmallestUnit                the request: of every closing chain, of what the functions answer, of what refusal 10 says, and what follows
 -- How to read it: A says that the field is accepted, `setting A` is the field with its series; a unit of the order is `Invertible`, and its
 -- degree is that of its series. `UnitOf B₀ l d E F`: from the order's basis B₀ the chain closes first after l steps, with the degree sum d, and
--- E is the unit, F its inverse. `Fundamental`, `Smallest`, `LeastDegree` and `NoneBetween` are in crate fundamental, specs/Smallest.antt.
+-- E is the unit, F its inverse. `Fundamental`, `Smallest`, `LeastDegree` and `NoneBetween` are in crate math_fundamental, specs/Smallest.antt.
 -- The theorem `smallest-unit` is in proofs/Smallest.antt.
 use mathlib.Core.Path.{_≡_}
 use mathlib.Core.List.{List}
 use Prim.Native.Nat.{ℕ, suc, _+_, _*_, _≤_, _<_}
 use lib.ListN.{length}
-use Rattle.valued.specs.Degree.{Has}
-use Rattle.valued.specs.Polynomial.{IsUnit}
-use Rattle.field.specs.Refusal.{Accepted}
-use Rattle.ideals.specs.Setting.{P}
-use Rattle.ideals.specs.Element.{O, sc, ev, norm}
-use Rattle.ideals.specs.Ideal.{Basis}
-use Rattle.ideals.specs.Next.{Start}
-use Rattle.chain.specs.Chain.{Closing}
-use Rattle.chain.specs.Unit.{Invertible, UnitOf}
-use Rattle.fundamental.specs.Complete.{Completeness}
-use Rattle.fundamental.specs.Smallest.{NoneBetween, LeastDegree, Smallest, Fundamental}
-use Rattle.record.specs.Record.{setting}
-use Rattle.pairs.specs.OneField.{OneField}
-use Rattle.bases.specs.Answer.{IsFirst}
-use Rattle.walk.specs.declared.Walked.{Walked}
-use Rattle.walk.specs.Walk.{Walks}
-use Rattle.walks.specs.declared.Told.{Told}
-use Rattle.walks.specs.Order.{FromOrder}
-use Rattle.unit.specs.declared.Made.{Made}
-use Rattle.unit.specs.Unit.{Makes, six}
+use Rattle.math_valued.specs.Degree.{Has}
+use Rattle.math_valued.specs.Polynomial.{IsUnit}
+use Rattle.field_open.specs.Refusal.{Accepted}
+use Rattle.math_ideals.specs.Setting.{P}
+use Rattle.math_ideals.specs.Element.{O, sc, ev, norm}
+use Rattle.math_ideals.specs.Ideal.{Basis}
+use Rattle.math_ideals.specs.Next.{Start}
+use Rattle.math_chain.specs.Chain.{Closing}
+use Rattle.math_chain.specs.Unit.{Invertible, UnitOf}
+use Rattle.math_fundamental.specs.Complete.{Completeness}
+use Rattle.math_fundamental.specs.Smallest.{NoneBetween, LeastDegree, Smallest, Fundamental}
+use Rattle.basis_record.specs.Record.{setting}
+use Rattle.pair_agree.specs.OneField.{OneField}
+use Rattle.door_basis.specs.Answer.{IsFirst}
+use Rattle.walk_chain.specs.declared.Walked.{Walked}
+use Rattle.walk_chain.specs.Walk.{Walks}
+use Rattle.door_walk.specs.declared.Told.{Told}
+use Rattle.door_walk.specs.Order.{FromOrder}
+use Rattle.door_unit.specs.declared.Made.{Made}
+use Rattle.door_unit.specs.Unit.{Makes, six}
 
 pub record SmallestRows (p : ℕ) (G H : List ℕ) (m : Made) (rows : List ℕ) : Type 0 where
   -- six rows of c numbers: E0, E1, E2, F0, F1, F2

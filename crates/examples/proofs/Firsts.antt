@@ -8,25 +8,25 @@ use Prim.Native.Nat.{ℕ, zero, suc, _%_, _<_, _≤_}
 use native.Mathlib.Omega.{arith}
 use lib.Dec.{T, eqb, ltb, leb, eqb→eq, ltb→lt, leb→le}
 use lib.ListN.{length, getD}
-use Rattle.fp.proofs.Trial.{primeb, primeb-sound}
-use Rattle.prime.specs.Table.{largest}
-use Rattle.field.specs.Refusal.{Fault1, Refusal, Accepted}
-use Rattle.field.specs.Opening.{Opens, nothing}
-use Rattle.field.proofs.Accept.{accepted-none}
-use Rattle.field.proofs.Opening.{opens-one}
-use Rattle.series.specs.Answer as filled
-use Rattle.series.proofs.Answer.{done, answer-one}
+use Rattle.math_fp.proofs.Trial.{primeb, primeb-sound}
+use Rattle.num_prime.specs.Table.{largest}
+use Rattle.field_open.specs.Refusal.{Fault1, Refusal, Accepted}
+use Rattle.field_open.specs.Opening.{Opens, nothing}
+use Rattle.field_open.proofs.Accept.{accepted-none}
+use Rattle.field_open.proofs.Opening.{opens-one}
+use Rattle.field_series.specs.Answer as filled
+use Rattle.field_series.proofs.Answer.{done, answer-one}
 use Rattle.book_bytes.specs.Bytes.{val}
-use Rattle.book.specs.Book.{ends}
-use Rattle.book.specs.Book as book
-use Rattle.book.specs.Answer.{answerSays, Tells, mark, fine}
-use Rattle.book.specs.declared.Answer.{Answer}
-use Rattle.book.specs.declared.Answer.the-variants.{Yes, Refused}
-use Rattle.book.specs.declared.Reason.the-variants.{Mark}
-use Rattle.book.proofs.One as one
-use Rattle.worked.specs.Tests.{every, begins}
-use Rattle.worked.proofs.Fields.{every-at, accepted-of, series-of}
-use Rattle.worked.proofs.Bases.{or-cases}
+use Rattle.book_check.specs.Book.{ends}
+use Rattle.book_check.specs.Book as book
+use Rattle.book_check.specs.Answer.{answerSays, Tells, mark, fine}
+use Rattle.book_check.specs.declared.Answer.{Answer}
+use Rattle.book_check.specs.declared.Answer.the-variants.{Yes, Refused}
+use Rattle.book_check.specs.declared.Reason.the-variants.{Mark}
+use Rattle.book_check.proofs.One as one
+use Rattle.examples_tests.specs.Tests.{every, begins}
+use Rattle.examples_tests.proofs.Fields.{every-at, accepted-of, series-of}
+use Rattle.examples_tests.proofs.Bases.{or-cases}
 use Rattle.examples.specs.Lines.{Input, Only, Refuses, series, empty-book, no-book, Holds}
 use Rattle.examples.specs.Decide.{Hints, refused, field, decide}
 

@@ -7,32 +7,32 @@ use mathlib.Core.List.{List, [], _∷_}
 use Prim.Native.Nat.{ℕ, _+_}
 use lib.Dec.{T, eqb, leb, eqb→eq, leb→le}
 use lib.ListN.{length, getD}
-use Rattle.fp.proofs.Trial.{and-l, and-r}
-use Rattle.field.specs.Refusal.{Accepted}
-use Rattle.field.proofs.Accept.{accepted-none}
-use Rattle.ideals.specs.Ideal.{Basis}
-use Rattle.ideals.specs.Next.{Next, Start}
-use Rattle.chain.specs.Chain.{Degree, Chain, Closing, Open}
-use Rattle.record.specs.Record.{setting, basisOf, IsRecord}
-use Rattle.bases.specs.Answer.{IsFirst, Orders}
-use Rattle.bases.proofs.Answer.{orders-one}
-use Rattle.stepped.specs.Answer as stepped
-use Rattle.stepped.specs.Answer.{Answers}
-use Rattle.stepped.proofs.Answers.{answers-one}
-use Rattle.walk.specs.Walk as walk
-use Rattle.walk.specs.Walk.{Walks}
-use Rattle.walk.proofs.Walk.{walks-one}
-use Rattle.walks.specs.Order as told
-use Rattle.walks.specs.Order.{FromOrder}
-use Rattle.walks.proofs.Order.{from-order-one}
-use Rattle.reckon.specs.Lists.{alike}
-use Rattle.worked.specs.Rows.{Rows, stored}
-use Rattle.worked.specs.Tests.{every, goes}
-use Rattle.worked.specs.Walks.{at, degreeL, total, unclosed, step, walks}
-use Rattle.worked.proofs.Fields.{every-at, accepted-of}
-use Rattle.worked.proofs.Bases.{basisL, good-rows}
-use Rattle.worked.proofs.Steps.{next-rows, basis-is, record-of}
-use Rattle.worked.proofs.Chains.{good-at, chain-of, degree-at, open-of, closing-of, start-of}
+use Rattle.math_fp.proofs.Trial.{and-l, and-r}
+use Rattle.field_open.specs.Refusal.{Accepted}
+use Rattle.field_open.proofs.Accept.{accepted-none}
+use Rattle.math_ideals.specs.Ideal.{Basis}
+use Rattle.math_ideals.specs.Next.{Next, Start}
+use Rattle.math_chain.specs.Chain.{Degree, Chain, Closing, Open}
+use Rattle.basis_record.specs.Record.{setting, basisOf, IsRecord}
+use Rattle.door_basis.specs.Answer.{IsFirst, Orders}
+use Rattle.door_basis.proofs.Answer.{orders-one}
+use Rattle.door_step.specs.Answer as stepped
+use Rattle.door_step.specs.Answer.{Answers}
+use Rattle.door_step.proofs.Answers.{answers-one}
+use Rattle.walk_chain.specs.Walk as walk
+use Rattle.walk_chain.specs.Walk.{Walks}
+use Rattle.walk_chain.proofs.Walk.{walks-one}
+use Rattle.door_walk.specs.Order as told
+use Rattle.door_walk.specs.Order.{FromOrder}
+use Rattle.door_walk.proofs.Order.{from-order-one}
+use Rattle.examples_lists.specs.Lists.{alike}
+use Rattle.examples_tests.specs.Rows.{Rows, stored}
+use Rattle.examples_tests.specs.Tests.{every, goes}
+use Rattle.examples_tests.specs.Walks.{at, degreeL, total, unclosed, step, walks}
+use Rattle.examples_tests.proofs.Fields.{every-at, accepted-of}
+use Rattle.examples_tests.proofs.Bases.{basisL, good-rows}
+use Rattle.examples_tests.proofs.Steps.{next-rows, basis-is, record-of}
+use Rattle.examples_tests.proofs.Chains.{good-at, chain-of, degree-at, open-of, closing-of, start-of}
 use Rattle.examples.specs.Lines.{Input, order, steps, closes, spends, period, no-period, Holds}
 use Rattle.examples.specs.Decide.{Hints, closed, field, isGood, isRecord, isOne, orders, goesOn, walked, closing, spending, periodic, unperiodic, decide}
 

@@ -2,11 +2,11 @@
 --   hints         what the tests are helped with: the series of each of the three fields, and the bases passed
 --   table-holds   every line of the table holds: by one computation
 use mathlib.Core.List.{List, [], _∷_}
-use Rattle.fp.proofs.Trial.{primeb}
-use Rattle.reading.specs.Row.{tab, fallAt}
-use Rattle.reading.specs.Sum.{sumTo}
-use Rattle.cubicfield.specs.First.{conv}
-use Rattle.cubicfield.specs.Prefix.{partAt, plusPart, minusPart}
+use Rattle.math_fp.proofs.Trial.{primeb}
+use Rattle.math_rows.specs.Row.{tab, fallAt}
+use Rattle.math_rows.specs.Sum.{sumTo}
+use Rattle.field_roots.specs.First.{conv}
+use Rattle.field_roots.specs.Prefix.{partAt, plusPart, minusPart}
 use Rattle.examples.specs.Lines.{element, AllHold}
 use Rattle.examples.specs.Table.{num, t, b₁, b₂, b₃, b₄, e₃, f₃, table}
 use Rattle.examples.specs.Decide.{Hints}

@@ -9,30 +9,30 @@ use native.Mathlib.Omega.{arith}
 use native.Mathlib.Decide.{decLt}
 use lib.Dec.{T, eqb, ltb, leb, eqb→eq, ltb→lt, leb→le}
 use lib.ListN.{length, getD, replicate, List·getD-eq-default}
-use Rattle.cubic.specs.Tri.{Tri, Nm, X, normT}
-use Rattle.fp.proofs.Trial.{and-l, and-r}
-use Rattle.field.specs.Refusal.{Accepted}
-use Rattle.field.proofs.Accept.{accepted-none}
-use Rattle.ideals.specs.Element.{norm}
-use Rattle.ideals.specs.Ideal.{Basis}
-use Rattle.ideals.specs.Next.{Start}
-use Rattle.chain.specs.Chain.{Closing}
-use Rattle.chain.specs.Unit.{UnitOf}
-use Rattle.chain.proofs.Closing.{start-unique}
-use Rattle.record.specs.Record.{setting, polyOf}
-use Rattle.walk.specs.Walk.{most}
-use Rattle.unit.specs.Unit as unitAnswer
-use Rattle.unit.specs.Unit.{six, Lent, Finds, Makes, Goes}
-use Rattle.unit.specs.declared.Made.{Made}
-use Rattle.unit.proofs.Once.{Same, makes-one}
-use Rattle.reckon.specs.Lists.{lists, alike}
-use Rattle.reckon.proofs.Meaning.{hom-eval, poly-hom, poly-alike, el, el-alike}
-use Rattle.worked.specs.Rows.{Rows}
-use Rattle.worked.specs.Tests.{every}
-use Rattle.worked.specs.Walks.{total, unclosed, walks, isUnit}
-use Rattle.worked.proofs.Fields.{every-at, below-sound}
-use Rattle.worked.proofs.Bases.{basisL}
-use Rattle.worked.proofs.Chains.{closing-of, start-of, unit-of}
+use Rattle.math_triple.specs.Tri.{Tri, Nm, X, normT}
+use Rattle.math_fp.proofs.Trial.{and-l, and-r}
+use Rattle.field_open.specs.Refusal.{Accepted}
+use Rattle.field_open.proofs.Accept.{accepted-none}
+use Rattle.math_ideals.specs.Element.{norm}
+use Rattle.math_ideals.specs.Ideal.{Basis}
+use Rattle.math_ideals.specs.Next.{Start}
+use Rattle.math_chain.specs.Chain.{Closing}
+use Rattle.math_chain.specs.Unit.{UnitOf}
+use Rattle.math_chain.proofs.Closing.{start-unique}
+use Rattle.basis_record.specs.Record.{setting, polyOf}
+use Rattle.walk_chain.specs.Walk.{most}
+use Rattle.door_unit.specs.Unit as unitAnswer
+use Rattle.door_unit.specs.Unit.{six, Lent, Finds, Makes, Goes}
+use Rattle.door_unit.specs.declared.Made.{Made}
+use Rattle.door_unit.proofs.Once.{Same, makes-one}
+use Rattle.examples_lists.specs.Lists.{lists, alike}
+use Rattle.examples_lists.proofs.Meaning.{hom-eval, poly-hom, poly-alike, el, el-alike}
+use Rattle.examples_tests.specs.Rows.{Rows}
+use Rattle.examples_tests.specs.Tests.{every}
+use Rattle.examples_tests.specs.Walks.{total, unclosed, walks, isUnit}
+use Rattle.examples_tests.proofs.Fields.{every-at, below-sound}
+use Rattle.examples_tests.proofs.Bases.{basisL}
+use Rattle.examples_tests.proofs.Chains.{closing-of, start-of, unit-of}
 use Rattle.examples.specs.Lines.{Input, Only, Outcome, sixRows, made, unit, unit-norm, narrow, Holds}
 use Rattle.examples.specs.Decide.{Hints, closed, fromOrder, rowsAt, isSix, makes, decide}
 use Rattle.examples.proofs.Records.{field-of}

@@ -8,16 +8,16 @@ use mathlib.Core.List.{List, [], _∷_}
 use Prim.Native.Nat.{ℕ, zero, suc, _+_, _*_, _/_, _%_}
 use lib.Dec.{eqb, ltb, leb}
 use lib.ListN.{length}
-use Rattle.cubic.specs.Tri.{Tri, normT}
-use Rattle.fp.proofs.Trial.{primeb}
-use Rattle.prime.specs.Table.{largest}
-use Rattle.series.specs.Answer.{longest}
-use Rattle.walk.specs.Walk.{most}
-use Rattle.six.specs.Six.{cut}
-use Rattle.reckon.specs.Lists.{lists, alike, alikeT}
-use Rattle.worked.specs.Rows.{Rows, stored}
-use Rattle.worked.specs.Tests.{every, below, accepts, begins, good, kept}
-use Rattle.worked.specs.Walks.{at, degreeL, total, unclosed, step, walks, isUnit}
+use Rattle.math_triple.specs.Tri.{Tri, normT}
+use Rattle.math_fp.proofs.Trial.{primeb}
+use Rattle.num_prime.specs.Table.{largest}
+use Rattle.field_series.specs.Answer.{longest}
+use Rattle.walk_chain.specs.Walk.{most}
+use Rattle.unit_rows.specs.Six.{cut}
+use Rattle.examples_lists.specs.Lists.{lists, alike, alikeT}
+use Rattle.examples_tests.specs.Rows.{Rows, stored}
+use Rattle.examples_tests.specs.Tests.{every, below, accepts, begins, good, kept}
+use Rattle.examples_tests.specs.Walks.{at, degreeL, total, unclosed, step, walks, isUnit}
 use Rattle.examples.specs.Lines.{Input, Line, refuses, series, order, steps, closes, spends, period, no-period, unit, unit-norm, narrow, empty-book, no-book, sixRows}
 
 pub record Hints : Type 0 where

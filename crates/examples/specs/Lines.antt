@@ -8,29 +8,29 @@
 --   Holds            what a line says: at that input the contract is met by the line's answer only
 --   AllHold          all of a list of lines hold
 -- A polynomial is a list of coefficients, lowest first. The contracts' definitions are those of crates field, series, bases, stepped, walk,
--- walks, unit and book; `Rows` and `stored` (crate worked) write a basis and its record of 119 numbers.
+-- walks, unit and book; `Rows` and `stored` (crate examples_tests) write a basis and its record of 119 numbers.
 use mathlib.Core.Path.{_≡_}
 use mathlib.Core.List.{List, [], _∷_, _++_}
 use Prim.Native.Nat.{ℕ, _*_, _≤_}
 use lib.ListN.{length, take, replicate}
-use Rattle.cubic.specs.Tri.{Tri}
-use Rattle.ideals.specs.Element.{norm}
-use Rattle.field.specs.Refusal.{Accepted}
-use Rattle.field.specs.Opening.{Opens, nothing}
-use Rattle.record.specs.Record.{setting, polyOf}
-use Rattle.series.specs.Answer as filled
-use Rattle.bases.specs.Answer.{Orders}
-use Rattle.stepped.specs.Answer.{Answers}
-use Rattle.walk.specs.Walk.{most, Walks}
-use Rattle.walks.specs.Order as told
-use Rattle.walks.specs.Order.{FromOrder}
-use Rattle.unit.specs.Unit.{refusal, six, Makes}
-use Rattle.unit.specs.declared.Made.{Made}
-use Rattle.book.specs.Answer.{answerSays, Tells}
-use Rattle.book.specs.declared.Answer.{Answer}
-use Rattle.book.specs.declared.Answer.the-variants.{Yes, Refused}
-use Rattle.book.specs.declared.Reason.the-variants.{Mark}
-use Rattle.worked.specs.Rows.{Rows, stored}
+use Rattle.math_triple.specs.Tri.{Tri}
+use Rattle.math_ideals.specs.Element.{norm}
+use Rattle.field_open.specs.Refusal.{Accepted}
+use Rattle.field_open.specs.Opening.{Opens, nothing}
+use Rattle.basis_record.specs.Record.{setting, polyOf}
+use Rattle.field_series.specs.Answer as filled
+use Rattle.door_basis.specs.Answer.{Orders}
+use Rattle.door_step.specs.Answer.{Answers}
+use Rattle.walk_chain.specs.Walk.{most, Walks}
+use Rattle.door_walk.specs.Order as told
+use Rattle.door_walk.specs.Order.{FromOrder}
+use Rattle.door_unit.specs.Unit.{refusal, six, Makes}
+use Rattle.door_unit.specs.declared.Made.{Made}
+use Rattle.book_check.specs.Answer.{answerSays, Tells}
+use Rattle.book_check.specs.declared.Answer.{Answer}
+use Rattle.book_check.specs.declared.Answer.the-variants.{Yes, Refused}
+use Rattle.book_check.specs.declared.Reason.the-variants.{Mark}
+use Rattle.examples_tests.specs.Rows.{Rows, stored}
 
 pub record Input : Type 0 where
   pub p : ℕ

@@ -2,9 +2,9 @@
 -- A polynomial is written by t, its powers, sums and multiples, mod 5.
 use mathlib.Core.List.{List, [], _∷_}
 use Prim.Native.Nat.{ℕ}
-use Rattle.cubic.specs.Tri.{Tri}
-use Rattle.reckon.specs.Lists.{plus, scale}
-use Rattle.worked.specs.Rows.{Rows}
+use Rattle.math_triple.specs.Tri.{Tri}
+use Rattle.examples_lists.specs.Lists.{plus, scale}
+use Rattle.examples_tests.specs.Rows.{Rows}
 use Rattle.examples.specs.Lines.{Input, element, whatever, empty-G, Line, refuses, series, order, steps, closes, spends, period, no-period, unit, unit-norm, narrow, empty-book, no-book}
 
 abbrev pub num : ℕ → List ℕ

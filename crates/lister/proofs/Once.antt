@@ -18,11 +18,11 @@ use Rattle.text_cut.specs.declared.Step.{Step}
 use Rattle.text_cut.specs.declared.Step.the-variants.{Whole, Broken, Pending}
 use Rattle.text_cut.proofs.Steps.{cut-unique}
 use Rattle.text_read.proofs.Writings.{reads-unique}
-use Rattle.unit.specs.declared.Made.{Made}
-use Rattle.unit.specs.Unit.{Makes}
-use Rattle.unit.proofs.Once.{makes-one, Same}
+use Rattle.door_unit.specs.declared.Made.{Made}
+use Rattle.door_unit.specs.Unit.{Makes}
+use Rattle.door_unit.proofs.Once.{makes-one, Same}
 use Rattle.lister_print.specs.Text.{unit-text, told, made-text, trim}
-use Rattle.six.specs.Six.{cut}
+use Rattle.unit_rows.specs.Six.{cut}
 use Rattle.lister.specs.Listing.{budget, blank, room, Lists, malformed, read, Answer, Does, Steps, Way, here, more, Passes}
 use Rattle.lister.specs.declared.Going.{Going}
 use Rattle.lister.proofs.Paces.{going-same}

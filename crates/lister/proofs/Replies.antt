@@ -15,7 +15,7 @@ use Rattle.text_read.specs.declared.Parsed.{Parsed}
 use Rattle.text_read.specs.declared.Parsed.the-variants.{Read, Malformed}
 use Rattle.text_read.proofs.Answers.{malformed-means}
 use Rattle.text_read.proofs.Writings.{line-is-text}
-use Rattle.unit.specs.Unit.{Makes}
+use Rattle.door_unit.specs.Unit.{Makes}
 use Rattle.lister_print.specs.Text.{made-text}
 use Rattle.lister.specs.Listing.{budget, blank, malformed, read, Told, Answer}
 

@@ -11,12 +11,12 @@ use lib.Seq.{getD-take}
 use Rattle.text_put.specs.Print.{comma, semicolon, newline, number-text, join, list-text, refused-text}
 use Rattle.text_read.proofs.Inverse.{text-numeral}
 use Rattle.text_read.proofs.Writings.{Small, line-is-text, reads-below}
-use Rattle.reading.proofs.Floors.{sized}
-use Rattle.reading.proofs.Tab.{length-tab, at-tab}
-use Rattle.field.proofs.Stages.{numbered}
-use Rattle.six.specs.Six.{cut}
-use Rattle.unit.specs.declared.Made.{Made}
-use Rattle.unit.specs.Unit.{Makes, Goes, bad, spent, narrow, made}
+use Rattle.math_rows.proofs.Floors.{sized}
+use Rattle.math_rows.proofs.Tab.{length-tab, at-tab}
+use Rattle.field_open.proofs.Stages.{numbered}
+use Rattle.unit_rows.specs.Six.{cut}
+use Rattle.door_unit.specs.declared.Made.{Made}
+use Rattle.door_unit.specs.Unit.{Makes, Goes, bad, spent, narrow, made}
 use Rattle.lister_print.specs.Text.{trim, rows-text, unit-text, made-text}
 use Rattle.lister.specs.Listing.{budget, blank, room, Lists, malformed, read}
 use Rattle.lister_print.proofs.Trims.{trim-size}

@@ -20,8 +20,8 @@ use Rattle.text_cut.specs.Tells.{CutTells}
 use Rattle.text_cut.specs.declared.Step.{Step}
 use Rattle.text_cut.specs.declared.Step.the-variants.{Whole, Broken, Pending}
 use Rattle.text_read.specs.Grammar.{Reads}
-use Rattle.unit.specs.declared.Made.{Made}
-use Rattle.unit.specs.Unit.{Makes}
+use Rattle.door_unit.specs.declared.Made.{Made}
+use Rattle.door_unit.specs.Unit.{Makes}
 use Rattle.lister_print.specs.Text.{made-text}
 use Rattle.lister.specs.declared.Going.{Going}
 

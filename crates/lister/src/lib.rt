@@ -20,7 +20,7 @@ fn field_answer(line: &[u8], p: u64, g: &[u64], h: &[u64], out: &mut [u8], at: u
 {
     let mut rows = [0u16; 6144];
     let mut scratch = [0u16; 6144];
-    let m = unit::unit(p, g, h, 1000, &mut rows, &mut scratch);
+    let m = door_unit::unit(p, g, h, 1000, &mut rows, &mut scratch);
     lister_print::put_made(out, at, line, m, &rows)
 }
 

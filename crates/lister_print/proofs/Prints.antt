@@ -11,10 +11,10 @@ use lib.ListN.{length, take}
 use Rattle.text_put.specs.Print.{semicolon, newline, Put, number-text, list-text, refused-text}
 use Rattle.text_put.proofs.Puts.{placed-none, put-then}
 use Rattle.text_cut.specs.Feed.{end-text}
-use Rattle.reading.specs.Row.{Size}
-use Rattle.six.specs.Six.{cut}
-use Rattle.six.proofs.Parts.{mid, mid-cut}
-use Rattle.unit.specs.declared.Made.{Made}
+use Rattle.math_rows.specs.Row.{Size}
+use Rattle.unit_rows.specs.Six.{cut}
+use Rattle.unit_rows.proofs.Parts.{mid, mid-cut}
+use Rattle.door_unit.specs.declared.Made.{Made}
 use Rattle.lister_print.specs.Text.{trim, rows-text, unit-text, told, made-text}
 use Rattle.lister_print.proofs.Trims.{trim-size}
 

@@ -9,10 +9,10 @@ use Prim.Native.Nat.{ℕ, zero, suc, _-_, _≤_, _<_}
 use native.Mathlib.Omega.{arith}
 use lib.ListN.{length, getD, take}
 use lib.Seq.{take-nil, getD-take, length-take-le}
-use Rattle.reading.specs.Reading.{Reading}
-use Rattle.reading.specs.Row.{Size, row}
-use Rattle.reading.proofs.Floors.{sized}
-use Rattle.six.proofs.Parts.{row-mid}
+use Rattle.math_rows.specs.Reading.{Reading}
+use Rattle.math_rows.specs.Row.{Size, row}
+use Rattle.math_rows.proofs.Floors.{sized}
+use Rattle.unit_rows.proofs.Parts.{row-mid}
 use Rattle.lister_print.specs.Text.{ahead, trim}
 
 ahead-top : (x : ℕ) (l : List ℕ) → x ≢ 0 → ahead x l ≡ x ∷ l

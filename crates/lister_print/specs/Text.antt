@@ -10,8 +10,8 @@ use mathlib.Core.List.{List, [], _∷_, _++_}
 use Prim.Native.Nat.{ℕ, zero, suc}
 use Rattle.text_put.specs.Print.{semicolon, newline, number-text, list-text, refused-text, Put}
 use Rattle.text_cut.specs.Feed.{end-text}
-use Rattle.six.specs.Six.{cut}
-use Rattle.unit.specs.declared.Made.{Made}
+use Rattle.unit_rows.specs.Six.{cut}
+use Rattle.door_unit.specs.declared.Made.{Made}
 
 -- a coefficient in front of a trimmed list
 unfoldable pub ahead : ℕ → List ℕ → List ℕ

@@ -3,9 +3,9 @@ ghost use Prim.Native.Nat.{_≤_};
 ghost use mathlib.Core.List.{_∷_};
 ghost use lib.ListN.{length};
 ghost use Rattle.text_put.specs.Print.{semicolon, Put, number-text, list-text};
-ghost use Rattle.six.specs.Six.{cut};
+ghost use Rattle.unit_rows.specs.Six.{cut};
 ghost use Rattle.lister_print.specs.Text.{trim, rows-text, made-text, Ends};
-use unit::Made;
+use door_unit::Made;
 
 // A field of the answer that is a number.
 fn put_count(out: &mut [u8], at: usize, n: u64) -> usize
@@ -19,7 +19,7 @@ fn put_count(out: &mut [u8], at: usize, n: u64) -> usize
 fn put_row(out: &mut [u8], at: usize, row: &[u16]) -> usize
     ensures { λ r. ⌜ Put (now (out .entry)) at (semicolon ∷ list-text (trim (now (row .entry)))) r (now (out .exit)) ⌝ }
 {
-    let n = long::size(row);
+    let n = poly_long::size(row);
     let to = text_put::put_byte(out, at, b';');
     text_put::put_list(out, to, row, n)
 }

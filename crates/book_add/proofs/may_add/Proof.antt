@@ -1,6 +1,6 @@
 -- `book_add::may_add` meets its contract.
-use Rattle.book.proofs.Facts.{judge-good}
-use Rattle.book.proofs.Asking.{yes-of}
+use Rattle.book_check.proofs.Facts.{judge-good}
+use Rattle.book_check.proofs.Asking.{yes-of}
 use Rattle.book_add.proofs.May.{finished, has-of, may-of, book-no, body-no}
 use native.Mathlib.Omega.{arith}
 use borrow.Author.Needs.{needs}

@@ -1,5 +1,5 @@
 -- `book_attest::attest` meets its contract.
-use Rattle.book.proofs.Asking.{there-of, ready-of}
+use Rattle.book_check.proofs.Asking.{there-of, ready-of}
 use Rattle.book_attest.proofs.Answers.{finished-part, attest-yes, attest-no, attest-refused, attest-none}
 use borrow.Author.Needs.{needs}
 use Rattle.book_attest.proofs.attest.Statement.{statement}

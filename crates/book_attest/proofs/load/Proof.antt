@@ -3,7 +3,7 @@ use mathlib.Core.Path.{refl}
 use Prim.Native.Nat.{ℕ, _-_}
 use native.Mathlib.Omega.{arith}
 use lib.ListN.{length, getD}
-use Rattle.reading.proofs.Tab.{Filled, filled-start, filled-more}
+use Rattle.math_rows.proofs.Tab.{Filled, filled-start, filled-more}
 use Rattle.book_body.specs.Body.{listAt}
 use Rattle.book_attest.proofs.Bodies.{loaded}
 use borrow.Author.Needs.{needs}

@@ -1,7 +1,7 @@
 -- `book_body::field_refusal` meets its contract.
 use Rattle.book_body.specs.Code.{Clipped}
 use lib.Seq.{length-take-le}
-use Rattle.reading.proofs.Tab.{length-tab}
+use Rattle.math_rows.proofs.Tab.{length-tab}
 use Rattle.book_body.proofs.Field.{field-says}
 use Prim.Native.Nat.{ℕ}
 use mathlib.Core.Path.{_≡_, _∙_, sym, ap, subst}

@@ -1,5 +1,5 @@
 -- `book_body::first_14` meets its contract.
-use Rattle.reading.proofs.Tab.{Filled, filled-start, filled-more, filled-end}
+use Rattle.math_rows.proofs.Tab.{Filled, filled-start, filled-more, filled-end}
 use Rattle.book_body.specs.Body.{listAt}
 use Prim.Native.Nat.{ℕ, _-_}
 use mathlib.Core.Path.{refl}

@@ -1,0 +1,38 @@
+-- `basis_accept::alone` meets its contract: the length of a greatest common divisor of the seven.
+use native.Mathlib.Omega.{arith}
+use borrow.Author.Needs.{needs}
+use Rattle.basis_accept.proofs.Sevens.{alone-yes, alone-no}
+use Rattle.basis_accept.proofs.alone.Statement.{statement}
+use Rattle.basis_accept.proofs.alone.Tie as tie
+use Rattle.basis_accept.proofs.alone.Reads as reads
+use Rattle.basis_accept.proofs.alone.Lts as lts
+
+gcd-requires : tie.Need-gcd-requires
+gcd-requires c κs = search needs
+
+gcd-requires-2 : tie.Need-gcd-requires-2
+gcd-requires-2 c κs = search needs
+
+gcd-requires-3 : tie.Need-gcd-requires-3
+gcd-requires-3 c κs = search needs
+
+gcd-requires-4 : tie.Need-gcd-requires-4
+gcd-requires-4 c κs = search needs
+
+gcd-requires-5 : tie.Need-gcd-requires-5
+gcd-requires-5 c κs = search needs
+
+gcd-requires-6 : tie.Need-gcd-requires-6
+gcd-requires-6 c κs = search needs
+
+size-requires : tie.Need-size-requires
+size-requires c κs = search needs
+
+returns : tie.Need-returns
+returns c = alone-yes (c .before .before .before .before .before .before .before .before .before .before .before .before .before .gcd .ensures) (c .before .before .before .before .before .before .before .before .before .before .before .gcd2 .ensures) (c .before .before .before .before .before .before .before .before .before .gcd3 .ensures) (c .before .before .before .before .before .before .before .gcd4 .ensures) (c .before .before .before .before .before .gcd5 .ensures) (c .before .before .before .gcd6 .ensures) (c .before .size .ensures) (omega (arith, c .if1 .taken))
+
+returns-2 : tie.Need-returns-2
+returns-2 c = alone-no (c .before .before .before .before .before .before .before .before .before .before .before .before .before .gcd .ensures) (c .before .before .before .before .before .before .before .before .before .before .before .gcd2 .ensures) (c .before .before .before .before .before .before .before .before .before .gcd3 .ensures) (c .before .before .before .before .before .before .before .gcd4 .ensures) (c .before .before .before .before .before .gcd5 .ensures) (c .before .before .before .gcd6 .ensures) (c .before .size .ensures) (c .if1 .left)
+
+pub alone-spec : {M : Type 1} → statement M
+alone-spec = tie.close (tie.spec gcd-requires gcd-requires-2 gcd-requires-3 gcd-requires-4 gcd-requires-5 gcd-requires-6 size-requires returns returns-2)

@@ -1,0 +1,198 @@
+-- What `placed` and `filled` ask of their callees, and what they make.
+--   row-short, size-below    a bound of the degree, or of the row, bounds the length
+use mathlib.Core.Path.{_≡_, refl, sym, ap, ap₂, _∙_, subst}
+use mathlib.Core.Logic.{_≢_, _⊎_, inl, inr}
+use mathlib.Core.Bool.{false}
+use mathlib.Core.List.{List, [], _∷_}
+use Prim.Native.Nat.{ℕ, _+_, _*_, _-_, _<_, _≤_}
+use native.Mathlib.Omega.{arith}
+use native.Mathlib.Decide.{decLt}
+use lib.ListN.{length, getD, replicate}
+use Rattle.math_ring.specs.Ring.{Ops, CRing}
+use Rattle.math_ring.proofs.Solve.{var, minus, _:+_, solve}
+use Rattle.math_fp.specs.Fp.{Prime}
+use Rattle.math_valued.specs.Val.{Valued}
+use Rattle.math_valued.specs.Degree.{Lt}
+use Rattle.math_valued.proofs.Degree.{lt-eq, lt-up, has-eq, above}
+use Rattle.math_valued.proofs.Compare.{has-scale}
+use Rattle.math_rows.specs.Reading.{Reading}
+use Rattle.math_rows.specs.Made.{reading}
+use Rattle.math_rows.specs.Row.{Row, Size, row}
+use Rattle.math_rows.proofs.Rows.{size-le, size-lt, size-has-at}
+use Rattle.math_rows.proofs.Floors.{sized}
+use Rattle.math_rows.proofs.Turn.{lt-scale}
+use Rattle.poly_rows.specs.Leaf.{Cut, ScaleBy, ScaleOut}
+use Rattle.poly_lent.specs.Sized.{BothIn, BothOut}
+use Rattle.poly_lent.proofs.Mixing.{size-cut}
+use Rattle.basis_record.specs.Record.{part}
+use Rattle.basis_reduce.specs.Frame.{Short}
+use Rattle.basis_reduce.proofs.Laid.{zeros-at}
+use Rattle.basis_scale.specs.Store.{StoreIn, Stored}
+use Rattle.basis_scale.specs.Levels.{LevelIn, Leveled}
+use Rattle.basis_scale.specs.Place.{ElementIn, PlaceIn, PlacedAt, Placed, FillIn, Filled}
+use Rattle.basis_scale.specs.declared.Factors.{Factors}
+use Rattle.basis_scale.proofs.Store.{stored-part, stored-other, stored-blank, stored-each}
+
+pub size-below : {p : ℕ} {l : List ℕ} {m n : ℕ} → Short p l n → Size l m → m ≤ n
+size-below {p} {l} {m} {n} h s = go (decLt n m)
+  where
+    go : Dec (n < m) → m ≤ n
+    go (yes w) = absurd (s .top (omega arith) (h .above (m - 1) (omega arith)))
+    go (no w) = omega arith
+
+pub short-lt : {p : ℕ} (ρ : Reading p) {l : List ℕ} {n : ℕ} → Short p l n → Lt (ρ .𝓥) (row ρ l) n
+short-lt ρ {l} {n} h = let (m, s) = sized l in lt-up (ρ .𝓥) n (size-lt ρ s) (size-below h s)
+
+pub row-short : {p : ℕ} (ρ : Reading p) {l : List ℕ} (n : ℕ) → Row p l → Lt (ρ .𝓥) (row ρ l) n → Short p l n
+row-short ρ {l} n h g = let (m, s) = sized l in let b : m ≤ n = size-le ρ n h s g in record { is-row = h; above = λ i w. s .above i (omega arith) }
+
+pub short-up : {p : ℕ} {l : List ℕ} {m n : ℕ} → Short p l m → m ≤ n → Short p l n
+short-up h u = record { is-row = h .is-row; above = λ i w. h .above i (omega arith) }
+
+pub short-cut : {p : ℕ} {l : List ℕ} {n : ℕ} → Short p l n → n ≤ 32 → Cut l n
+short-cut h u = record { size = h .is-row .size; fits = u; above = h .above }
+
+-- a row times a number ends where the row does
+pub scaled-short : {p c : ℕ} (ρ : Reading p) {x z : List ℕ} {n : ℕ} → Short p x n → Row p z → row ρ z ≡ ρ .𝓥 .L .ops .mul (ρ .𝓥 .const (ρ .cast c)) (row ρ x) → Short p z n
+scaled-short {p} {c} ρ {x} {z} {n} h hz e = row-short ρ n hz (lt-eq (ρ .𝓥) (lt-scale ρ (ρ .cast c) (short-lt ρ h)) (sym e))
+
+-- and by a number that is not 0 it has the same length
+pub scaled-size : {p c : ℕ} (ρ : Reading p) {x z : List ℕ} {n : ℕ} → ρ .cast c ≢ ρ .𝓥 .K .ops .𝟎 → Row p x → Row p z → row ρ z ≡ ρ .𝓥 .L .ops .mul (ρ .𝓥 .const (ρ .cast c)) (row ρ x) → Size x n → Size z n
+scaled-size {p} {c} ρ {x} {z} {n} hc hx hz e s = let (m, w) = sized z in subst (λ k. Size z k) (go n m s w) w
+  where
+    go : (n m : ℕ) → Size x n → Size z m → m ≡ n
+    go n m s w = let hi : m ≤ n = size-le ρ n hz w (lt-eq (ρ .𝓥) (lt-scale ρ (ρ .cast c) (size-lt ρ s)) (sym e)) in elim (decLt m n) [
+      | no l ↦ omega arith
+      | yes l ↦ let h = has-eq (ρ .𝓥) (has-scale (ρ .𝓥) (ρ .cast c, hc, ρ .𝓥 .const-lead (ρ .cast c)) (size-has-at ρ n hx s (omega arith))) (sym e) in absurd (omega (arith, above (ρ .𝓥) h (size-lt ρ w)))
+    ]
+
+module _ {p mul lim i top s : ℕ} {b c x x1 : List ℕ} {n1 : ℕ} {y1 : List ℕ} {n2 : ℕ} {u : List ℕ} {lu : ℕ} {B : List ℕ} (g : PlaceIn p mul lim i top s b c x x1 n1 y1 n2 u lu B) where
+  pub place-scale : {l : List ℕ} {n : ℕ} → Short p l n → n ≤ top → ScaleBy p mul lim s l top
+  place-scale h w = let f : top ≤ 17 = g .inp .fits in record { modulus = g .inp .modulus; ready = g .inp .ready; hc = g .inp .hs; hx = short-up h w; fits = omega arith }
+
+  pub place-cut : {l : List ℕ} → Short p l top → Cut l top
+  place-cut h = let f : top ≤ 17 = g .inp .fits in short-cut h (omega arith)
+
+  module _ {mb mc t : List ℕ} (sb : ScaleOut p s b top mb) (sc : ScaleOut p s c top mc) (st : ScaleOut p s x top t) where
+    -- a length is bounded by where the row ended before it was scaled
+    within : {l m : List ℕ} {j n : ℕ} → Short p l n → ScaleOut p s l top m → Size m j → j ≤ n
+    within h e = size-below (scaled-short {c = s} (reading p (g .inp .prime)) h (e .short .is-row) (e .scaled .law (g .inp .prime)))
+
+    pub place-both : {n m : ℕ} → Size mb n → Size mc m → BothIn p mul lim mb n x1 n1 mc m y1 n2 t top
+    place-both {n} {m} en em =
+        let w : n ≤ g .inp .lb = within (g .inp .hb) sb en in
+        let v : m ≤ g .inp .lc = within (g .inp .hc) sc em in
+        let b : g .inp .lb + n1 ≤ 33 = g .inp .room-b in
+        let d : g .inp .lc + n2 ≤ 33 = g .inp .room-c in record {
+          modulus = g .inp .modulus;
+          ready = g .inp .ready;
+          hx = sb .short .is-row;
+          hy = g .inp .h1 .is-row;
+          hz = sc .short .is-row;
+          hv = g .inp .h2 .is-row;
+          cx = size-cut (sb .short .is-row) en;
+          cy = short-cut (g .inp .h1) (g .inp .fits-1);
+          cz = size-cut (sc .short .is-row) em;
+          cv = short-cut (g .inp .h2) (g .inp .fits-2);
+          left = omega arith;
+          right = omega arith;
+          hr = st .short .is-row;
+          cr = place-cut (st .short);
+        }
+
+    -- k = s x + s b x1 + s c y1
+    module _ {k : List ℕ} {l : ℕ} (ek : BothOut p false mb x1 false mc y1 t k l) where
+      pub place-level : LevelIn p mul lim u lu k l t top
+      place-level = let f : top ≤ 17 = g .inp .fits in record {
+        modulus = g .inp .modulus;
+        prime = g .inp .prime;
+        odd = g .inp .odd;
+        ready = g .inp .ready;
+        monic = g .inp .monic;
+        hk = ek .is-row;
+        sk = ek .size;
+        hx = st .short;
+        low = g .inp .low-u;
+        fits = omega arith;
+      }
+
+      module _ {a : List ℕ} (la : Leveled p u k t top a) where
+        store : {A l : List ℕ} (j : ℕ) → j < 7 → length A ≡ 119 → ((m : ℕ) → 17 * j ≤ m → getD A m 0 ≡ 0) → Short p l top → StoreIn A j l top
+        store {l = l} j w e z h = record {
+          size = e;
+          blank = z;
+          row = w;
+          each = λ m. let q : getD l m 0 < p = h .is-row .each m in let w : p ≤ 65535 = g .inp .small in omega arith;
+          fits = g .inp .fits;
+          above = h .above;
+        }
+
+        pub place-0 : StoreIn B i a top
+        place-0 = let w : i + 2 < 7 = g .at in store i (omega arith) (g .size) (g .blank) (la .short)
+
+        module _ {B₀ : List ℕ} (s₀ : Stored B i a B₀) where
+          blank-1 : (m : ℕ) → 17 * (i + 1) ≤ m → getD B₀ m 0 ≡ 0
+          blank-1 = stored-blank B i a B₀ s₀ (g .blank)
+
+          pub place-1 : StoreIn B₀ (i + 1) mb top
+          place-1 = let w : i + 2 < 7 = g .at in store (i + 1) (omega arith) (s₀ .size) blank-1 (sb .short)
+
+          module _ {B₁ : List ℕ} (s₁ : Stored B₀ (i + 1) mb B₁) where
+            pub place-2 : StoreIn B₁ (i + 2) mc top
+            place-2 = store (i + 2) (g .at) (s₁ .size) (λ m l. stored-blank B₀ (i + 1) mb B₁ s₁ blank-1 m (omega arith)) (sc .short)
+
+            module _ {B₂ : List ℕ} (s₂ : Stored B₁ (i + 2) mc B₂) where
+              is-a : (ρ : Reading p) → row ρ (part i B₂) ≡ row ρ a
+              is-a ρ = ap (row ρ) (stored-other B₁ (i + 2) mc B₂ s₂ i (inl (omega arith)) ∙ stored-other B₀ (i + 1) mb B₁ s₁ i (inl (omega arith))) ∙ stored-part B i a B₀ s₀ (λ j l. let f : top ≤ 17 = g .inp .fits in la .short .above j (omega arith)) ρ
+
+              is-b : (ρ : Reading p) → row ρ (part (i + 1) B₂) ≡ row ρ mb
+              is-b ρ = ap (row ρ) (stored-other B₁ (i + 2) mc B₂ s₂ (i + 1) (inl (omega arith))) ∙ stored-part B₀ (i + 1) mb B₁ s₁ (λ j l. let f : top ≤ 17 = g .inp .fits in sb .short .above j (omega arith)) ρ
+
+              is-c : (ρ : Reading p) → row ρ (part (i + 2) B₂) ≡ row ρ mc
+              is-c ρ = stored-part B₁ (i + 2) mc B₂ s₂ (λ j l. let f : top ≤ 17 = g .inp .fits in sc .short .above j (omega arith)) ρ
+
+              pub placed : Placed p i s b c x x1 y1 u B B₂
+              placed = record {
+                size = s₂ .size;
+                each = λ h. stored-each p B₁ (i + 2) mc B₂ s₂ (stored-each p B₀ (i + 1) mb B₁ s₁ (stored-each p B i a B₀ s₀ h (la .short .is-row .each)) (sb .short .is-row .each)) (sc .short .is-row .each);
+                there = λ m w. s₂ .there m (away (i + 2) (omega arith) (omega arith) m w) ∙ s₁ .there m (away (i + 1) (omega arith) (omega arith) m w) ∙ s₀ .there m (away i (omega arith) (omega arith) m w);
+                at = λ pr.
+                    let ρ = reading p pr in
+                    let o = ρ .𝓥 .L .ops in
+                    let (k, kp, e₁) = la .law pr in record {
+                      is-b = is-b ρ ∙ sb .scaled .law pr;
+                      is-c = is-c ρ ∙ sc .scaled .law pr;
+                      k = k;
+                      k-poly = kp;
+                      framed = ap₂ (o .add) (ap (o .mul (o .add (o .𝟏) (o .𝟏))) (is-a ρ)) (ap₂ (λ y z. o .add (o .mul y (row ρ x1)) (o .mul z (row ρ y1))) (is-b ρ) (is-c ρ) ∙ over pr) ∙ e₁;
+                      low = λ n h. lt-eq (ρ .𝓥) (la .low pr n h) (ap₂ (λ y z. o .add (o .mul (o .add (o .𝟏) (o .𝟏)) y) (o .neg z)) (sym (is-a ρ)) (st .scaled .law pr));
+                    };
+              }
+                where
+                  away : (j : ℕ) → i ≤ j → j ≤ i + 2 → (m : ℕ) → (m < 17 * i) ⊎ (17 * (i + 3) ≤ m) → (m < 17 * j) ⊎ (17 * j + 17 ≤ m)
+                  away j l h m (inl w) = inl (omega arith)
+                  away j l h m (inr w) = inr (omega arith)
+
+                  over : (pr : Prime p) → let ρ = reading p pr in let o = ρ .𝓥 .L .ops in o .add (o .mul (row ρ mb) (row ρ x1)) (o .mul (row ρ mc) (row ρ y1)) ≡ o .add (row ρ k) (o .neg (row ρ t))
+                  over pr = let ρ = reading p pr in let o = ρ .𝓥 .L .ops in
+                      solve (ρ .𝓥 .L) (var 1 :+ var 2) (var 0 :+ var 1 :+ var 2 :+ minus (var 0)) tt (row ρ t ∷ o .mul (row ρ mb) (row ρ x1) ∷ o .mul (row ρ mc) (row ρ y1) ∷ []) ∙ ap (λ z. o .add z (o .neg (row ρ t))) (sym (ek .law pr))
+
+-- ---- m, n and u in turn
+module _ {p mul lim top : ℕ} {k : Factors} {mb mc mx nb nc nx x1 : List ℕ} {n1 : ℕ} {y1 : List ℕ} {n2 : ℕ} {u : List ℕ} {lu : ℕ} (g : FillIn p mul lim top k mb mc mx nb nc nx x1 n1 y1 n2 u lu) where
+  pub fill-m : PlaceIn p mul lim 0 top (k .m) mb mc mx x1 n1 y1 n2 u lu (replicate 119 0)
+  fill-m = record { inp = g .m; at = omega arith; size = refl; blank = λ j w. zeros-at 119 j }
+
+  module _ {B₁ : List ℕ} (pm : Placed p 0 (k .m) mb mc mx x1 y1 u (replicate 119 0) B₁) where
+    pub fill-n : PlaceIn p mul lim 3 top (k .n) nb nc nx x1 n1 y1 n2 u lu B₁
+    fill-n = record { inp = g .n; at = omega arith; size = pm .size; blank = λ j w. pm .there j (inr (omega arith)) ∙ zeros-at 119 j }
+
+    module _ {B₂ : List ℕ} (pn : Placed p 3 (k .n) nb nc nx x1 y1 u B₁ B₂) where
+      pub fill-u : StoreIn B₂ 6 u lu
+      fill-u = let l : lu ≤ top = g .m .low-u in let f : top ≤ 17 = g .m .fits in record {
+        size = pn .size;
+        blank = λ j w. pn .there j (inr (omega arith)) ∙ pm .there j (inr (omega arith)) ∙ zeros-at 119 j;
+        row = omega arith;
+        each = λ j. let w : getD u j 0 < p = g .m .monic .is-row .each j in let s : p ≤ 65535 = g .m .small in omega arith;
+        fits = omega arith;
+        above = g .m .monic .size .above;
+      }

@@ -1,0 +1,19 @@
+-- `basis_scale::filled` meets its contract: each part finds the record 0 from its row on.
+use Rattle.basis_scale.proofs.Place.{fill-m, fill-n, fill-u}
+use Rattle.basis_scale.proofs.filled.Statement.{statement}
+use Rattle.basis_scale.proofs.filled.Tie as tie
+
+placed-requires : tie.Need-placed-requires
+placed-requires c κs = fill-m (c .before .before .before .before .pre)
+
+placed-requires-2 : tie.Need-placed-requires-2
+placed-requires-2 c κs = fill-n (c .before .before .before .before .before .before .before .before .before .pre) (c .before .before .before .before .placed .ensures)
+
+stored-requires : tie.Need-stored-requires
+stored-requires c κs = fill-u (c .before .before .before .before .before .before .before .before .before .before .before .pre) (c .before .before .before .before .before .before .placed .ensures) (c .before .placed2 .ensures)
+
+returns : tie.Need-returns
+returns c = record { B₁ = _; B₂ = _; at-m = c .before .before .before .before .before .before .before .placed .ensures; at-n = c .before .before .placed2 .ensures; at-u = c .stored .ensures }
+
+pub filled-spec : {M : Type 1} → statement M
+filled-spec = tie.close (tie.spec placed-requires placed-requires-2 stored-requires returns)

@@ -1,0 +1,350 @@
+// The basis record: seven rows of 17 coefficients, M0, M1, M2, N0, N1, N2, U. It starts as zeros and is filled row by row.
+use poly_rows::Rapid;
+use poly_rows::cross_in;
+use poly_rows::rapid_of;
+use poly_rows::scale_in;
+use poly_rows::size_from;
+use basis_reduce::Bounds;
+use basis_reduce::lead_of;
+use basis_reduce::reduced;
+use num_residue::inverse;
+use poly_lent::both_in;
+use poly_lent::mix_in;
+use poly_lent::quotient_in;
+ghost use mathlib.Core.Path.{_≡_};
+ghost use Prim.Native.Nat.{_+_, _*_, _-_, _%_, _<_, _≤_};
+ghost use Rattle.basis_reduce.specs.Given.{given};
+ghost use Rattle.basis_reduce.specs.Clear.{pair, ends};
+ghost use Rattle.basis_scale.specs.Based.{BasisBy, BasisOn, Based, FinishIn, Finished};
+ghost use Rattle.basis_scale.specs.First.{OrderIn, units, unit, nothing};
+ghost use Rattle.basis_scale.specs.Levels.{LevelIn, Leveled};
+ghost use Rattle.basis_scale.specs.Place.{PlaceIn, Placed, FillIn, Filled};
+ghost use Rattle.basis_scale.specs.Scales.{ScalesIn, Scaling};
+ghost use Rattle.basis_scale.specs.Store.{StoreIn, Stored, LoadIn, Loaded};
+
+fn wide(x: u16) -> u64
+    ensures { λ r. ⌜ r ≡ x ⌝ }
+{
+    x as u64
+}
+
+// Row i of the record from a, which ends before n; the record is 0 from that row on.
+fn stored(rows: &mut [u16; 119], i: usize, a: &[u64; 32], n: usize)
+    requires { ⌜ StoreIn (now rows) i (now a) n ⌝ }
+    ensures { λ _. ⌜ Stored (now (rows .entry)) i (now (a .entry)) (now (rows .exit)) ⌝ }
+{
+    let at = 17 * i;
+    let mut j: usize = 0;
+    while j < n {
+        rows[at + j] = a[j] as u16;
+        j += 1;
+    }
+}
+
+// Row i of the record, as a row of 32
+pub fn load(rows: &[u16; 119], i: usize) -> [u64; 32]
+    requires { ⌜ LoadIn (now rows) i ⌝ }
+    ensures { λ r. ⌜ Loaded (now (rows .entry)) i r ⌝ }
+{
+    let at = 17 * i;
+    let mut r: [u64; 32] = [0; 32];
+    let mut j: usize = 0;
+    while j < 17 {
+        let v = wide(rows[at + j]);
+        r[j] = v;
+        j += 1;
+    }
+    r
+}
+
+// Row 0 of an element over the denominator u, which leads with 1: half of x - (k mod u), in place of x
+fn level(
+    p: u64,
+    q: Rapid,
+    u: &[u64; 32],
+    lu: usize,
+    k: &mut [u64; 32],
+    n: usize,
+    x: &mut [u64; 32],
+    top: usize,
+)
+    requires { ⌜ LevelIn p (q .m) (q .lim) (now u) lu (now k) n (now x) top ⌝ }
+    ensures { λ _. ⌜ Leveled p (now (u .entry)) (now (k .entry)) (now (x .entry)) top (now (x .exit)) ⌝ }
+{
+    let mut d: [u64; 32] = [0; 32];
+    let l = quotient_in(p, q, k, n, u, lu, 1, &mut d);
+    mix_in(p, q, true, &d, l, u, lu, k);
+    let h = (p + 1) / 2;
+    cross_in(p, q, h, x, h, 0, k, top);
+}
+
+// The factors by which U, m and n are scaled
+struct Factors {
+    u: u64,
+    m: u64,
+    n: u64,
+}
+
+// 1 / a, 2 / b and 1 / c, by one inversion
+fn factors_of(p: u64, a: u64, b: u64, c: u64) -> Factors
+    requires { ⌜ ScalesIn p a b c ⌝ }
+    ensures { λ k. ⌜ Scaling p a b c k ⌝ }
+{
+    let ab = a * b % p;
+    let i = inverse(p, ab * c % p);
+    let j = i * c % p;
+    Factors {
+        u: j * b % p,
+        m: 2 * (j * a % p) % p,
+        n: i * ab % p,
+    }
+}
+
+// Rows i, i + 1, i + 2 of the record: the element s (b r + c w) over u, x the polynomial part of b r + c w. The rows are scaled in
+// place, and x1 and y1 are twice what settles row 0.
+fn placed(
+    rows: &mut [u16; 119],
+    i: usize,
+    p: u64,
+    q: Rapid,
+    top: usize,
+    s: u64,
+    b: &mut [u64; 32],
+    c: &mut [u64; 32],
+    x: &mut [u64; 32],
+    x1: &[u64; 32],
+    n1: usize,
+    y1: &[u64; 32],
+    n2: usize,
+    u: &[u64; 32],
+    lu: usize,
+)
+    requires { ⌜ PlaceIn p (q .m) (q .lim) i top s (now b) (now c) (now x) (now x1) n1 (now y1) n2 (now u) lu (now rows) ⌝ }
+    ensures { λ _. ⌜ Placed p i s (now (b .entry)) (now (c .entry)) (now (x .entry)) (now (x1 .entry)) (now (y1 .entry)) (now (u .entry)) (now (rows .entry)) (now (rows .exit)) ⌝ }
+{
+    scale_in(p, q, s, b, top);
+    scale_in(p, q, s, c, top);
+    scale_in(p, q, s, x, top);
+    let nb = size_from(b, top);
+    let nc = size_from(c, top);
+    let mut k = *x;
+    let n = both_in(
+        p,
+        q,
+        false,
+        b,
+        nb,
+        x1,
+        n1,
+        false,
+        c,
+        nc,
+        y1,
+        n2,
+        &mut k,
+        top,
+    );
+    level(p, q, u, lu, &mut k, n, x, top);
+    stored(rows, i, x, top);
+    stored(rows, i + 1, b, top);
+    stored(rows, i + 2, c, top);
+}
+
+// The record of the elements m and n, scaled by the factors of k, over u
+fn filled(
+    p: u64,
+    q: Rapid,
+    top: usize,
+    k: Factors,
+    mb: &mut [u64; 32],
+    mc: &mut [u64; 32],
+    mx: &mut [u64; 32],
+    nb: &mut [u64; 32],
+    nc: &mut [u64; 32],
+    nx: &mut [u64; 32],
+    x1: &[u64; 32],
+    n1: usize,
+    y1: &[u64; 32],
+    n2: usize,
+    u: &[u64; 32],
+    lu: usize,
+) -> [u16; 119]
+    requires { ⌜ FillIn p (q .m) (q .lim) top k (now mb) (now mc) (now mx) (now nb) (now nc) (now nx) (now x1) n1 (now y1) n2 (now u) lu ⌝ }
+    ensures { λ o. ⌜ Filled p k (now (mb .entry)) (now (mc .entry)) (now (mx .entry)) (now (nb .entry)) (now (nc .entry)) (now (nx .entry)) (now (x1 .entry)) (now (y1 .entry)) (now (u .entry)) o ⌝ }
+{
+    let mut rows: [u16; 119] = [0; 119];
+    placed(
+        &mut rows,
+        0,
+        p,
+        q,
+        top,
+        k.m,
+        mb,
+        mc,
+        mx,
+        x1,
+        n1,
+        y1,
+        n2,
+        u,
+        lu,
+    );
+    placed(
+        &mut rows,
+        3,
+        p,
+        q,
+        top,
+        k.n,
+        nb,
+        nc,
+        nx,
+        x1,
+        n1,
+        y1,
+        n2,
+        u,
+        lu,
+    );
+    stored(&mut rows, 6, u, lu);
+    rows
+}
+
+// The scaled basis from a reduced pair m, n on, with l the length of X(m): all rows are scaled in place.
+fn finished(
+    f: Bounds,
+    q: Rapid,
+    r: &[u64; 32],
+    w: &[u64; 32],
+    mb: &mut [u64; 32],
+    mc: &mut [u64; 32],
+    mx: &mut [u64; 32],
+    nb: &mut [u64; 32],
+    nc: &mut [u64; 32],
+    nx: &mut [u64; 32],
+    l: usize,
+    d: &mut [u64; 32],
+    lu: usize,
+    x1: &mut [u64; 32],
+    n1: usize,
+    y1: &mut [u64; 32],
+    n2: usize,
+) -> [u16; 119]
+    requires { ⌜ FinishIn (given f (now r) (now w)) (q .m) (q .lim) (f .top) (ends (now mb) (now mc) (now mx) (now nb) (now nc) (now nx) l) (now d) lu (now x1) n1 (now y1) n2 ⌝ }
+    ensures { λ o. ⌜ Finished (given f (now (r .entry)) (now (w .entry))) (f .top) (ends (now (mb .entry)) (now (mc .entry)) (now (mx .entry)) (now (nb .entry)) (now (nc .entry)) (now (nx .entry)) l) (now (d .entry)) lu (now (x1 .entry)) (now (y1 .entry)) o ⌝ }
+{
+    let p = f.p;
+    let top = f.top;
+    let y = lead_of(f, q, true, nb, nc, r, w);
+    let k = factors_of(p, d[lu - 1], mx[l - 1], y);
+    scale_in(p, q, k.u, d, lu);
+    scale_in(p, q, 2, x1, n1);
+    scale_in(p, q, 2, y1, n2);
+    filled(p, q, top, k, mb, mc, mx, nb, nc, nx, x1, n1, y1, n2, d, lu)
+}
+
+// The scaled basis of the lattice of 1 and of the elements over m, n by the denominator d; the polynomial parts of X go into mx and nx.
+fn basis_in(
+    f: Bounds,
+    q: Rapid,
+    r: &[u64; 32],
+    w: &[u64; 32],
+    mb: &mut [u64; 32],
+    mc: &mut [u64; 32],
+    mx: &mut [u64; 32],
+    nb: &mut [u64; 32],
+    nc: &mut [u64; 32],
+    nx: &mut [u64; 32],
+    d: &mut [u64; 32],
+    lu: usize,
+    x1: &mut [u64; 32],
+    n1: usize,
+    y1: &mut [u64; 32],
+    n2: usize,
+) -> [u16; 119]
+    requires { ⌜ BasisOn (given f (now r) (now w)) (q .m) (q .lim) (pair (now mb) (now mc) (now nb) (now nc)) (f .top) (now d) lu (now x1) n1 (now y1) n2 (now mx) (now nx) ⌝ }
+    ensures { λ o. ⌜ Based (given f (now (r .entry)) (now (w .entry))) (pair (now (mb .entry)) (now (mc .entry)) (now (nb .entry)) (now (nc .entry))) (now (d .entry)) (now (x1 .entry)) (now (y1 .entry)) o ⌝ }
+{
+    let o = reduced(f, q, r, w, mb, mc, mx, nb, nc, nx, lu);
+    let l = o.l;
+    if o.swap {
+        finished(f, q, r, w, nb, nc, nx, mb, mc, mx, l, d, lu, x1, n1, y1, n2)
+    } else {
+        finished(f, q, r, w, mb, mc, mx, nb, nc, nx, l, d, lu, x1, n1, y1, n2)
+    }
+}
+
+// The same with rows of its own for the polynomial parts
+pub fn reduced_basis(
+    f: Bounds,
+    q: Rapid,
+    r: &[u64; 32],
+    w: &[u64; 32],
+    mb: &mut [u64; 32],
+    mc: &mut [u64; 32],
+    nb: &mut [u64; 32],
+    nc: &mut [u64; 32],
+    d: &mut [u64; 32],
+    lu: usize,
+    x1: &mut [u64; 32],
+    n1: usize,
+    y1: &mut [u64; 32],
+    n2: usize,
+) -> [u16; 119]
+    requires { ⌜ BasisBy (given f (now r) (now w)) (q .m) (q .lim) (pair (now mb) (now mc) (now nb) (now nc)) (f .top) (now d) lu (now x1) n1 (now y1) n2 ⌝ }
+    ensures { λ o. ⌜ Based (given f (now (r .entry)) (now (w .entry))) (pair (now (mb .entry)) (now (mc .entry)) (now (nb .entry)) (now (nc .entry))) (now (d .entry)) (now (x1 .entry)) (now (y1 .entry)) o ⌝ }
+{
+    let mut mx: [u64; 32] = [0; 32];
+    let mut nx: [u64; 32] = [0; 32];
+    basis_in(
+        f,
+        q,
+        r,
+        w,
+        mb,
+        mc,
+        &mut mx,
+        nb,
+        nc,
+        &mut nx,
+        d,
+        lu,
+        x1,
+        n1,
+        y1,
+        n2,
+    )
+}
+
+// The basis of the order: from the elements r and w, with the denominator 1
+pub fn order(f: Bounds, r: &[u64; 32], w: &[u64; 32]) -> [u16; 119]
+    requires { ⌜ OrderIn (given f (now r) (now w)) (f .top) ⌝ }
+    ensures { λ o. ⌜ Based (given f (now (r .entry)) (now (w .entry))) units unit nothing nothing o ⌝ }
+{
+    let fast = rapid_of(f.p);
+    let mut mb: [u64; 32] = [0; 32];
+    mb[0] = 1;
+    let mut nc = mb;
+    let mut d = mb;
+    let mut mc: [u64; 32] = [0; 32];
+    let mut nb: [u64; 32] = [0; 32];
+    let mut x: [u64; 32] = [0; 32];
+    let mut y: [u64; 32] = [0; 32];
+    reduced_basis(
+        f,
+        fast,
+        r,
+        w,
+        &mut mb,
+        &mut mc,
+        &mut nb,
+        &mut nc,
+        &mut d,
+        1,
+        &mut x,
+        0,
+        &mut y,
+        0,
+    )
+}

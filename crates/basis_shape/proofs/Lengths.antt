@@ -1,0 +1,67 @@
+-- Lengths are settled.
+--   too-long, ends-at        a length against a bound
+--   below-end                all 119 numbers are passed, and past the end stands 0
+--   not-ordered, not-units   no shape, where lengths or leading coefficients are not in order
+--   shape-from               the shape, where the lengths are in order
+use mathlib.Core.Path.{_≡_, ap, _∙_}
+use mathlib.Core.Logic.{inl, inr}
+use mathlib.Core.Bool.{Bool}
+use mathlib.Core.List.{List}
+use Prim.Native.Nat.{ℕ, _-_, _<_, _≤_}
+use native.Mathlib.Omega.{arith}
+use native.Mathlib.Decide.{decLt}
+use lib.ListN.{length, getD, List·getD-eq-default}
+use Rattle.math_rows.specs.Row.{Size}
+use Rattle.poly_rows.proofs.Leaf.{size-one}
+use Rattle.book_bytes.specs.Decides.{Decides}
+use Rattle.basis_shape.specs.Lengths.{Ends, Ordered, Units, Shape}
+
+pub too-long : {l : List ℕ} {n k : ℕ} → Size l n → k < n → Ends l k → ⊥
+too-long {l} {n} {k} s h e = s .top (omega arith) (e (n - 1) (omega arith))
+
+pub ends-at : {l : List ℕ} {n k : ℕ} → Size l n → n ≤ k → Ends l k
+ends-at s h i g = s .above i (omega arith)
+
+pub below-end : (p : ℕ) (B : List ℕ) (i : ℕ) → ((k : ℕ) → k < i → getD B k 0 < p) → length B ≡ 119 → 119 ≤ i → (k : ℕ) → getD B k 0 < p
+below-end p B i h s l k = elim (decLt k 119) [
+  | yes g ↦ h k (omega arith)
+  | no g ↦ let e : getD B k 0 ≡ 0 = List·getD-eq-default B 0 {n = k} (omega arith) in let z : getD B 0 0 < p = h 0 (omega arith) in omega arith
+]
+
+-- lengths are settled
+pub not-ordered : {u mx my nx ny zm zn : List ℕ} {lu lx ly ln lm a b : ℕ} → Size u lu → Size mx lx → Size ny ly → Size nx ln → Size my lm → Size zm a → Size zn b
+    → (Ordered lu lx ly ln lm a b → ⊥) → Shape u mx my nx ny zm zn → ⊥
+not-ordered {lu = lu} {lx} {ly} {ln} {lm} {a} {b} su sx sy sn sm sa sb out s =
+    let e₁ : s .lu ≡ lu = size-one (s .su) su in
+    let e₂ : s .lx ≡ lx = size-one (s .sx) sx in
+    let e₃ : s .ly ≡ ly = size-one (s .sy) sy in
+    let e₄ : s .ln ≡ ln = size-one (s .sn) sn in
+    let e₅ : s .lm ≡ lm = size-one (s .sm) sm in
+    let e₆ : s .a ≡ a = size-one (s .sa) sa in
+    let e₇ : s .b ≡ b = size-one (s .sb) sb in
+    let o = s .ordered in
+    out (record {
+      Y-M = omega (arith, o .Y-M);
+      Z-M = omega (arith, o .Z-M);
+      Z-N = omega (arith, o .Z-N);
+      Y-N = omega (arith, o .Y-N);
+      X-M = omega (arith, o .X-M);
+      X-N = omega (arith, o .X-N);
+      N-large = elim (o .N-large) [ inl h ↦ inl (omega (arith, h)) | inr h ↦ inr (omega (arith, h)) ];
+    })
+
+pub not-units : {u mx my nx ny zm zn : List ℕ} {lu lx ly : ℕ} → Size u lu → Size mx lx → Size ny ly
+    → (Units (getD u (lu - 1) 0) (getD mx (lx - 1) 0) (getD ny (ly - 1) 0) → ⊥) → Shape u mx my nx ny zm zn → ⊥
+not-units {u} {mx} {my} {nx} {ny} su sx sy out s = out (record {
+  U-one = ap (λ n. getD u (n - 1) 0) (size-one su (s .su)) ∙ s .units .U-one;
+  X-two = ap (λ n. getD mx (n - 1) 0) (size-one sx (s .sx)) ∙ s .units .X-two;
+  Y-one = ap (λ n. getD ny (n - 1) 0) (size-one sy (s .sy)) ∙ s .units .Y-one;
+})
+
+-- the shape, where the lengths are in order
+pub shape-from : {o : Bool} {u mx my nx ny zm zn : List ℕ} {lu lx ly ln lm a b : ℕ} → Size u lu → Size mx lx → Size ny ly → Size nx ln → Size my lm → Size zm a → Size zn b
+    → Ordered lu lx ly ln lm a b → Decides o (Units (getD u (lu - 1) 0) (getD mx (lx - 1) 0) (getD ny (ly - 1) 0)) → Decides o (Shape u mx my nx ny zm zn)
+shape-from su sx sy sn sm sa sb w t = record {
+  yes! = λ e. record { lu = _; lx = _; ly = _; ln = _; lm = _; a = _; b = _; su = su; sx = sx; sy = sy; sn = sn; sm = sm; sa = sa; sb = sb; ordered = w; units = t .yes! e };
+  no! = λ e s. not-units su sx sy (t .no! e) s;
+}

@@ -1,0 +1,133 @@
+// Refusal 9: the tests of a record that look at numbers, lengths and leading coefficients alone. Each is two-sided. specs/Lengths.antt has what
+// they decide, proofs/Lengths.antt that lengths are settled. Crate accepts has what they say of an ideal.
+use poly_rows::size;
+ghost use mathlib.Core.Path.{_≡_};
+ghost use Rattle.book_bytes.specs.Decides.{Decides};
+ghost use Rattle.basis_shape.specs.Lengths.{Below, Narrow, NarrowIn, Ordered, Units, Shape, ShapeIn};
+
+fn wide(x: u16) -> u64
+    ensures { λ r. ⌜ r ≡ x ⌝ }
+{
+    x as u64
+}
+
+// Whether every number is below p.
+pub fn below(p: u64, b: [u16; 119]) -> bool
+    ensures { λ o. ⌜ Decides o (Below p b) ⌝ }
+{
+    let mut i: usize = 0;
+    while i < 119 {
+        let v = wide(b[i]);
+        if v >= p {
+            return false;
+        }
+        i += 1;
+    }
+    true
+}
+
+// Whether m1 and n1 end before kb, and m2 and n2 before kc.
+pub fn narrow(
+    kb: usize,
+    kc: usize,
+    m1: &[u64; 32],
+    m2: &[u64; 32],
+    n1: &[u64; 32],
+    n2: &[u64; 32],
+) -> bool
+    requires { ⌜ NarrowIn (now m1) (now m2) (now n1) (now n2) ⌝ }
+    ensures { λ o. ⌜ Decides o (Narrow kb kc (now (m1 .entry)) (now (m2 .entry)) (now (n1 .entry)) (now (n2 .entry))) ⌝ }
+{
+    let a = size(m1);
+    let b = size(m2);
+    let c = size(n1);
+    let d = size(n2);
+    if kb < a {
+        return false;
+    }
+    if kc < b {
+        return false;
+    }
+    if kb < c {
+        return false;
+    }
+    if kc < d {
+        return false;
+    }
+    true
+}
+
+// The inequalities of a reduced basis of a reduced ideal, in lengths: of u, X(M), Y(N), X(N), Y(M), Z(M), Z(N).
+fn ordered(lu: usize, lx: usize, ly: usize, ln: usize, lm: usize, a: usize, b: usize) -> bool
+    ensures { λ o. ⌜ Decides o (Ordered lu lx ly ln lm a b) ⌝ }
+{
+    if lu <= lm {
+        return false;
+    }
+    if lu <= a {
+        return false;
+    }
+    if lu <= b {
+        return false;
+    }
+    if ly < lu {
+        return false;
+    }
+    if lx <= lu {
+        return false;
+    }
+    if lx <= ln {
+        return false;
+    }
+    if ly > lu {
+        return true;
+    }
+    if ln > lu {
+        return true;
+    }
+    false
+}
+
+// The leading coefficients of a scaled basis.
+fn units(u: u64, x: u64, y: u64) -> bool
+    ensures { λ o. ⌜ Decides o (Units u x y) ⌝ }
+{
+    if u != 1 {
+        return false;
+    }
+    if x != 2 {
+        return false;
+    }
+    if y != 1 {
+        return false;
+    }
+    true
+}
+
+// Lengths and leading coefficients of U and of the polynomial parts of X(M), Y(M), X(N), Y(N), Z(M), Z(N).
+pub fn shape(
+    u: &[u64; 32],
+    mx: &[u64; 32],
+    my: &[u64; 32],
+    nx: &[u64; 32],
+    ny: &[u64; 32],
+    zm: &[u64; 32],
+    zn: &[u64; 32],
+) -> bool
+    requires { ⌜ ShapeIn (now u) (now mx) (now my) (now nx) (now ny) (now zm) (now zn) ⌝ }
+    ensures { λ o. ⌜ Decides o (Shape (now (u .entry)) (now (mx .entry)) (now (my .entry)) (now (nx .entry)) (now (ny .entry)) (now (zm .entry)) (now (zn .entry))) ⌝ }
+{
+    let lu = size(u);
+    let lx = size(mx);
+    let ly = size(ny);
+    let ln = size(nx);
+    let lm = size(my);
+    let a = size(zm);
+    let b = size(zn);
+    let ok = ordered(lu, lx, ly, ln, lm, a, b);
+    if ok {
+        units(u[lu - 1], mx[lx - 1], ny[ly - 1])
+    } else {
+        false
+    }
+}

@@ -1,0 +1,54 @@
+-- `book_check::earlier` meets its contract.
+use mathlib.Core.Logic.{⊎-elim}
+use Prim.Native.Nat.{_-_}
+use native.Mathlib.Omega.{arith}
+use borrow.Author.Needs.{needs}
+use Rattle.book_body.specs.Body.{bodyOf}
+use Rattle.book_check.proofs.Search.{Search, start, hit, miss, end, sold-here}
+use Rattle.book_check.proofs.earlier.Statement.{statement}
+use Rattle.book_check.proofs.earlier.Tie as tie
+
+abbrev Inv-loop : tie.InvT-loop
+Inv-loop s b i r₀ j₀ r j = Search s (bodyOf b) i r j
+
+abbrev μ-loop : tie.MeasureT-loop
+μ-loop s b i r₀ j₀ r j = i - j
+
+loop-holds : tie.Need-loop-holds Inv-loop μ-loop
+loop-holds c = start
+
+part-of-requires : tie.Need-part-of-requires Inv-loop μ-loop
+part-of-requires c κs = let s = c .before .before .before .before .pre in record { marked = s .marked; listed = s .listed; there = omega (arith, s .within, c .before .loop .inv .within) }
+
+one-field-requires : tie.Need-one-field-requires Inv-loop μ-loop
+one-field-requires c κs = let s = c .before .before .before .before .before in sold-here (s .args .s .now) (s .args .b .now) _ (s .args .i) (c .before .before .loop .j) (s .pre) (omega (arith, c .before .before .loop .inv .within)) (c .part-of .ensures)
+
+add-j : tie.Need-add-j Inv-loop μ-loop
+add-j c = search needs
+
+loop-less : tie.Need-loop-less Inv-loop μ-loop
+loop-less c = search needs
+
+loop-again : tie.Need-loop-again Inv-loop μ-loop
+loop-again c =
+    let w = c .before .before .before .before .loop .inv in
+    let o = c .before .before .part-of .ensures in
+    let d = c .before .one-field .ensures in
+    ⊎-elim (λ u. hit w (u .1) (omega arith) o (d .yes! (u .0 .taken))) (λ u. miss w (u .1) o (d .no! (u .0 .left))) (c .if1 .came)
+
+returns : tie.Need-returns Inv-loop μ-loop
+returns c = end (c .before .loop .inv) (omega arith)
+
+pub earlier-spec : {M : Type 1} → statement M
+earlier-spec =
+    tie.close
+    (tie.spec
+    Inv-loop
+    μ-loop
+    loop-holds
+    part-of-requires
+    one-field-requires
+    add-j
+    loop-less
+    loop-again
+    returns)

@@ -1,0 +1,29 @@
+-- Crates book_bytes, book_body and book: what their own proofs do not say already.
+use mathlib.Core.Path.{_≡_, sym, _∙_}
+use mathlib.Core.List.{List}
+use Prim.Native.Nat.{ℕ}
+use Rattle.base_answers.specs.declared.Period.{Period}
+use Rattle.book_bytes.specs.Bytes.{Put}
+use Rattle.book_body.specs.Body.{FieldSays, bodyOf}
+use Rattle.book_check.specs.Answer.{answerSays, requestSays, Tells, AskTells}
+use Rattle.book_check.specs.declared.Answer.{Answer}
+use Rattle.book_check.specs.declared.Request.{Request}
+use Rattle.book_check.proofs.One.{field-one, answer-one, request-one, tells-one, ask-one}
+
+-- book_bytes: read_list, put_two, put_four, put_list, copy_in, lift
+pub put-one : {d : List ℕ} {at : ℕ} {x : List ℕ} {k r s : ℕ} {e f : List ℕ} → Put d at x k r e → Put d at x k s f → (r ≡ s) × (e ≡ f)
+put-one h k = (h .next ∙ sym (k .next), h .done ∙ sym (k .done))
+
+-- ---- book_body
+pub field-refusal-one : (s : List ℕ) (n m : ℕ) → FieldSays (bodyOf s) n → FieldSays (bodyOf s) m → n ≡ m
+field-refusal-one s = field-one (bodyOf s)
+
+pub period-of-one : (s : List ℕ) (a b : Period) → a .0 ≡ bodyOf s .period → b .0 ≡ bodyOf s .period → a ≡ b
+period-of-one s a b e f = λ i. record { 0 = (e ∙ sym f) i }
+
+-- ---- book: the answers themselves, not only what they say in document 01's numbers
+pub check-one : {s : List ℕ} (a b : Answer) → Tells s (answerSays a) → Tells s (answerSays b) → a ≡ b
+check-one {s} a b h k = answer-one a b (tells-one s h k)
+
+pub ask-answer-one : {s : List ℕ} {i : ℕ} (a b : Request) → AskTells s i (requestSays a) → AskTells s i (requestSays b) → a ≡ b
+ask-answer-one {s} a b h k = request-one a b (ask-one s h k)

@@ -1,0 +1,127 @@
+-- Crates prime and poly. The laws of poly speak of a prime modulus: so do the theorems. `size-one` is also for long.
+use mathlib.Core.Path.{_≡_, refl, sym, ap, _∙_}
+use mathlib.Core.Logic.{_⊎_, inl, inr}
+use mathlib.Core.Bool.{Bool, true, false}
+use mathlib.Core.List.{List, [], _∷_}
+use Prim.Native.Nat.{ℕ, _+_, _-_, _%_}
+use native.Mathlib.Omega.{arith}
+use lib.Seq.{ext-getD}
+use Rattle.math_ring.proofs.Solve.{var, minus, _:+_, solve}
+use Rattle.math_fp.specs.Fp.{Prime}
+use Rattle.math_valued.specs.Val.{Valued}
+use Rattle.math_valued.specs.Degree.{Has}
+use Rattle.math_valued.specs.Polynomial.{polys, Poly, Divides, IsUnit}
+use Rattle.math_valued.proofs.Degree.{has-move}
+use Rattle.math_valued.proofs.Polynomial.{P-path, view, not-zero, factor, const-unit}
+use Rattle.math_valued.proofs.Coprime.{gcd-greatest, zero-divides}
+use Rattle.math_valued.proofs.Factor.{free-no-square, apart-no-common}
+use Rattle.math_rows.specs.Made.{reading}
+use Rattle.math_rows.specs.Row.{Size, row}
+use Rattle.math_rows.proofs.Rows.{row-poly, size-has-at}
+use Rattle.math_rows.proofs.Floors.{sized}
+use Rattle.math_rows.proofs.Quotient.{division-unique}
+use Rattle.math_rows.proofs.Unique.{row-unique}
+use Rattle.num_prime.specs.Table.{PrimeTest}
+use Rattle.poly_rows.specs.Leaf.{Summed, Difference, Opposite, ScaleOut, Crossed, CrossOut, Product, Listed}
+use Rattle.poly_rows.specs.Terms.{More}
+use Rattle.poly_rows.specs.Division.{DivIn, Quotient, Divided}
+use Rattle.poly_rows.specs.Factors.{polynomial, Over, OverBoth, Common, SquareTest, CoprimeTest}
+use Rattle.poly_rows.specs.declared.QuotRem.{QuotRem}
+use Rattle.poly_rows.proofs.Leaf as leaf
+use Rattle.poly_rows.proofs.Division.{div-pos, divided-unique}
+use Rattle.demands_inner.proofs.Rows.{by-row}
+
+pub is-prime-one : {p : ℕ} (r s : Bool) → PrimeTest p r → PrimeTest p s → r ≡ s
+is-prime-one true true h k = refl
+is-prime-one false false h k = refl
+is-prime-one true false h k = let (a, b) = h .yes! refl in absurd (k .no! refl a b)
+is-prime-one false true h k = let (a, b) = k .yes! refl in absurd (h .no! refl a b)
+
+-- ---- for every modulus: size, size_from, from_list
+pub size-one : {l : List ℕ} {n m : ℕ} → Size l n → Size l m → n ≡ m
+size-one h k = leaf.size-one h k
+
+pub from-list-one : {l r s : List ℕ} → Listed l r → Listed l s → r ≡ s
+from-list-one {l} {r} {s} h k = ext-getD 0 r s (h .size ∙ sym (k .size)) (λ i _. h .each i ∙ sym (k .each i))
+
+-- one class mod p
+pub more-one : {p s x y r r′ : ℕ} → More p s x y r → More p s x y r′ → r % p ≡ r′ % p
+more-one h k = h .law ∙ sym (k .law)
+
+-- ---- for a prime
+module _ {p : ℕ} (pr : Prime p) where
+  pub add-one : {x y r s : List ℕ} → Summed p x y r → Summed p x y s → r ≡ s
+  add-one h k = by-row (reading p pr) (h .is-row) (k .is-row) (h .law pr) (k .law pr)
+
+  pub sub-one : {x y r s : List ℕ} → Difference p x y r → Difference p x y s → r ≡ s
+  sub-one h k = by-row (reading p pr) (h .is-row) (k .is-row) (h .law pr) (k .law pr)
+
+  pub minus-one : {x r s : List ℕ} → Opposite p x r → Opposite p x s → r ≡ s
+  minus-one h k = by-row (reading p pr) (h .is-row) (k .is-row) (h .law pr) (k .law pr)
+
+  pub cross-one : {a : ℕ} {x : List ℕ} {c k : ℕ} {y r s : List ℕ} → Crossed p a x c k y r → Crossed p a x c k y s → r ≡ s
+  cross-one h k = by-row (reading p pr) (h .is-row) (k .is-row) (h .law pr) (k .law pr)
+
+  pub scale-in-one : {c : ℕ} {x : List ℕ} {n : ℕ} {r s : List ℕ} → ScaleOut p c x n r → ScaleOut p c x n s → r ≡ s
+  scale-in-one h k = by-row (reading p pr) (h .short .is-row) (k .short .is-row) (h .scaled .law pr) (k .scaled .law pr)
+
+  pub cross-in-one : {a : ℕ} {x : List ℕ} {c k : ℕ} {y : List ℕ} {n : ℕ} {r s : List ℕ} → CrossOut p a x c k y n r → CrossOut p a x c k y n s → r ≡ s
+  cross-in-one h k = cross-one (h .crossed) (k .crossed)
+
+  pub mul-one : {x y r s : List ℕ} → Product p x y r → Product p x y s → r ≡ s
+  mul-one h k = by-row (reading p pr) (h .is-row) (k .is-row) (h .law pr) (k .law pr)
+
+  -- what is left over, a − q b, is below b
+  abbrev left : List ℕ → List ℕ → List ℕ → reading p pr .𝓥 .L .El
+  left a b v = let ρ = reading p pr in let o = ρ .𝓥 .L .ops in o .add (row ρ a) (o .neg (o .mul (row ρ v) (row ρ b)))
+
+  back : (a b v : List ℕ) → row (reading p pr) a ≡ reading p pr .𝓥 .L .ops .add (reading p pr .𝓥 .L .ops .mul (row (reading p pr) v) (row (reading p pr) b)) (left a b v)
+  back a b v = let ρ = reading p pr in solve (ρ .𝓥 .L) (var 0) (var 1 :+ (var 0 :+ minus (var 1))) tt (row ρ a ∷ ρ .𝓥 .L .ops .mul (row ρ v) (row ρ b) ∷ [])
+
+  pub quotient-one : {a b q q′ : List ℕ} {il : ℕ} → DivIn p a b il → Quotient p a b q → Quotient p a b q′ → q ≡ q′
+  quotient-one {a} {b} {q} {q′} {il} h g f =
+      let ρ = reading p pr in
+      let (m, s) = sized b in
+      let d = size-has-at ρ m (h .hb) s (div-pos p a b il m h s) in
+      let (x, y) = division-unique ρ (row ρ a) (row ρ b) (row ρ q) (left a b q) (row ρ q′) (left a b q′) (m - 1) d (row-poly ρ q) (row-poly ρ q′) (back a b q) (back a b q′) (g .law pr (m - 1) d) (f .law pr (m - 1) d) in
+      row-unique ρ (g .is-row) (f .is-row) x
+
+  pub divide-one : {a b : List ℕ} {il : ℕ} (d d′ : QuotRem) → DivIn p a b il → Divided p a b (d .q) (d .r) → Divided p a b (d′ .q) (d′ .r) → d ≡ d′
+  divide-one {a} {b} {il} d d′ h g f =
+      let (x, y) = divided-unique p pr a b il (d .q) (d .r) (d′ .q) (d′ .r) h g f in
+      λ i. record { q = x i; r = y i }
+
+-- ---- tests
+pub squarefree-one : {p : ℕ} {x : List ℕ} (r s : Bool) → Over p x → SquareTest p x r → SquareTest p x s → r ≡ s
+squarefree-one true true g h k = refl
+squarefree-one false false g h k = refl
+squarefree-one {p} {x} true false g h k = absurd (free-no-square (reading p (g .prime) .𝓥) (polynomial p (g .prime) x) (h (g .prime)) (k (g .prime)))
+squarefree-one {p} {x} false true g h k = absurd (free-no-square (reading p (g .prime) .𝓥) (polynomial p (g .prime) x) (k (g .prime)) (h (g .prime)))
+
+pub coprime-one : {p : ℕ} {x y : List ℕ} (r s : Bool) → OverBoth p x y → CoprimeTest p x y r → CoprimeTest p x y s → r ≡ s
+coprime-one true true g h k = refl
+coprime-one false false g h k = refl
+coprime-one {p} {x} {y} true false g h k = absurd (apart-no-common (reading p (g .prime) .𝓥) (polynomial p (g .prime) x) (polynomial p (g .prime) y) (h (g .prime)) (k (g .prime)))
+coprime-one {p} {x} {y} false true g h k = absurd (apart-no-common (reading p (g .prime) .𝓥) (polynomial p (g .prime) x) (polynomial p (g .prime) y) (k (g .prime)) (h (g .prime)))
+
+-- ---- a greatest common divisor is settled up to a constant
+module _ (𝓥 : Valued) where
+  divisors : (g h : Poly 𝓥) → Divides 𝓥 g h → Divides 𝓥 h g → (v : Poly 𝓥) × IsUnit 𝓥 v × (h ≡ polys 𝓥 .ops .mul g v)
+  divisors g h (a, e) (b, f) = go (view 𝓥 g) (view 𝓥 h)
+    where
+      go : (g .0 ≡ 𝓥 .L .ops .𝟎) ⊎ ((n : ℕ) × Has 𝓥 (g .0) n) → (h .0 ≡ 𝓥 .L .ops .𝟎) ⊎ ((n : ℕ) × Has 𝓥 (h .0) n) → (v : Poly 𝓥) × IsUnit 𝓥 v × (h ≡ polys 𝓥 .ops .mul g v)
+      go (inl z) y = (polys 𝓥 .ops .𝟏, (polys 𝓥 .ops .𝟏, sym (polys 𝓥 .laws .mul-one (polys 𝓥 .ops .𝟏))), P-path 𝓥 {a = h} {b = g} (zero-divides 𝓥 g h z (a, e) ∙ sym z) ∙ sym (polys 𝓥 .laws .mul-one g))
+      go (inr (m, x)) (inl z) = absurd (not-zero 𝓥 x (zero-divides 𝓥 h g z (b, f)))
+      go (inr (m, x)) (inr (n, y)) =
+          let (i, s, p) = factor 𝓥 g a h x y e in
+          let (j, t, q) = factor 𝓥 h b g y x f in
+          let z : i ≡ 0 = omega (arith, p, q) in
+          (a, const-unit 𝓥 a (has-move 𝓥 0 0 s (ap (λ k. k + 0) z)), e)
+
+pub gcd-one : {p : ℕ} {x y r s : List ℕ} (g : OverBoth p x y) → Common p x y r → Common p x y s
+    → (v : Poly (reading p (g .prime) .𝓥)) × IsUnit (reading p (g .prime) .𝓥) v × (polynomial p (g .prime) s ≡ polys (reading p (g .prime) .𝓥) .ops .mul (polynomial p (g .prime) r) v)
+gcd-one {p} {x} {y} {r} {s} g h k =
+    let 𝓥 = reading p (g .prime) .𝓥 in
+    let c = h .law (g .prime) in
+    let d = k .law (g .prime) in
+    divisors 𝓥 (polynomial p (g .prime) r) (polynomial p (g .prime) s) (gcd-greatest 𝓥 _ d (c .left) (c .right)) (gcd-greatest 𝓥 _ c (d .left) (d .right))

@@ -1,0 +1,33 @@
+-- Crate sized: what is in the lent row, for a prime p, and its length.
+use mathlib.Core.Path.{_≡_, sym, subst}
+use mathlib.Core.Bool.{Bool}
+use mathlib.Core.List.{List}
+use Prim.Native.Nat.{ℕ}
+use Rattle.math_fp.specs.Fp.{Prime}
+use Rattle.math_rows.specs.Made.{reading}
+use Rattle.math_rows.specs.Row.{Size}
+use Rattle.poly_rows.specs.Division.{DivIn}
+use Rattle.poly_lent.specs.Sized.{Mixed, BothOut, TimesOut, DetOut, QuotientBy, QuotientOut}
+use Rattle.demands_inner.proofs.Rows.{by-row}
+use Rattle.demands_inner.proofs.Poly.{size-one, mul-one, quotient-one}
+
+-- one row has one length
+both : {o o′ : List ℕ} {l l′ : ℕ} → o ≡ o′ → Size o l → Size o′ l′ → (o ≡ o′) × (l ≡ l′)
+both {l = l} e s s′ = (e, size-one (subst (λ z. Size z l) e s) s′)
+
+module _ {p : ℕ} (pr : Prime p) where
+  pub mix-in-one : {e : Bool} {x : List ℕ} {n : ℕ} {y : List ℕ} {m : ℕ} {r o o′ : List ℕ} → Mixed p e x n y m r o → Mixed p e x n y m r o′ → o ≡ o′
+  mix-in-one h k = by-row (reading p pr) (h .is-row) (k .is-row) (h .law pr) (k .law pr)
+
+  pub both-in-one : {e f : Bool} {x y z v r o o′ : List ℕ} {l l′ : ℕ} → BothOut p e x y f z v r o l → BothOut p e x y f z v r o′ l′ → (o ≡ o′) × (l ≡ l′)
+  both-in-one h k = both (by-row (reading p pr) (h .is-row) (k .is-row) (h .law pr) (k .law pr)) (h .size) (k .size)
+
+  pub times-in-one : {x y o o′ : List ℕ} {l l′ : ℕ} → TimesOut p x y o l → TimesOut p x y o′ l′ → (o ≡ o′) × (l ≡ l′)
+  times-in-one h k = both (mul-one pr (h .product) (k .product)) (h .size) (k .size)
+
+  pub det-in-one : {x y z v o o′ : List ℕ} {l l′ : ℕ} → DetOut p x y z v o l → DetOut p x y z v o′ l′ → (o ≡ o′) × (l ≡ l′)
+  det-in-one h k = both (by-row (reading p pr) (h .is-row) (k .is-row) (h .law pr) (k .law pr)) (h .size) (k .size)
+
+  pub quotient-in-one : {mul lim : ℕ} {a : List ℕ} {n : ℕ} {b : List ℕ} {m il : ℕ} {r o o′ : List ℕ} {l l′ : ℕ} → QuotientBy p mul lim a n b m il r
+      → QuotientOut p a b o l → QuotientOut p a b o′ l′ → (o ≡ o′) × (l ≡ l′)
+  quotient-in-one g h k = both (quotient-one pr (g .inp) (h .quotient) (k .quotient)) (h .size) (k .size)

@@ -1,0 +1,59 @@
+// The public functions of bases. specs/Answer.antt has their contracts.
+ghost use Rattle.basis_field.specs.Known.{Known};
+ghost use Rattle.door_basis.specs.Answer.{First, Orders, Checks};
+
+// The number of the refusal beside the basis; with a refusal the rows are zeros.
+pub struct Ordered {
+    pub refusal: u32,
+    pub basis: [u16; 119],
+}
+
+// The basis of the order of an opened field.
+pub fn first(c: field_series::Cubic) -> [u16; 119]
+    requires { ⌜ Known c ⌝ }
+    ensures { λ b. ⌜ First c b ⌝ }
+{
+    let f = c.field;
+    let r = c.r;
+    let w = c.w;
+    let b = basis_reduce::Bounds {
+        p: f.p,
+        dr: f.dr,
+        dw: f.dw,
+        top: f.dr + f.dw + 1,
+    };
+    basis_scale::order(b, &r, &w)
+}
+
+// The basis of the order of the field p, G, H.
+pub fn order(p: u64, g: &[u64], h: &[u64]) -> Ordered
+    ensures { λ o. ⌜ Orders p (now (g .entry)) (now (h .entry)) o ⌝ }
+{
+    let e = field_series::open_with_series(p, g, h);
+    let n = e.refusal;
+    if n != 0 {
+        let z: [u16; 119] = [0; 119];
+        return Ordered {
+            refusal: n,
+            basis: z,
+        };
+    }
+    let b = first(e.cubic);
+    Ordered {
+        refusal: 0,
+        basis: b,
+    }
+}
+
+// The number of the refusal of 119 numbers as a record of the field p, G, H: 1 to 8, then 9; 0 for a record.
+pub fn check(p: u64, g: &[u64], h: &[u64], rows: [u16; 119]) -> u32
+    ensures { λ n. ⌜ Checks p (now (g .entry)) (now (h .entry)) rows n ⌝ }
+{
+    let e = field_series::open_with_series(p, g, h);
+    let n = e.refusal;
+    if n != 0 {
+        return n;
+    }
+    let ok = basis_accept::accepts(e.cubic, rows);
+    if ok { 0 } else { 9 }
+}

@@ -1,0 +1,17 @@
+-- `door_step::next` meets its contract.
+use native.Mathlib.Omega.{arith}
+use Rattle.door_step.proofs.Kept.{next-in, next-out, sum-small}
+use Rattle.door_step.proofs.next.Statement.{statement}
+use Rattle.door_step.proofs.next.Tie as tie
+
+add-advanced : tie.Need-add-advanced
+add-advanced c = omega (arith, sum-small _ _ (c .before .before .before .before .before .before .before .before .before .before .pre))
+
+advanced-requires : tie.Need-advanced-requires
+advanced-requires c κs = next-in _ _ (c .before .before .before .before .before .before .before .before .before .before .before .before .before .pre)
+
+returns : tie.Need-returns
+returns c = next-out _ _ _ (c .advanced .ensures)
+
+pub next-spec : {M : Type 1} → statement M
+next-spec = tie.close (tie.spec add-advanced advanced-requires returns)

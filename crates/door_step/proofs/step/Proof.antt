@@ -1,0 +1,34 @@
+-- `door_step::step` meets its contract, case by case.
+use borrow.Author.Needs.{needs}
+use Rattle.door_step.proofs.Answers.{known-of, answers-refused, answers-no-record, next-of, answers-next}
+use Rattle.door_step.proofs.step.Statement.{statement}
+use Rattle.door_step.proofs.step.Tie as tie
+use Rattle.door_step.proofs.step.Reads as reads
+use Rattle.door_step.proofs.step.Lts as lts
+
+open-with-series-requires : tie.Need-open-with-series-requires
+open-with-series-requires c κs = search needs
+
+no-step-requires : tie.Need-no-step-requires
+no-step-requires c κs = search needs
+
+returns : tie.Need-returns
+returns c = answers-refused (c .before .before .open-with-series .ensures) (c .before .if1 .taken) (c .no-step .ensures)
+
+accepts-requires : tie.Need-accepts-requires
+accepts-requires c κs = known-of (c .before .before .open-with-series .ensures) (c .before .if1 .left)
+
+next-requires : tie.Need-next-requires
+next-requires c κs = next-of (c .before .before .before .before .open-with-series .ensures) (c .before .before .before .if1 .left) (c .before .accepts .ensures) (c .if2 .taken)
+
+returns-2 : tie.Need-returns-2
+returns-2 c = answers-next (c .before .before .before .before .before .before .open-with-series .ensures) (c .before .before .before .before .before .if1 .left) (c .before .before .before .accepts .ensures) (c .before .before .if2 .taken) _ (c .before .next .ensures)
+
+no-step-requires-2 : tie.Need-no-step-requires-2
+no-step-requires-2 c κs = search needs
+
+returns-3 : tie.Need-returns-3
+returns-3 c = answers-no-record (c .before .before .before .before .before .open-with-series .ensures) (c .before .before .before .before .if1 .left) (c .before .before .accepts .ensures) (c .before .if2 .left) (c .no-step2 .ensures)
+
+pub step-spec : {M : Type 1} → statement M
+step-spec = tie.close (tie.spec open-with-series-requires no-step-requires returns accepts-requires next-requires no-step-requires-2 returns-2 returns-3)

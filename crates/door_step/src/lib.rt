@@ -1,0 +1,63 @@
+// The step from a record, in an opened field and with all its refusals. specs/Answer.antt has the contracts.
+use basis_accept::accepts;
+use step_next::Advance;
+use step_next::advanced;
+ghost use mathlib.Core.Path.{_≡_};
+ghost use Rattle.door_step.specs.Answer.{NextIn, NextOut, refused, Answers};
+
+// The number of the refusal, the degree of the m divided by and the next record; with a refusal the others are 0.
+pub struct Stepped {
+    pub refusal: u32,
+    pub degree: u64,
+    pub basis: [u16; 119],
+}
+
+// The step in an opened field.
+pub fn next(c: field_series::Cubic, b: [u16; 119]) -> Advance
+    requires { ⌜ NextIn c b ⌝ }
+    ensures { λ o. ⌜ NextOut c b o ⌝ }
+{
+    let f = c.field;
+    let r = c.r;
+    let w = c.w;
+    let g = f.g;
+    let h = f.h;
+    let gh = f.gh;
+    advanced(f.p, &g, &h, &gh, f.dr + f.dw, f.dr, f.dw, &r, &w, &b)
+}
+
+// A refusal of the step: the other results are 0.
+fn no_step(n: u32) -> Stepped
+    ensures { λ s. ⌜ s ≡ refused n ⌝ }
+{
+    let z: [u16; 119] = [0; 119];
+    Stepped {
+        refusal: n,
+        degree: 0,
+        basis: z,
+    }
+}
+
+// The step from a record: the refusals 1 to 8, then 9, else the next record and the degree of the m divided by.
+pub fn step(p: u64, g: &[u64], h: &[u64], rows: [u16; 119]) -> Stepped
+    ensures { λ s. ⌜ Answers p (now (g .entry)) (now (h .entry)) rows s ⌝ }
+{
+    let e = field_series::open_with_series(p, g, h);
+    let n = e.refusal;
+    if n != 0 {
+        return no_step(n);
+    }
+    let c = e.cubic;
+    let good = accepts(c, rows);
+    if good {
+        let o = next(c, rows);
+        let b = o.basis;
+        Stepped {
+            refusal: 0,
+            degree: o.degree,
+            basis: b,
+        }
+    } else {
+        no_step(9)
+    }
+}

@@ -1,0 +1,57 @@
+-- The answers of `transfer`, case by case.
+--   carry-asks        two accepted pairs and six rows: what the inner functions ask
+--   too-long, apart   14: the slice has another length; the pairs are not of one field
+--   straight-done, swapped-done   0: carried over, in the one order and in the other
+use mathlib.Core.Path.{_≡_, refl, subst}
+use mathlib.Core.Bool.{Bool, true, false}
+use mathlib.Core.List.{List}
+use Prim.Native.Nat.{ℕ, _*_, _/_, _%_, _≤_}
+use native.Mathlib.Omega.{arith}
+use lib.ListN.{length}
+use Rattle.pair_agree.specs.Answer.{Pairs, Refusals}
+use Rattle.pair_agree.specs.Rows.{straight, crossed}
+use Rattle.pair_agree.specs.declared.Pairing.{Pairing}
+use Rattle.pair_agree.specs.declared.Pairing.the-variants.{Straight, Swapped, Apart}
+use Rattle.pair_agree.proofs.Outcomes.{both-of, apart-none}
+use Rattle.door_transfer.specs.Transfer.{Lent, Transfers, unfit, carried}
+use Rattle.door_transfer.specs.Code.{CarryIn, Carried, CarriedSwapped, Unfit}
+
+module _ (p : ℕ) (G H G′ H′ rows : List ℕ) {n : ℕ} (e : n ≡ 0) (r : Refusals p G H G′ H′ n) where
+  none : Refusals p G H G′ H′ 0
+  none = subst (Refusals p G H G′ H′) e r
+
+  -- six equal rows have one length
+  lent-rule : (c : ℕ) → Lent c rows → (length rows % 6 ≡ 0) × (length rows ≤ 24576)
+  lent-rule c t = let w : length rows ≡ 6 * c = t .whole in let l : c ≤ 4096 = t .room in (omega arith, omega arith)
+
+  pub too-long : {b : Bool} → Unfit (length rows) b → b ≡ true → Transfers p G H G′ H′ rows 14 rows
+  too-long u f = unfit none (λ c t o. subst (Unfit (length rows)) f u (lent-rule c t)) refl refl
+
+  module _ {b : Bool} (u : Unfit (length rows) b) (f : b ≡ false) where
+    rule : (length rows % 6 ≡ 0) × (length rows ≤ 24576)
+    rule = subst (Unfit (length rows)) f u
+
+    lent : Lent (length rows / 6) rows
+    lent = let (a, l) = rule in record { room = omega arith; whole = omega arith }
+
+    pub carry-asks : CarryIn p G H G′ H′ (length rows / 6) rows
+    carry-asks = let t = both-of e r in record {
+      modulus = record { prime = t .first .prime; kind = t .first .kind; small = omega (arith, t .first .high) };
+      first = record { degG = t .first .degG; degH = t .first .degH; listG = t .first .listG; listH = t .first .listH };
+      second = record { degG = t .second .degG; degH = t .second .degH; listG = t .second .listG; listH = t .second .listH };
+      whole = lent .whole;
+    }
+
+    module _ {k : Pairing} (w : Pairs p G H G′ H′ k) where
+      pub apart : k ≡ Apart → Transfers p G H G′ H′ rows 14 rows
+      apart g = unfit none (λ c t. apart-none w g) refl refl
+
+      pub straight-done : k ≡ Straight → (rows′ : List ℕ) → Carried p G H G′ H′ (length rows / 6) rows rows′ → Transfers p G H G′ H′ rows 0 rows′
+      straight-done g rows′ d =
+          let (a, b) = subst (Pairs p G H G′ H′) g w in
+          carried none (length rows / 6) lent refl (d .size) (straight a b (d .x) (d .y) (d .law) (d .E) (d .F))
+
+      pub swapped-done : k ≡ Swapped → (rows′ : List ℕ) → CarriedSwapped p G H G′ H′ (length rows / 6) rows rows′ → Transfers p G H G′ H′ rows 0 rows′
+      swapped-done g rows′ d =
+          let (a, b) = subst (Pairs p G H G′ H′) g w in
+          carried none (length rows / 6) lent refl (d .size) (crossed a b (d .x) (d .y) (d .law) (d .E) (d .F))

@@ -1,0 +1,105 @@
+-- Six rows of c numbers in one list.
+--   Three, six-ext   three rows that are the same in two lists; six of them, and the lists are equal
+--   one-of           rows carry over only between pairs of one field
+--   rows-one         the rows and the pairs settle the rows carried over
+--   carried-below    numbers that were multiplied are below p
+--   carried-each     rows of numbers below p become rows of numbers below p
+use mathlib.Core.Path.{_≡_, sym, ap, _∙_, subst}
+use mathlib.Core.Logic.{inl, inr}
+use mathlib.Core.List.{List}
+use Prim.Native.Nat.{ℕ, _+_, _*_, _-_, _%_, _<_, _≤_}
+use native.Mathlib.Nat.{mod-lt}
+use native.Mathlib.Omega.{arith}
+use native.Mathlib.Decide.{decLt}
+use lib.ListN.{length, getD, List·getD-eq-default}
+use lib.Seq.{ext-getD}
+use Rattle.field_open.specs.Refusal.{Accepted}
+use Rattle.pair_agree.specs.OneField.{OneField}
+use Rattle.pair_agree.specs.Rows.{Stays, Times, Straight, Crossed, RowsCarry, straight, crossed}
+use Rattle.pair_agree.specs.Answer.{Both}
+use Rattle.pair_agree.proofs.Lists.{leading-not}
+use Rattle.pair_agree.proofs.Relation.{not-both}
+use Rattle.pair_agree.proofs.Laws.{law-one}
+
+-- ---- what holds at three rows holds from the first to the last
+pub three : (c at : ℕ) (P : ℕ → Type 0) → ((i : ℕ) → i < c → P (at + i)) → ((i : ℕ) → i < c → P (at + c + i)) → ((i : ℕ) → i < c → P (at + c + c + i))
+    → (i : ℕ) → at ≤ i → i < at + c + c + c → P i
+three c at P a b d i u v = elim (decLt i (at + c)) [
+  | yes k ↦ subst P (let o : at + (i - at) ≡ i = omega arith in o) (a (i - at) (omega arith))
+  | no k ↦ elim (decLt i (at + c + c)) [
+    | yes m ↦ subst P (let o : at + c + (i - (at + c)) ≡ i = omega arith in o) (b (i - (at + c)) (omega arith))
+    | no m ↦ subst P (let o : at + c + c + (i - (at + c + c)) ≡ i = omega arith in o) (d (i - (at + c + c)) (omega arith))
+  ]
+]
+
+six : (c : ℕ) (P : ℕ → Type 0) → ((i : ℕ) → 0 ≤ i → i < 0 + c + c + c → P i) → ((i : ℕ) → c + c + c ≤ i → i < c + c + c + c + c + c → P i) → (i : ℕ) → i < 6 * c → P i
+six c P a b i u = elim (decLt i (c + c + c)) [ yes k ↦ a i (omega arith) (omega arith) | no k ↦ b i (omega arith) (omega arith) ]
+
+abbrev pub Three : ℕ → List ℕ → ℕ → List ℕ → Type 0
+Three c l at l′ = Stays c l at l′ × Stays c l (at + c) l′ × Stays c l (at + c + c) l′
+
+pub six-ext : (c : ℕ) (l l′ : List ℕ) → length l ≡ 6 * c → length l′ ≡ length l → Three c l 0 l′ → Three c l (c + c + c) l′ → l′ ≡ l
+six-ext c l l′ w e (a, b, d) (a′, b′, d′) =
+    ext-getD 0 l′ l e (λ i u. six c (λ j. getD l′ j 0 ≡ getD l j 0) (three c 0 (λ j. getD l′ j 0 ≡ getD l j 0) a b d) (three c (c + c + c) (λ j. getD l′ j 0 ≡ getD l j 0) a′ b′ d′) i (omega arith))
+
+-- ---- the rows are settled
+pub one-of : {p c : ℕ} {G H G′ H′ l l′ : List ℕ} → RowsCarry p G H G′ H′ c l l′ → OneField p G H G′ H′
+one-of (straight a b x y w s t) = inl (a, b)
+one-of (crossed a b x y w s t) = inr (a, b)
+
+times-one : (p c k k′ : ℕ) (l l′ l″ : List ℕ) (a b : ℕ) → k ≡ k′ → Times p c k l a l′ b → Times p c k′ l a l″ b → Stays c l″ b l′
+times-one p c k k′ l l′ l″ a b e s t i u = s i u ∙ ap (λ z. (z * getD l (a + i) 0) % p) e ∙ sym (t i u)
+
+module _ (p c x y x′ y′ : ℕ) (l l′ l″ : List ℕ) (at : ℕ) (e : (x ≡ x′) × (y ≡ y′)) where
+  straight-one : Straight p c x y l at l′ → Straight p c x′ y′ l at l″ → Three c l″ at l′
+  straight-one s t = (λ i u. s .A i u ∙ sym (t .A i u), times-one p c x x′ l l′ l″ _ _ (e .0) (s .B) (t .B), times-one p c y y′ l l′ l″ _ _ (e .1) (s .C) (t .C))
+
+  crossed-one : Crossed p c x y l at l′ → Crossed p c x′ y′ l at l″ → Three c l″ at l′
+  crossed-one s t = (λ i u. s .A i u ∙ sym (t .A i u), times-one p c x x′ l l′ l″ _ _ (e .0) (s .B) (t .B), times-one p c y y′ l l′ l″ _ _ (e .1) (s .C) (t .C))
+
+module _ {p : ℕ} {G H G′ H′ : List ℕ} (t : Both p G H G′ H′) where
+  abbrev P₁ : Accepted p G H
+  P₁ = t .first
+
+  abbrev P₂ : Accepted p G′ H′
+  P₂ = t .second
+
+  pub rows-one : (c : ℕ) (l l′ l″ : List ℕ) → length l ≡ 6 * c → length l′ ≡ length l → length l″ ≡ length l → RowsCarry p G H G′ H′ c l l′ → RowsCarry p G H G′ H′ c l l″ → l′ ≡ l″
+  rows-one c l l′ l″ w e f (straight a b x y k s r) (straight a′ b′ x′ y′ k′ s′ r′) =
+      let q = law-one p (P₁ .prime) (P₁ .kind) (leading-not p (P₁ .prime) (P₂ .listG)) (leading-not p (P₁ .prime) (P₂ .listH)) (leading-not p (P₁ .prime) (P₁ .listH)) k k′ in
+      six-ext c l″ l′ (f ∙ w) (e ∙ sym f) (straight-one p c x y x′ y′ l l′ l″ 0 q s s′) (straight-one p c x y x′ y′ l l′ l″ (c + c + c) q r r′)
+  rows-one c l l′ l″ w e f (crossed a b x y k s r) (crossed a′ b′ x′ y′ k′ s′ r′) =
+      let q = law-one p (P₁ .prime) (P₁ .kind) (leading-not p (P₁ .prime) (P₂ .listG)) (leading-not p (P₁ .prime) (P₂ .listH)) (leading-not p (P₁ .prime) (P₁ .listG)) k k′ in
+      six-ext c l″ l′ (f ∙ w) (e ∙ sym f) (crossed-one p c x y x′ y′ l l′ l″ 0 q s s′) (crossed-one p c x y x′ y′ l l′ l″ (c + c + c) q r r′)
+  rows-one c l l′ l″ w e f (straight a b x y k s r) (crossed a′ b′ x′ y′ k′ s′ r′) = absurd (not-both (P₁ .listG) P₂ a a′)
+  rows-one c l l′ l″ w e f (crossed a b x y k s r) (straight a′ b′ x′ y′ k′ s′ r′) = absurd (not-both (P₁ .listG) P₂ a′ a)
+
+-- ---- the numbers are below p
+module _ (p : ℕ) (pos : 0 < p) (c : ℕ) (l l′ : List ℕ) where
+  pub times-below : (k a b : ℕ) → Times p c k l a l′ b → (i : ℕ) → i < c → getD l′ (b + i) 0 < p
+  times-below k a b s i u = subst (λ z. z < p) (sym (s i u)) (mod-lt (k * getD l (a + i) 0) pos)
+
+  -- the second and the third of three rows
+  abbrev pub Multiples : ℕ → Type 0
+  Multiples at = ((i : ℕ) → i < c → getD l′ (at + c + i) 0 < p) × ((i : ℕ) → i < c → getD l′ (at + c + c + i) 0 < p)
+
+  module _ {G H G′ H′ : List ℕ} where
+    pub carried-below : RowsCarry p G H G′ H′ c l l′ → Multiples 0 × Multiples (c + c + c)
+    carried-below (straight a b x y w s t) = ((times-below _ _ _ (s .B), times-below _ _ _ (s .C)), (times-below _ _ _ (t .B), times-below _ _ _ (t .C)))
+    carried-below (crossed a b x y w s t) = ((times-below _ _ _ (s .B), times-below _ _ _ (s .C)), (times-below _ _ _ (t .B), times-below _ _ _ (t .C)))
+
+    first-rows : RowsCarry p G H G′ H′ c l l′ → Stays c l 0 l′ × Stays c l (c + c + c) l′
+    first-rows (straight a b x y w s t) = (s .A, t .A)
+    first-rows (crossed a b x y w s t) = (s .A, t .A)
+
+    pub carried-each : length l′ ≡ 6 * c → ((i : ℕ) → getD l i 0 < p) → RowsCarry p G H G′ H′ c l l′ → (i : ℕ) → getD l′ i 0 < p
+    carried-each w h r i =
+        let ((b, d), (b′, d′)) = carried-below r in
+        let (a, a′) = first-rows r in
+        elim (decLt i (6 * c)) [
+          | yes u ↦ six c (λ j. getD l′ j 0 < p) (three c 0 (λ j. getD l′ j 0 < p) (stays 0 a) b d) (three c (c + c + c) (λ j. getD l′ j 0 < p) (stays (c + c + c) a′) b′ d′) i u
+          | no u ↦ subst (λ z. z < p) (sym (List·getD-eq-default l′ 0 {n = i} (omega arith))) pos
+        ]
+      where
+        stays : (at : ℕ) → Stays c l at l′ → (j : ℕ) → j < c → getD l′ (at + j) 0 < p
+        stays at s j v = subst (λ z. z < p) (sym (s j v)) (h (at + j))

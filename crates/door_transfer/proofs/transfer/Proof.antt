@@ -1,0 +1,73 @@
+-- `transfer` meets its contract, case by case: proofs/Answering.antt.
+use mathlib.Core.Path.{refl}
+use borrow.Author.Needs.{needs}
+use Rattle.pair_agree.proofs.Outcomes.{both-of}
+use Rattle.door_transfer.specs.Transfer.{refused}
+use Rattle.door_transfer.proofs.Answering.{too-long, carry-asks, apart, straight-done, swapped-done}
+use Rattle.door_transfer.proofs.transfer.Statement.{statement}
+use Rattle.door_transfer.proofs.transfer.Tie as tie
+
+refusal-requires : tie.Need-refusal-requires
+refusal-requires c κs = search needs
+
+returns : tie.Need-returns
+returns c = refused (c .if1 .taken) (c .before .refusal .ensures) refl
+
+unfit-requires : tie.Need-unfit-requires
+unfit-requires c κs = search needs
+
+returns-2 : tie.Need-returns-2
+returns-2 c = let s = c .before .before .before .before .before .before .before .before .before .args in let t = c in too-long (s .p) (s .g .now) (s .h .now) (s .g2 .now) (s .h2 .now) (s .rows .now) (t .before .before .if1 .left) (t .before .before .before .refusal .ensures) (t .before .unfit .ensures) (t .if2 .taken)
+
+paired-requires : tie.Need-paired-requires
+paired-requires c κs = both-of (c .before .before .if1 .left) (c .before .before .before .refusal .ensures)
+
+enum-told : tie.Need-enum-told
+enum-told c = search needs
+
+carry-requires : tie.Need-carry-requires
+carry-requires c κs = let s = c .before .before .before .before .before .before .before .before .before .before .before .before .before .args in let t = c .before .before .before .before in carry-asks (s .p) (s .g .now) (s .h .now) (s .g2 .now) (s .h2 .now) (s .rows .now) (t .before .before .if1 .left) (t .before .before .before .refusal .ensures) (t .before .unfit .ensures) (t .if2 .left)
+
+enum-told-2 : tie.Need-enum-told-2
+enum-told-2 c = search needs
+
+carry-swapped-requires : tie.Need-carry-swapped-requires
+carry-swapped-requires c κs = let s = c .before .before .before .before .before .before .before .before .before .before .before .before .before .args in let t = c .before .before .before .before in carry-asks (s .p) (s .g .now) (s .h .now) (s .g2 .now) (s .h2 .now) (s .rows .now) (t .before .before .if1 .left) (t .before .before .before .refusal .ensures) (t .before .unfit .ensures) (t .if2 .left)
+
+enum-told-3 : tie.Need-enum-told-3
+enum-told-3 c = search needs
+
+same-length : tie.Need-same-length
+same-length c = search needs
+
+returns-3 : tie.Need-returns-3
+returns-3 c = let s = c .before .before .before .before .before .before .before .before .before .before .before .before .before .before .before .before .args in let t = c .before .before .before .before .before .before .before in straight-done (s .p) (s .g .now) (s .h .now) (s .g2 .now) (s .h2 .now) (s .rows .now) (t .before .before .if1 .left) (t .before .before .before .refusal .ensures) (t .before .unfit .ensures) (t .if2 .left) (c .before .before .before .before .before .before .paired .ensures) (c .before .before .before .before .enum-told .given .1) _ (c .before .before .carry .ensures)
+
+same-length-2 : tie.Need-same-length-2
+same-length-2 c = search needs
+
+returns-4 : tie.Need-returns-4
+returns-4 c = let s = c .before .before .before .before .before .before .before .before .before .before .before .before .before .before .before .before .args in let t = c .before .before .before .before .before .before .before in swapped-done (s .p) (s .g .now) (s .h .now) (s .g2 .now) (s .h2 .now) (s .rows .now) (t .before .before .if1 .left) (t .before .before .before .refusal .ensures) (t .before .unfit .ensures) (t .if2 .left) (c .before .before .before .before .before .before .paired .ensures) (c .before .before .before .before .enum-told2 .given .1) _ (c .before .before .carry-swapped .ensures)
+
+returns-5 : tie.Need-returns-5
+returns-5 c = let s = c .before .before .before .before .before .before .before .before .before .before .before .before .args in let t = c .before .before .before in apart (s .p) (s .g .now) (s .h .now) (s .g2 .now) (s .h2 .now) (s .rows .now) (t .before .before .if1 .left) (t .before .before .before .refusal .ensures) (t .before .unfit .ensures) (t .if2 .left) (c .before .before .paired .ensures) (c .enum-told3 .given .1)
+
+pub transfer-spec : {M : Type 1} → statement M
+transfer-spec =
+    tie.close
+    (tie.spec
+    refusal-requires
+    returns
+    unfit-requires
+    returns-2
+    paired-requires
+    enum-told
+    carry-requires
+    enum-told-2
+    carry-swapped-requires
+    enum-told-3
+    same-length
+    returns-3
+    same-length-2
+    returns-4
+    returns-5)

@@ -1,0 +1,28 @@
+-- Carrying the six rows of a unit from one pair to another pair of the same field (request E3: "say how the rows of the unit carry over").
+--   Lent c rows                          the slice holds E0, E1, E2, F0, F1, F2 of c numbers each, c at most 4,096
+--   Transfers p G H G′ H′ rows n rows′   the number handed out and the slice after it: 1 to 8 of the first pair, 1 to 8 of the second, 14
+--                                        where the slice has another length or the pairs are not of one field, 0 where the rows are carried
+--                                        over; a refusal leaves the slice as it was
+-- How rows carry over is `RowsCarry` of crate pair_agree. The rows may hold any numbers: that the rows of the one pair's unit become
+-- those of the other's is a theorem about `RowsCarry` alone.
+-- In proofs/: Once (`transfers-one`: one outcome for each input), Back (`there-and-back`, `transfers-back`: rows carried over and back are the
+-- rows), Rows (`rows-one`: the pairs settle the rows; `carried-below`, `carried-each`: numbers below p).
+use mathlib.Core.Path.{_≡_}
+use mathlib.Core.Logic.{_≢_}
+use mathlib.Core.List.{List}
+use Prim.Native.Nat.{ℕ, _*_, _≤_}
+use lib.ListN.{length}
+use Rattle.pair_agree.specs.OneField.{OneField}
+use Rattle.pair_agree.specs.Rows.{RowsCarry}
+use Rattle.pair_agree.specs.Answer.{Refusals}
+
+pub record Lent (c : ℕ) (rows : List ℕ) : Type 0 where
+  pub room : c ≤ 4096
+  pub whole : length rows ≡ 6 * c
+
+module _ (p : ℕ) (G H G′ H′ rows : List ℕ) where
+  pub data Transfers (n : ℕ) (rows′ : List ℕ) : Type 0 where
+    refused : n ≢ 0 → Refusals p G H G′ H′ n → rows′ ≡ rows → Transfers n rows′
+    unfit : Refusals p G H G′ H′ 0 → ((c : ℕ) → Lent c rows → OneField p G H G′ H′ → ⊥) → n ≡ 14 → rows′ ≡ rows → Transfers n rows′
+    carried : Refusals p G H G′ H′ 0 → (c : ℕ) → Lent c rows → n ≡ 0 → length rows′ ≡ length rows → RowsCarry p G H G′ H′ c rows rows′
+        → Transfers n rows′

@@ -1,0 +1,53 @@
+-- `door_walk::walk` meets its contract, case by case.
+use borrow.Author.Needs.{needs}
+use Rattle.door_step.proofs.Answers.{known-of}
+use Rattle.door_walk.proofs.FromRecord.{walks-refused, walks-budget, walks-no-record, walked-of, walks-goes}
+use Rattle.door_walk.proofs.walk.Statement.{statement}
+use Rattle.door_walk.proofs.walk.Tie as tie
+use Rattle.door_walk.proofs.walk.Reads as reads
+use Rattle.door_walk.proofs.walk.Lts as lts
+
+open-with-series-requires : tie.Need-open-with-series-requires
+open-with-series-requires c κs = search needs
+
+no-walk-requires : tie.Need-no-walk-requires
+no-walk-requires c κs = search needs
+
+returns : tie.Need-returns
+returns c = walks-refused (c .before .before .open-with-series .ensures) (c .before .if1 .taken) (c .no-walk .ensures)
+
+no-walk-requires-2 : tie.Need-no-walk-requires-2
+no-walk-requires-2 c κs = search needs
+
+returns-2 : tie.Need-returns-2
+returns-2 c = walks-budget (c .before .before .before .open-with-series .ensures) (c .before .before .if1 .left) (c .before .if2 .taken) (c .no-walk2 .ensures)
+
+accepts-requires : tie.Need-accepts-requires
+accepts-requires c κs = known-of (c .before .before .before .open-with-series .ensures) (c .before .before .if1 .left)
+
+walked-requires : tie.Need-walked-requires
+walked-requires c κs = walked-of (c .before .before .before .before .before .open-with-series .ensures) (c .before .before .before .before .if1 .left) (c .before .before .before .if2 .left) (c .before .accepts .ensures) (c .if3 .taken)
+
+returns-3 : tie.Need-returns-3
+returns-3 c = walks-goes (c .before .before .before .before .before .before .open-with-series .ensures) (c .before .before .before .before .before .if1 .left) (c .before .before .before .before .if2 .left) (c .before .before .accepts .ensures) (c .before .if3 .taken) _ (c .walked .ensures)
+
+no-walk-requires-3 : tie.Need-no-walk-requires-3
+no-walk-requires-3 c κs = search needs
+
+returns-4 : tie.Need-returns-4
+returns-4 c = walks-no-record (c .before .before .before .before .before .before .open-with-series .ensures) (c .before .before .before .before .before .if1 .left) (c .before .before .before .before .if2 .left) (c .before .before .accepts .ensures) (c .before .if3 .left) (c .no-walk3 .ensures)
+
+pub walk-spec : {M : Type 1} → statement M
+walk-spec =
+    tie.close
+    (tie.spec
+    open-with-series-requires
+    no-walk-requires
+    returns
+    no-walk-requires-2
+    returns-2
+    accepts-requires
+    walked-requires
+    no-walk-requires-3
+    returns-3
+    returns-4)

@@ -1,0 +1,100 @@
+// The public walks: from a record, and from the order. specs/ has their contracts.
+use basis_accept::accepts;
+use base_answers::Period;
+use base_answers::Regulator;
+use walk_chain::Walked;
+ghost use mathlib.Core.Path.{_≡_};
+ghost use Rattle.walk_chain.specs.Walk as W;
+ghost use Rattle.door_walk.specs.Order.{WalkedIn, WalkedOut, FromOrder, refusal};
+
+// The number of the refusal; 0 and the period and regulator of the field where the walk from the order closes.
+pub struct Told {
+    pub refusal: u32,
+    pub period: Period,
+    pub regulator: Regulator,
+}
+
+// The walk in an opened field.
+pub fn walked(c: field_series::Cubic, b: [u16; 119], budget: u64) -> Walked
+    requires { ⌜ WalkedIn c b budget ⌝ }
+    ensures { λ o. ⌜ WalkedOut c b budget o ⌝ }
+{
+    let f = c.field;
+    let r = c.r;
+    let w = c.w;
+    let g = f.g;
+    let h = f.h;
+    let gh = f.gh;
+    walk_chain::go(f.p, &g, &h, &gh, f.dr + f.dw, f.dr, f.dw, &r, &w, b, budget)
+}
+
+// A refusal of the walk from the order: the other results are 0.
+fn refused(n: u32) -> Told
+    ensures { λ o. ⌜ o ≡ refusal n ⌝ }
+{
+    Told {
+        refusal: n,
+        period: Period(0),
+        regulator: Regulator(0),
+    }
+}
+
+// Period and regulator of the field p, G, H, by a walk of at most `budget` steps from the order.
+pub fn from_order(p: u64, g: &[u64], h: &[u64], budget: u64) -> Told
+    ensures { λ o. ⌜ FromOrder p (now (g .entry)) (now (h .entry)) budget o ⌝ }
+{
+    let e = field_series::open_with_series(p, g, h);
+    let n = e.refusal;
+    if n != 0 {
+        return refused(n);
+    }
+    if budget > 1000000 {
+        return refused(14);
+    }
+    let c = e.cubic;
+    let b = door_basis::first(c);
+    let o = walked(c, b, budget);
+    let k = o.refusal;
+    if k != 0 {
+        return refused(10);
+    }
+    Told {
+        refusal: 0,
+        period: Period(o.steps),
+        regulator: Regulator(o.sum / 2),
+    }
+}
+
+// A refusal of the walk from a record: the other results are 0.
+fn no_walk(n: u32) -> Walked
+    ensures { λ o. ⌜ o ≡ W.refused n ⌝ }
+{
+    let z: [u16; 119] = [0; 119];
+    Walked {
+        refusal: n,
+        steps: 0,
+        sum: 0,
+        basis: z,
+    }
+}
+
+// The walk from a record: at most `budget` steps, until U = 1 after at least one.
+pub fn walk(p: u64, g: &[u64], h: &[u64], rows: [u16; 119], budget: u64) -> Walked
+    ensures { λ o. ⌜ W.Walks p (now (g .entry)) (now (h .entry)) budget rows o ⌝ }
+{
+    let e = field_series::open_with_series(p, g, h);
+    let n = e.refusal;
+    if n != 0 {
+        return no_walk(n);
+    }
+    if budget > 1000000 {
+        return no_walk(14);
+    }
+    let c = e.cubic;
+    let good = accepts(c, rows);
+    if good {
+        walked(c, rows, budget)
+    } else {
+        no_walk(9)
+    }
+}

@@ -1,0 +1,215 @@
+// Opening a field: the refusals 1 to 8, in the table's order, and what the layers above need of a field that is accepted.
+// specs/Refusal.antt has the table, specs/Opening.antt the contract of `open`.
+ghost use mathlib.Core.Path.{_≡_};
+ghost use Rattle.field_open.specs.Refusal.{End, Rows12, Rows36, Rows78, Refusal, Accepted};
+ghost use Rattle.field_open.specs.Parts.{ListLength, Shaped, FreeTest, factorNumber};
+ghost use Rattle.poly_rows.specs.Factors.{OverBoth};
+ghost use Rattle.field_open.specs.Opening.{Held, nothing, Opens};
+
+const LONGEST: usize = 13;
+
+const HIGHEST: usize = 16;
+
+// An opened field: G, H and G·H as rows, their numbers of coefficients, the degrees of r and w, and leading coefficients.
+pub struct Field {
+    pub p: u64,
+    pub g: [u64; 32],
+    pub h: [u64; 32],
+    pub gh: [u64; 32],
+    pub lg: usize,
+    pub lh: usize,
+    pub dr: usize,
+    pub dw: usize,
+    pub leadg: u64,
+    pub leadh: u64,
+}
+
+// The number of the refusal beside the field; with a refusal the field is all zeros.
+pub struct Opened {
+    pub refusal: u32,
+    pub field: Field,
+}
+
+// How many coefficients s has, or 0: it is no list of coefficients.
+pub fn list_length(p: u64, s: &[u64]) -> usize
+    ensures { λ n. ⌜ ListLength p (now (s .entry)) n ⌝ }
+{
+    let n = s.len();
+    if n == 0 {
+        return 0;
+    }
+    if n > LONGEST {
+        return 0;
+    }
+    let top = s[n - 1];
+    if top == 0 {
+        return 0;
+    }
+    let mut i: usize = 0;
+    while i < n {
+        let v = s[i];
+        if v >= p {
+            return 0;
+        }
+        i += 1;
+    }
+    n
+}
+
+// 1 and 2.
+fn check_p(p: u64) -> u32
+    ensures { λ n. ⌜ Rows12 p End n ⌝ }
+{
+    if p < 5 {
+        return 1;
+    }
+    let ok = num_prime::is_prime(p);
+    if !ok {
+        return 1;
+    }
+    if p % 3 == 1 {
+        return 2;
+    }
+    0
+}
+
+// 3 to 6. The degree is the number of coefficients less 1.
+fn check_lists(p: u64, g: &[u64], h: &[u64]) -> u32
+    ensures { λ n. ⌜ Rows36 p (now (g .entry)) (now (h .entry)) End n ⌝ }
+{
+    let lg = list_length(p, g);
+    if lg == 0 {
+        return 3;
+    }
+    let lh = list_length(p, h);
+    if lh == 0 {
+        return 3;
+    }
+    let d = lg - 1;
+    let e = lh - 1;
+    if d + e == 0 {
+        return 4;
+    }
+    if d + e > HIGHEST {
+        return 5;
+    }
+    if d % 3 != e % 3 {
+        return 6;
+    }
+    0
+}
+
+// Whether neither row has a square factor.
+fn both_free(p: u64, x: &[u64; 32], y: &[u64; 32]) -> bool
+    requires { ⌜ OverBoth p (now x) (now y) ⌝ }
+    ensures { λ r. ⌜ FreeTest p (now (x .entry)) (now (y .entry)) r ⌝ }
+{
+    let left = poly_rows::squarefree(p, x);
+    if !left {
+        return false;
+    }
+    poly_rows::squarefree(p, y)
+}
+
+// 7 comes before 8.
+fn first_factor(free: bool, apart: bool) -> u32
+    ensures { λ n. ⌜ n ≡ factorNumber free apart ⌝ }
+{
+    if !free {
+        return 7;
+    }
+    if !apart {
+        return 8;
+    }
+    0
+}
+
+// 7 and 8.
+fn check_factors(p: u64, g: &[u64], h: &[u64]) -> u32
+    requires { ⌜ Shaped p (now g) (now h) ⌝ }
+    ensures { λ n. ⌜ Rows78 p (now (g .entry)) (now (h .entry)) n ⌝ }
+{
+    let x = poly_rows::from_list(g);
+    let y = poly_rows::from_list(h);
+    let free = both_free(p, &x, &y);
+    let apart = poly_rows::coprime(p, &x, &y);
+    first_factor(free, apart)
+}
+
+// The number of the first refusal of p, G, H, or 0.
+pub fn refusal(p: u64, g: &[u64], h: &[u64]) -> u32
+    ensures { λ n. ⌜ Refusal p (now (g .entry)) (now (h .entry)) n ⌝ }
+{
+    let a = check_p(p);
+    if a != 0 {
+        return a;
+    }
+    let b = check_lists(p, g, h);
+    if b != 0 {
+        return b;
+    }
+    check_factors(p, g, h)
+}
+
+// The field of p, G, H that are accepted.
+fn field_of(p: u64, g: &[u64], h: &[u64]) -> Field
+    requires { ⌜ Accepted p (now g) (now h) ⌝ }
+    ensures { λ f. ⌜ Held p (now (g .entry)) (now (h .entry)) f ⌝ }
+{
+    let lg = list_length(p, g);
+    let lh = list_length(p, h);
+    let d = lg - 1;
+    let e = lh - 1;
+    let x = poly_rows::from_list(g);
+    let y = poly_rows::from_list(h);
+    let z = poly_rows::mul(p, &x, &y);
+    Field {
+        p: p,
+        g: x,
+        h: y,
+        gh: z,
+        lg: lg,
+        lh: lh,
+        dr: (d + 2 * e) / 3,
+        dw: (2 * d + e) / 3,
+        leadg: g[d],
+        leadh: h[e],
+    }
+}
+
+// The zeros beside a refusal.
+fn no_field() -> Field
+    ensures { λ f. ⌜ f ≡ nothing ⌝ }
+{
+    let z: [u64; 32] = [0; 32];
+    Field {
+        p: 0,
+        g: z,
+        h: z,
+        gh: z,
+        lg: 0,
+        lh: 0,
+        dr: 0,
+        dw: 0,
+        leadg: 0,
+        leadh: 0,
+    }
+}
+
+pub fn open(p: u64, g: &[u64], h: &[u64]) -> Opened
+    ensures { λ o. ⌜ Opens p (now (g .entry)) (now (h .entry)) o ⌝ }
+{
+    let n = refusal(p, g, h);
+    if n != 0 {
+        let z = no_field();
+        return Opened {
+            refusal: n,
+            field: z,
+        };
+    }
+    let f = field_of(p, g, h);
+    Opened {
+        refusal: 0,
+        field: f,
+    }
+}

@@ -1,0 +1,58 @@
+-- `field_series::series` meets its contract: a refusal leaves both lists as they were, and 0 comes with both filled.
+use mathlib.Core.Path.{_≡_, subst}
+use native.Mathlib.Omega.{arith}
+use borrow.Author.Needs.{needs}
+use lib.ListN.{length}
+use Rattle.field_open.specs.Refusal.{Refusal}
+use Rattle.field_open.proofs.Accept.{accepted}
+use Rattle.field_series.specs.Answer.{Fits}
+use Rattle.field_series.proofs.Answer.{refused, wrong, done}
+use Rattle.field_series.proofs.series.Statement.{statement}
+use Rattle.field_series.proofs.series.Tie as tie
+use Rattle.field_series.proofs.series.Reads as reads
+use Rattle.field_series.proofs.series.Lts as lts
+use Rattle.field_open.proofs.refusal.Reads as refusal-reads
+use Rattle.field_series.proofs.grow.Reads as grow-reads
+
+refusal-requires : tie.Need-refusal-requires
+refusal-requires c κs = search needs
+
+returns : tie.Need-returns
+returns c = refused (c .before .refusal .ensures) (c .if1 .taken)
+
+returns-2 : tie.Need-returns-2
+returns-2 c = wrong (subst (Refusal _ _ _) (omega arith) (c .before .before .refusal .ensures)) (λ f. c .if2 .taken (f .even))
+
+returns-3 : tie.Need-returns-3
+returns-3 c = wrong (subst (Refusal _ _ _) (omega arith) (c .before .before .before .refusal .ensures)) (λ f. omega (arith, f .short, c .if3 .taken))
+
+grow-requires : tie.Need-grow-requires
+grow-requires c κs = record {
+  accepted = accepted _ _ _ (subst (Refusal _ _ _) (omega arith) (c .before .before .before .before .before .refusal .ensures));
+  even = omega arith;
+  near = omega arith;
+}
+
+same-length : tie.Need-same-length
+same-length c = search needs
+
+same-length-2 : tie.Need-same-length-2
+same-length-2 c = search needs
+
+returns-4 : tie.Need-returns-4
+returns-4 c =
+    let a = c .before .before .before .before .before .before .before .before .before .before in
+    done (subst (Refusal _ _ _) (omega arith) (a .refusal .ensures)) (record { even = omega arith; short = omega arith }) (c .before .before .before .before .grow .ensures)
+
+pub series-spec : {M : Type 1} → statement M
+series-spec =
+    tie.close
+    (tie.spec
+    refusal-requires
+    returns
+    returns-2
+    returns-3
+    grow-requires
+    same-length
+    same-length-2
+    returns-4)

@@ -1,0 +1,74 @@
+-- Elements and sizes (document 01, "Elements and sizes").
+--   O           the order: the triples A, B, C of polynomials, for A + B r + C w
+--   sc a        the polynomial a as an element; el-r, el-w the elements r and w
+--   ev x        the element as a series
+--   X Y Z       its sizes
+--   norm cof    its norm and its cofactor
+-- The value and the sizes are written over any operations, so that they are read in the series and in the solver's expressions.
+-- Theorems: X, Y, Z are linear (proofs/Sizes); ev, norm and cof are multiplicative and x · cof x = norm x (proofs/Values); br + cw is 0
+-- only for b = c = 0, and how small its degree can be (proofs/Bound).
+use Rattle.math_ring.specs.Ring.{Ops, CRing}
+use Rattle.math_triple.specs.Tri.{Tri, normT, cofT}
+use Rattle.math_triple.specs.Order.{order}
+use Rattle.math_valued.specs.Polynomial.{polys}
+use Rattle.math_ideals.specs.Setting.{Setting, P}
+
+module _ {A : Type 0} (o : Ops A) (r w : A) where
+  open Ops o using (add as _+_, mul as _*_, neg as -_, 𝟏)
+
+  infixl 60 _+_
+  infixl 70 _*_
+  infix 80 -_
+  -- "Elements are A + Br + Cw"
+  abbrev pub evT : Tri A → A
+  evT x = x .a + x .b * r + x .c * w
+
+  -- "For x = a + br + cw put X(x) = br + cw, Y(x) = br − cw, Z(x) = 2a − br − cw"
+  abbrev pub XT : Tri A → A
+  XT x = x .b * r + x .c * w
+
+  abbrev pub YT : Tri A → A
+  YT x = x .b * r + - (x .c * w)
+
+  abbrev pub ZT : Tri A → A
+  ZT x = (𝟏 + 𝟏) * x .a + - (x .b * r) + - (x .c * w)
+
+module _ (S : Setting) where
+  open Setting S using (𝓥, G, H, r, w)
+
+  -- "The order O is those with polynomial A, B, C"; products by rw = GH, r² = Hw, w² = Gr
+  abbrev pub O : CRing
+  O = order (polys 𝓥) G H
+
+  abbrev pub sc : P S → O .El
+  sc a = record { a = a; b = polys 𝓥 .ops .𝟎; c = polys 𝓥 .ops .𝟎 }
+
+  abbrev pub el-r : O .El
+  el-r = record { a = polys 𝓥 .ops .𝟎; b = polys 𝓥 .ops .𝟏; c = polys 𝓥 .ops .𝟎 }
+
+  abbrev pub el-w : O .El
+  el-w = record { a = polys 𝓥 .ops .𝟎; b = polys 𝓥 .ops .𝟎; c = polys 𝓥 .ops .𝟏 }
+
+  -- the three coordinates as series
+  abbrev pub val : O .El → Tri (𝓥 .L .El)
+  val x = record { a = x .a .0; b = x .b .0; c = x .c .0 }
+
+  abbrev pub ev : O .El → 𝓥 .L .El
+  ev x = evT (𝓥 .L .ops) r w (val x)
+
+  abbrev pub X : O .El → 𝓥 .L .El
+  X x = XT (𝓥 .L .ops) r w (val x)
+
+  abbrev pub Y : O .El → 𝓥 .L .El
+  Y x = YT (𝓥 .L .ops) r w (val x)
+
+  abbrev pub Z : O .El → 𝓥 .L .El
+  Z x = ZT (𝓥 .L .ops) r w (val x)
+
+  -- "Norm: A³ + B³GH² + C³G²H − 3ABCGH"
+  abbrev pub norm : O .El → P S
+  norm x = normT (polys 𝓥 .ops) G H x
+
+  -- "The cofactor, which times the element gives the norm, is (A² − BCGH) + (C²G − AB)r + (B²H − AC)w"
+  abbrev pub cof : O .El → O .El
+  cof x = cofT (polys 𝓥 .ops) G H x

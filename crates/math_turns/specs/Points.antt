@@ -1,0 +1,64 @@
+-- Elements b r + c w by their two coordinates, as the reduction carries them: row 0 is found at the end.
+--   Pt A                  an element: b and c
+--   X, Y                  its sizes b r + c w and b r − c w
+--   side true, false      Y, X: the size that a loop of the reduction looks at
+--   D m n                 the determinant X(m) Y(n) − X(n) Y(m)
+--   Turned s c k a b a′   a′ = s a − c t^k b
+--   Moved m n m′ n′       m′, n′ are combinations of m, n by polynomials whose determinant is a constant that is not 0:
+--                         the two pairs have one span over the polynomials
+-- What a turn does to degrees, and that `Moved` is an equivalence, is in proofs/Turn.antt.
+use mathlib.Core.Path.{_≡_}
+use mathlib.Core.Logic.{_≢_}
+use mathlib.Core.Bool.{Bool, true, false}
+use Prim.Native.Nat.{ℕ}
+use Rattle.math_ring.specs.Ring.{Ops, CRing}
+use Rattle.math_valued.specs.Val.{Valued}
+use Rattle.math_rows.specs.Reading.{Reading}
+use Rattle.math_rows.proofs.Turn.{comb}
+
+pub record Pt (A : Type 0) : Type 0 where
+  pub b : A
+  pub c : A
+
+module _ {p : ℕ} (ρ : Reading p) where
+  open Reading ρ using (𝓥)
+  open Valued 𝓥 using (K, L, const, IsPoly)
+  open Ops (L .ops) using (add as _+_, mul as _*_, neg as -_)
+
+  infixl 60 _+_
+  infixl 70 _*_
+  infix 80 -_
+  module _ (ρᵣ ω : L .El) where
+    abbrev pub X : Pt (L .El) → L .El
+    X a = a .b * ρᵣ + a .c * ω
+
+    abbrev pub Y : Pt (L .El) → L .El
+    Y a = a .b * ρᵣ + - (a .c * ω)
+
+    abbrev pub side : Bool → Pt (L .El) → L .El
+    side true a = Y a
+    side false a = X a
+
+    abbrev pub D : Pt (L .El) → Pt (L .El) → L .El
+    D m n = X m * Y n + - (X n * Y m)
+
+  pub record Turned (s c : K .El) (k : ℕ) (a b a′ : Pt (L .El)) : Type 0 where
+    pub at-b : a′ .b ≡ comb ρ s c k (a .b) (b .b)
+    pub at-c : a′ .c ≡ comb ρ s c k (a .c) (b .c)
+
+  pub record Moved (m n m′ n′ : Pt (L .El)) : Type 0 where
+    pub α : L .El
+    pub β : L .El
+    pub γ : L .El
+    pub δ : L .El
+    pub α-poly : IsPoly α
+    pub β-poly : IsPoly β
+    pub γ-poly : IsPoly γ
+    pub δ-poly : IsPoly δ
+    pub κ : K .El
+    pub unit : κ ≢ K .ops .𝟎
+    pub det : α * δ + - (β * γ) ≡ const κ
+    pub m-b : m′ .b ≡ α * m .b + β * n .b
+    pub m-c : m′ .c ≡ α * m .c + β * n .c
+    pub n-b : n′ .b ≡ γ * m .b + δ * n .b
+    pub n-c : n′ .c ≡ γ * m .c + δ * n .c

@@ -1,0 +1,111 @@
+-- Products and quotients into lent rows, by known lengths (`Size` of crate math_rows).
+--   signOf k e z   z, or − z where e is true
+--   mix_in         Mixed: r ± x y, with r left as it was past the product
+--   both_in        BothOut: r ± x y ± z v and its length
+--   times_in       TimesOut: x y (`Product` of crate poly_rows) and its length
+--   det_in         DetOut: x y − z v and its length
+--   quotient_in    QuotientOut: the quotient and its length (`Quotient` and `Exact` of crate poly_rows)
+use mathlib.Core.Path.{_≡_}
+use mathlib.Core.Bool.{Bool, true, false}
+use mathlib.Core.List.{List}
+use Prim.Native.Nat.{ℕ, _+_, _≤_}
+use lib.ListN.{getD, replicate}
+use Rattle.math_ring.specs.Ring.{Ops, CRing}
+use Rattle.math_fp.specs.Fp.{Prime}
+use Rattle.math_valued.specs.Val.{Valued}
+use Rattle.num_residue.specs.Residue.{Modulus}
+use Rattle.math_rows.specs.Reading.{Reading}
+use Rattle.math_rows.specs.Made.{reading}
+use Rattle.math_rows.specs.Row.{Row, Size, row}
+use Rattle.poly_rows.specs.Leaf.{Cut, Product}
+use Rattle.poly_rows.specs.Terms.{Ready}
+use Rattle.poly_rows.specs.Division.{DivIn, Quotient, Exact}
+
+abbrev pub signOf : {A : Type 0} → Ops A → Bool → A → A
+signOf o true z = o .neg z
+signOf o false z = z
+
+pub record MixIn (p mul lim : ℕ) (x : List ℕ) (n : ℕ) (y : List ℕ) (m : ℕ) (r : List ℕ) : Type 0 where
+  pub modulus : Modulus p
+  pub ready : Ready p mul lim
+  pub hx : Row p x
+  pub hy : Row p y
+  pub sx : Size x n
+  pub sy : Size y m
+  pub fits : n + m ≤ 33
+  pub hr : Row p r
+
+pub record Mixed (p : ℕ) (e : Bool) (x : List ℕ) (n : ℕ) (y : List ℕ) (m : ℕ) (r o : List ℕ) : Type 0 where
+  pub is-row : Row p o
+  pub law : (pr : Prime p) → let ρ = reading p pr in let k = ρ .𝓥 .L .ops in
+      row ρ o ≡ k .add (row ρ r) (signOf k e (k .mul (row ρ x) (row ρ y)))
+  pub above : (i : ℕ) → n + m ≤ i + 1 → getD o i 0 ≡ getD r i 0
+
+pub record BothIn (p mul lim : ℕ) (x : List ℕ) (nx : ℕ) (y : List ℕ) (ny : ℕ) (z : List ℕ) (nz : ℕ) (v : List ℕ) (nv : ℕ) (r : List ℕ) (l : ℕ) : Type 0 where
+  pub modulus : Modulus p
+  pub ready : Ready p mul lim
+  pub hx : Row p x
+  pub hy : Row p y
+  pub hz : Row p z
+  pub hv : Row p v
+  pub cx : Cut x nx
+  pub cy : Cut y ny
+  pub cz : Cut z nz
+  pub cv : Cut v nv
+  pub left : nx + ny ≤ 33
+  pub right : nz + nv ≤ 33
+  pub hr : Row p r
+  pub cr : Cut r l
+
+pub record BothOut (p : ℕ) (e : Bool) (x y : List ℕ) (f : Bool) (z v r o : List ℕ) (l : ℕ) : Type 0 where
+  pub is-row : Row p o
+  pub law : (pr : Prime p) → let ρ = reading p pr in let k = ρ .𝓥 .L .ops in
+      row ρ o ≡ k .add (k .add (row ρ r) (signOf k e (k .mul (row ρ x) (row ρ y)))) (signOf k f (k .mul (row ρ z) (row ρ v)))
+  pub size : Size o l
+
+pub record TimesBy (p mul lim : ℕ) (x : List ℕ) (n : ℕ) (y : List ℕ) (m : ℕ) (r : List ℕ) : Type 0 where
+  pub modulus : Modulus p
+  pub ready : Ready p mul lim
+  pub hx : Row p x
+  pub hy : Row p y
+  pub sx : Size x n
+  pub sy : Size y m
+  pub fits : n + m ≤ 33
+  pub blank : r ≡ replicate 32 0
+
+pub record TimesOut (p : ℕ) (x y o : List ℕ) (l : ℕ) : Type 0 where
+  pub product : Product p x y o
+  pub size : Size o l
+
+pub record DetBy (p mul lim : ℕ) (x : List ℕ) (nx : ℕ) (y : List ℕ) (ny : ℕ) (z : List ℕ) (nz : ℕ) (v : List ℕ) (nv : ℕ) (r : List ℕ) : Type 0 where
+  pub modulus : Modulus p
+  pub ready : Ready p mul lim
+  pub hx : Row p x
+  pub hy : Row p y
+  pub hz : Row p z
+  pub hv : Row p v
+  pub sx : Size x nx
+  pub sy : Size y ny
+  pub sz : Size z nz
+  pub sv : Size v nv
+  pub left : nx + ny ≤ 33
+  pub right : nz + nv ≤ 33
+  pub blank : r ≡ replicate 32 0
+
+pub record DetOut (p : ℕ) (x y z v o : List ℕ) (l : ℕ) : Type 0 where
+  pub is-row : Row p o
+  pub law : (pr : Prime p) → let ρ = reading p pr in let k = ρ .𝓥 .L .ops in
+      row ρ o ≡ k .add (k .mul (row ρ x) (row ρ y)) (k .neg (k .mul (row ρ z) (row ρ v)))
+  pub size : Size o l
+
+pub record QuotientBy (p mul lim : ℕ) (a : List ℕ) (n : ℕ) (b : List ℕ) (m il : ℕ) (r : List ℕ) : Type 0 where
+  pub inp : DivIn p a b il
+  pub ready : Ready p mul lim
+  pub sa : Size a n
+  pub sb : Size b m
+  pub blank : r ≡ replicate 32 0
+
+pub record QuotientOut (p : ℕ) (a b o : List ℕ) (l : ℕ) : Type 0 where
+  pub quotient : Quotient p a b o
+  pub exact : Exact p a b o
+  pub size : Size o l

@@ -1,0 +1,38 @@
+-- `poly_rows::cross` meets its contract: `cross_in` over a copy, up to the longer of x and t^k y.
+use mathlib.Core.Path.{_≡_}
+use mathlib.Core.Logic.{⊎-elim}
+use Prim.Native.Nat.{_≤_, _+_}
+use native.Mathlib.Omega.{arith}
+use lib.ListN.{length}
+use Rattle.poly_rows.proofs.Leaf.{cross-by}
+use Rattle.poly_rows.proofs.cross.Statement.{statement}
+use Rattle.poly_rows.proofs.cross.Tie as tie
+
+rapid-of-requires : tie.Need-rapid-of-requires
+rapid-of-requires c κs = c .pre .modulus
+
+size-requires : tie.Need-size-requires
+size-requires c κs = c .before .pre .hx .size
+
+size-requires-2 : tie.Need-size-requires-2
+size-requires-2 c κs = c .before .before .pre .hy .size
+
+add-m : tie.Need-add-m
+add-m c = let l : c .size2 .result + c .before .before .before .args .k ≤ 32 = c .before .before .before .pre .room _ (c .size2 .ensures) in omega arith
+
+cross-in-requires : tie.Need-cross-in-requires
+cross-in-requires c κs =
+    let s = c .before .before .before .before .before .before in
+    let z = c .before .before .before .before .size in
+    let w = c .before .before .before .size2 in
+    let l : w .result + s .args .k ≤ 32 = s .pre .room _ (w .ensures) in
+    let f : z .result ≤ length (s .args .x .now) = z .ensures .fits in
+    let e : length (s .args .x .now) ≡ 32 = s .pre .hx .size in
+    let q = c .before .before .before .before .before .rapid-of .ensures in
+    ⊎-elim (λ u. cross-by _ (s .pre) q (z .ensures) (w .ensures) (omega arith) (omega arith) (omega arith)) (λ u. cross-by _ (s .pre) q (z .ensures) (w .ensures) (omega arith) (omega arith) (omega arith)) (c .before .before .if1 .came)
+
+returns : tie.Need-returns
+returns c = c .cross-in .ensures .crossed
+
+pub cross-spec : {M : Type 1} → statement M
+cross-spec = tie.close (tie.spec rapid-of-requires size-requires size-requires-2 add-m cross-in-requires returns)

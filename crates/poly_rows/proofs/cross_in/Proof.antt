@@ -1,0 +1,86 @@
+-- `poly_rows::cross_in` meets its contract: a row turned in place up to n, then `crossed`.
+use mathlib.Core.Path.{ap₂, _∙_}
+use Prim.Native.Nat.{_≤_, _-_, _*_, _+_, _%_}
+use native.Mathlib.Omega.{arith}
+use Rattle.math_rows.proofs.Tab.{crossAt}
+use Rattle.poly_rows.proofs.Leaf.{Swept, swept-start, swept-more, cross-low, crossed}
+use borrow.Author.Needs.{needs}
+use Rattle.poly_rows.proofs.cross_in.Statement.{statement}
+use Rattle.poly_rows.proofs.cross_in.Tie as tie
+
+abbrev Inv-loop : tie.InvT-loop
+Inv-loop p q s x₀ c k y n d i₀ x i = (i ≤ n) × Swept 32 (crossAt p s x₀ c k y) x₀ x i
+
+abbrev μ-loop : tie.MeasureT-loop
+μ-loop p q s x₀ c k y n d i₀ x i = n - i
+
+sub-d : tie.Need-sub-d Inv-loop μ-loop
+sub-d c = search needs
+
+loop-holds : tie.Need-loop-holds Inv-loop μ-loop
+loop-holds c = (omega arith, swept-start 32 _ _ (c .pre .hx .is-row .size))
+
+shifted-requires : tie.Need-shifted-requires Inv-loop μ-loop
+shifted-requires c κs = search needs
+
+mul-rest : tie.Need-mul-rest Inv-loop μ-loop
+mul-rest c = search needs
+
+element-copy-out-rest : tie.Need-element-copy-out-rest Inv-loop μ-loop
+element-copy-out-rest c = search needs
+
+mul-rest-2 : tie.Need-mul-rest-2 Inv-loop μ-loop
+mul-rest-2 c = omega (arith, cross-low (c .before .before .before .before .pre) (c .before .before .before .loop .i) _ _ (c .before .before .before .loop .inv .1 .rest _ (omega arith)) (c .before .shifted .ensures))
+
+mul-rest-3 : tie.Need-mul-rest-3 Inv-loop μ-loop
+mul-rest-3 c = omega (arith, cross-low (c .before .before .before .before .pre) (c .before .before .before .loop .i) _ _ (c .before .before .before .loop .inv .1 .rest _ (omega arith)) (c .before .shifted .ensures))
+
+add-rest : tie.Need-add-rest Inv-loop μ-loop
+add-rest c = omega (arith, cross-low (c .before .before .before .before .pre) (c .before .before .before .loop .i) _ _ (c .before .before .before .loop .inv .1 .rest _ (omega arith)) (c .before .shifted .ensures))
+
+rest-requires : tie.Need-rest-requires Inv-loop μ-loop
+rest-requires c κs = search needs
+
+mul-x : tie.Need-mul-x Inv-loop μ-loop
+mul-x c = search needs
+
+element-write-x : tie.Need-element-write-x Inv-loop μ-loop
+element-write-x c = search needs
+
+add-i : tie.Need-add-i Inv-loop μ-loop
+add-i c = search needs
+
+loop-less : tie.Need-loop-less Inv-loop μ-loop
+loop-less c = omega arith
+
+loop-again : tie.Need-loop-again Inv-loop μ-loop
+loop-again c =
+    let s = c .before .before .before .before .before in
+    let l = c .before .before .before .before .loop in
+    let n : s .args .n ≤ 32 = s .pre .fits in
+    (omega arith, swept-more 32 _ _ _ (l .i) _ (l .inv .1) (omega arith) (c .rest .ensures ∙ ap₂ (λ a z. (s .args .s * a + (s .args .p - s .args .c) * z) % s .args .p) (l .inv .1 .rest (l .i) (omega arith)) (c .before .before .shifted .ensures)))
+
+returns : tie.Need-returns Inv-loop μ-loop
+returns c = crossed (c .before .before .pre) (omega arith) (c .before .loop .inv .1)
+
+pub cross-in-spec : {M : Type 1} → statement M
+cross-in-spec =
+    tie.close
+    (tie.spec
+    Inv-loop
+    μ-loop
+    sub-d
+    loop-holds
+    shifted-requires
+    mul-rest
+    element-copy-out-rest
+    mul-rest-2
+    mul-rest-3
+    add-rest
+    rest-requires
+    mul-x
+    element-write-x
+    add-i
+    loop-less
+    loop-again
+    returns)

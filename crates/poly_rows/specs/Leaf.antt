@@ -1,0 +1,116 @@
+-- What the functions on rows ask and hand out. A row of 32 numbers below p stands for the polynomial `row` (crate math_rows); the laws
+-- hold for every prime p, the rows are rows for every modulus.
+--   size, size_from   the trimmed length: `Size` of crate math_rows
+--   add, sub, minus   Summed, Difference, Opposite: x + y, x − y, − x
+--   cross             Crossed: s x − c t^k y
+--   scale_in          ScaleOut: c x in place of x, which is Short: 0 from n on, before and after
+--   cross_in          CrossOut: s x − c t^k y in place of x, Short too
+--   mul               Product: x y
+--   from_list         Listed: the polynomial of a list
+use mathlib.Core.Path.{_≡_}
+use mathlib.Core.List.{List}
+use Prim.Native.Nat.{ℕ, _+_, _-_, _<_, _≤_}
+use lib.ListN.{length, getD}
+use Rattle.math_fp.specs.Fp.{Prime}
+use Rattle.num_residue.specs.Residue.{Modulus}
+use Rattle.math_rows.specs.Made.{reading}
+use Rattle.math_rows.specs.Row.{Row, Size, row, shiftAt}
+use Rattle.math_rows.proofs.Turn.{comb}
+use Rattle.poly_rows.specs.Terms.{Ready}
+
+-- ---- lengths
+pub record Cut (x : List ℕ) (n : ℕ) : Type 0 where
+  pub size : length x ≡ 32
+  pub fits : n ≤ 32
+  pub above : (i : ℕ) → n ≤ i → getD x i 0 ≡ 0
+
+-- a row of numbers below p that is 0 from n on
+pub record Short (p : ℕ) (x : List ℕ) (n : ℕ) : Type 0 where
+  pub is-row : Row p x
+  pub above : (i : ℕ) → n ≤ i → getD x i 0 ≡ 0
+
+-- ---- sums
+pub record Once (p v : ℕ) : Type 0 where
+  pub modulus : Modulus p
+  pub low : v < p + p
+
+pub record Given (p : ℕ) (x : List ℕ) : Type 0 where
+  pub modulus : Modulus p
+  pub hx : Row p x
+
+pub record Both (p : ℕ) (x y : List ℕ) : Type 0 where
+  pub modulus : Modulus p
+  pub hx : Row p x
+  pub hy : Row p y
+
+pub record Summed (p : ℕ) (x y r : List ℕ) : Type 0 where
+  pub is-row : Row p r
+  pub law : (pr : Prime p) → let ρ = reading p pr in row ρ r ≡ ρ .𝓥 .L .ops .add (row ρ x) (row ρ y)
+
+pub record Difference (p : ℕ) (x y r : List ℕ) : Type 0 where
+  pub is-row : Row p r
+  pub law : (pr : Prime p) → let ρ = reading p pr in row ρ r ≡ ρ .𝓥 .L .ops .add (row ρ x) (ρ .𝓥 .L .ops .neg (row ρ y))
+
+pub record Opposite (p : ℕ) (x r : List ℕ) : Type 0 where
+  pub is-row : Row p r
+  pub law : (pr : Prime p) → let ρ = reading p pr in row ρ r ≡ ρ .𝓥 .L .ops .neg (row ρ x)
+
+pub record Scaled (p c : ℕ) (x r : List ℕ) : Type 0 where
+  pub is-row : Row p r
+  pub law : (pr : Prime p) → let ρ = reading p pr in row ρ r ≡ ρ .𝓥 .L .ops .mul (ρ .𝓥 .const (ρ .cast c)) (row ρ x)
+
+pub record ScaleBy (p mul lim c : ℕ) (x : List ℕ) (n : ℕ) : Type 0 where
+  pub modulus : Modulus p
+  pub ready : Ready p mul lim
+  pub hc : c < p
+  pub hx : Short p x n
+  pub fits : n ≤ 32
+
+pub record ScaleOut (p c : ℕ) (x : List ℕ) (n : ℕ) (r : List ℕ) : Type 0 where
+  pub short : Short p r n
+  pub scaled : Scaled p c x r
+
+-- ---- s x − c t^k y
+pub record CrossIn (p s : ℕ) (x : List ℕ) (c k : ℕ) (y : List ℕ) : Type 0 where
+  pub modulus : Modulus p
+  pub hs : s < p
+  pub hx : Row p x
+  pub hc : c ≤ p
+  pub hy : Row p y
+  pub room : (m : ℕ) → Size y m → m + k ≤ 32
+
+pub record Crossed (p s : ℕ) (x : List ℕ) (c k : ℕ) (y r : List ℕ) : Type 0 where
+  pub is-row : Row p r
+  pub law : (pr : Prime p) → let ρ = reading p pr in row ρ r ≡ comb ρ (ρ .cast s) (ρ .cast c) k (row ρ x) (row ρ y)
+
+pub record CrossBy (p mul lim s : ℕ) (x : List ℕ) (c k : ℕ) (y : List ℕ) (n : ℕ) : Type 0 where
+  pub modulus : Modulus p
+  pub ready : Ready p mul lim
+  pub hs : s < p
+  pub hx : Short p x n
+  pub hc : c ≤ p
+  pub hy : Row p y
+  pub fits : n ≤ 32
+  pub low : k ≤ 32
+  pub above : (i : ℕ) → n ≤ i → shiftAt y k i ≡ 0
+
+pub record CrossOut (p s : ℕ) (x : List ℕ) (c k : ℕ) (y : List ℕ) (n : ℕ) (r : List ℕ) : Type 0 where
+  pub short : Short p r n
+  pub crossed : Crossed p s x c k y r
+
+-- ---- products
+pub record MulIn (p : ℕ) (x y : List ℕ) : Type 0 where
+  pub modulus : Modulus p
+  pub hx : Row p x
+  pub hy : Row p y
+  pub room : (n m : ℕ) → Size x n → Size y m → n + m ≤ 33
+
+pub record Product (p : ℕ) (x y r : List ℕ) : Type 0 where
+  pub is-row : Row p r
+  pub law : (pr : Prime p) → let ρ = reading p pr in row ρ r ≡ ρ .𝓥 .L .ops .mul (row ρ x) (row ρ y)
+
+-- ---- lists
+pub record Listed (s r : List ℕ) : Type 0 where
+  pub size : length r ≡ 32
+  pub each : (i : ℕ) → getD r i 0 ≡ getD s i 0
+  pub law : (p : ℕ) (pr : Prime p) → row (reading p pr) r ≡ row (reading p pr) s

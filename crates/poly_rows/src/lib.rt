@@ -1,0 +1,372 @@
+// Polynomials mod p as rows of 32 coefficients, lowest first, each below p, zeros above the degree; lent, turned in place or handed out.
+// Every contract speaks of the polynomial that a row stands for (`row` of crate math_rows). Loops stop at true lengths. Sums are taken in 64
+// bits with one remainder for each coefficient, for every p below 2^31; below 2^16 it is a multiplication by what `rapid_of` makes of p.
+use num_remainder::remainder;
+ghost use mathlib.Core.Path.{_≡_};
+ghost use Prim.Native.Nat.{_+_, _*_, _-_, _%_, _<_, _≤_};
+ghost use lib.ListN.{length};
+ghost use Rattle.math_rows.specs.Row.{Size, shiftAt};
+ghost use Rattle.poly_rows.specs.Leaf.{Cut, Once, Given, Both, Summed, Difference, Opposite, ScaleBy, ScaleOut};
+ghost use Rattle.poly_rows.specs.Leaf.{CrossIn, Crossed, CrossBy, CrossOut, MulIn, Product, Listed};
+ghost use Rattle.poly_rows.specs.Terms.{Ready, RestIn, MoreIn, More, PartIn, Part, PlaceIn};
+ghost use Rattle.num_residue.specs.Residue.{Modulus};
+ghost use Rattle.poly_rows.specs.Division.{DivIn, Quotient, Divided, DigitIn, Digit};
+ghost use Rattle.poly_rows.specs.Factors.{Derived, Over, OverBoth, Common, SquareTest, CoprimeTest};
+ghost use Rattle.math_rows.specs.Sum.{sumTo, termAt};
+
+type Row = [u64; 32];
+
+// The trimmed length of x, whose coefficients from n on are 0.
+pub fn size_from(x: &Row, n: usize) -> usize
+    requires { ⌜ Cut (now x) n ⌝ }
+    ensures { λ r. ⌜ Size (now (x .entry)) r ⌝ }
+{
+    let mut m = n;
+    while m > 0 {
+        if x[m - 1] != 0 {
+            return m;
+        }
+        m -= 1;
+    }
+    m
+}
+
+// One more than the degree; 0 for the zero polynomial.
+pub fn size(x: &Row) -> usize
+    requires { ⌜ length (now x) ≡ 32 ⌝ }
+    ensures { λ r. ⌜ Size (now (x .entry)) r ⌝ }
+{
+    size_from(x, 32)
+}
+
+// What `rest` needs of p: below lim, one multiplication by m finds a remainder.
+pub struct Rapid {
+    pub m: u64,
+    pub lim: u64,
+}
+
+pub fn rapid_of(p: u64) -> Rapid
+    requires { ⌜ Modulus p ⌝ }
+    ensures { λ s. ⌜ Ready p (s .m) (s .lim) ⌝ }
+{
+    if p < 65536 {
+        let m = num_remainder::scale_of(p);
+        let lim = 64 * (p * p);
+        Rapid { m, lim }
+    } else {
+        Rapid { m: 0, lim: 0 }
+    }
+}
+
+// x mod p
+pub fn rest(p: u64, s: Rapid, x: u64) -> u64
+    requires { ⌜ RestIn p (s .m) (s .lim) ⌝ }
+    ensures { λ r. ⌜ r ≡ x % p ⌝ }
+{
+    let m = s.m;
+    let lim = s.lim;
+    if x < lim { remainder(p, m, x) } else { x % p }
+}
+
+// v mod p, for v below 2 p
+pub fn once(p: u64, v: u64) -> u64
+    requires { ⌜ Once p v ⌝ }
+    ensures { λ r. ⌜ r ≡ v % p ⌝ }
+{
+    if v < p { v } else { v - p }
+}
+
+pub fn add(p: u64, x: &Row, y: &Row) -> Row
+    requires { ⌜ Both p (now x) (now y) ⌝ }
+    ensures { λ r. ⌜ Summed p (now (x .entry)) (now (y .entry)) r ⌝ }
+{
+    let mut r: Row = [0; 32];
+    let mut i: usize = 0;
+    while i < 32 {
+        r[i] = once(p, x[i] + y[i]);
+        i += 1;
+    }
+    r
+}
+
+pub fn sub(p: u64, x: &Row, y: &Row) -> Row
+    requires { ⌜ Both p (now x) (now y) ⌝ }
+    ensures { λ r. ⌜ Difference p (now (x .entry)) (now (y .entry)) r ⌝ }
+{
+    let mut r: Row = [0; 32];
+    let mut i: usize = 0;
+    while i < 32 {
+        r[i] = once(p, x[i] + (p - y[i]));
+        i += 1;
+    }
+    r
+}
+
+// 0 - x
+pub fn minus(p: u64, x: &Row) -> Row
+    requires { ⌜ Given p (now x) ⌝ }
+    ensures { λ r. ⌜ Opposite p (now (x .entry)) r ⌝ }
+{
+    let z: Row = [0; 32];
+    sub(p, &z, x)
+}
+
+// c x in place of x, which ends before n.
+pub fn scale_in(p: u64, q: Rapid, c: u64, x: &mut Row, n: usize)
+    requires { ⌜ ScaleBy p (q .m) (q .lim) c (now x) n ⌝ }
+    ensures { λ _. ⌜ ScaleOut p c (now (x .entry)) n (now (x .exit)) ⌝ }
+{
+    let mut i: usize = 0;
+    while i < n {
+        let v = rest(p, q, c * x[i]);
+        x[i] = v;
+        i += 1;
+    }
+}
+
+// The coefficient of t^k y at i.
+fn shifted(y: &Row, k: usize, i: usize) -> u64
+    requires { ⌜ i < 32 ⌝ }
+    ensures { λ r. ⌜ r ≡ shiftAt (now (y .entry)) k i ⌝ }
+{
+    if i < k { 0 } else { y[i - k] }
+}
+
+// s x - c t^k y, of n terms, in place of x.
+pub fn cross_in(p: u64, q: Rapid, s: u64, x: &mut Row, c: u64, k: usize, y: &Row, n: usize)
+    requires { ⌜ CrossBy p (q .m) (q .lim) s (now x) c k (now y) n ⌝ }
+    ensures { λ _. ⌜ CrossOut p s (now (x .entry)) c k (now (y .entry)) n (now (x .exit)) ⌝ }
+{
+    let d = p - c;
+    let mut i: usize = 0;
+    while i < n {
+        let z = shifted(y, k, i);
+        let a = rest(p, q, s * x[i] + d * z);
+        x[i] = a;
+        i += 1;
+    }
+}
+
+// The same as a row of its own, where t^k y fits.
+pub fn cross(p: u64, s: u64, x: &Row, c: u64, k: usize, y: &Row) -> Row
+    requires { ⌜ CrossIn p s (now x) c k (now y) ⌝ }
+    ensures { λ r. ⌜ Crossed p s (now (x .entry)) c k (now (y .entry)) r ⌝ }
+{
+    let q = rapid_of(p);
+    let n = size(x);
+    let m = size(y) + k;
+    let top = if n < m { m } else { n };
+    let mut r = *x;
+    cross_in(p, q, s, &mut r, c, k, y, top);
+    r
+}
+
+// s + x y up to a multiple of p, kept below 2^63.
+pub fn more(p: u64, s: u64, x: u64, y: u64) -> u64
+    requires { ⌜ MoreIn p s x y ⌝ }
+    ensures { λ r. ⌜ More p s x y r ⌝ }
+{
+    let v = s + x * y;
+    if v < 9223372036854775808 { v } else { v % p }
+}
+
+// The terms from .. to - 1 of coefficient k of x y, up to a multiple of p.
+fn folded(p: u64, x: &Row, y: &Row, from: usize, to: usize, k: usize) -> u64
+    requires { ⌜ PartIn p (now x) (now y) from to k ⌝ }
+    ensures { λ r. ⌜ Part p (now (x .entry)) (now (y .entry)) from to k r ⌝ }
+{
+    let mut s: u64 = 0;
+    let mut i = from;
+    while i < to {
+        s = more(p, s, x[i], y[k - i]);
+        i += 1;
+    }
+    s
+}
+
+// The same: below 2^28 the sum fits as it is.
+fn part(p: u64, x: &Row, y: &Row, from: usize, to: usize, k: usize) -> u64
+    requires { ⌜ PartIn p (now x) (now y) from to k ⌝ }
+    ensures { λ r. ⌜ Part p (now (x .entry)) (now (y .entry)) from to k r ⌝ }
+{
+    if p < 268435456 {
+        let mut s: u64 = 0;
+        let mut i = from;
+        while i < to {
+            s += x[i] * y[k - i];
+            i += 1;
+        }
+        s
+    } else {
+        folded(p, x, y, from, to, k)
+    }
+}
+
+// Coefficient k of x y, from the trimmed lengths n and m.
+fn place(p: u64, q: Rapid, x: &Row, n: usize, y: &Row, m: usize, k: usize) -> u64
+    requires { ⌜ PlaceIn p (q .m) (q .lim) (now x) n (now y) m k ⌝ }
+    ensures { λ r. ⌜ r ≡ sumTo (termAt (now (x .entry)) (now (y .entry)) k) n % p ⌝ }
+{
+    let from = if k < m { 0 } else { k + 1 - m };
+    let to = if k < n { k + 1 } else { n };
+    let v = part(p, x, y, from, to, k);
+    rest(p, q, v)
+}
+
+// x y, where the product fits.
+pub fn mul(p: u64, x: &Row, y: &Row) -> Row
+    requires { ⌜ MulIn p (now x) (now y) ⌝ }
+    ensures { λ r. ⌜ Product p (now (x .entry)) (now (y .entry)) r ⌝ }
+{
+    let q = rapid_of(p);
+    let n = size(x);
+    let m = size(y);
+    let mut r: Row = [0; 32];
+    let mut k: usize = 0;
+    while k + 1 < n + m {
+        r[k] = place(p, q, x, n, y, m, k);
+        k += 1;
+    }
+    r
+}
+
+// The entries of a list of at most 32.
+pub fn from_list(s: &[u64]) -> Row
+    requires { ⌜ length (now s) ≤ 32 ⌝ }
+    ensures { λ r. ⌜ Listed (now (s .entry)) r ⌝ }
+{
+    let mut r: Row = [0; 32];
+    let mut i: usize = 0;
+    while i < s.len() {
+        r[i] = s[i];
+        i += 1;
+    }
+    r
+}
+
+// The coefficient of a / b at k, where q holds those above, up to top.
+pub fn digit(
+    p: u64,
+    s: Rapid,
+    a: &Row,
+    q: &Row,
+    b: &Row,
+    m: usize,
+    il: u64,
+    top: usize,
+    k: usize,
+) -> u64
+    requires { ⌜ DigitIn p (s .m) (s .lim) (now a) (now q) (now b) m il top k ⌝ }
+    ensures { λ v. ⌜ Digit p (now (a .entry)) (now (q .entry)) (now (b .entry)) m il k v ⌝ }
+{
+    let at = k + (m - 1);
+    let to = if at < top { at + 1 } else { top };
+    let u = part(p, q, b, k + 1, to, at);
+    let v = rest(p, s, u);
+    rest(p, s, (a[at] + (p - v)) * il)
+}
+
+// The quotient of a by b from the top, one coefficient a turn; il is the inverse of b's leading coefficient.
+fn quotient(p: u64, a: &Row, b: &Row, il: u64) -> Row
+    requires { ⌜ DivIn p (now a) (now b) il ⌝ }
+    ensures { λ q. ⌜ Quotient p (now (a .entry)) (now (b .entry)) q ⌝ }
+{
+    let s = rapid_of(p);
+    let n = size(a);
+    let m = size(b);
+    let top = if n < m { 0 } else { n + 1 - m };
+    let mut q: Row = [0; 32];
+    let mut k = top;
+    while k > 0 {
+        k -= 1;
+        let v = digit(p, s, a, &q, b, m, il, top, k);
+        q[k] = v;
+    }
+    q
+}
+
+// a = q b + r
+pub struct QuotRem {
+    pub q: Row,
+    pub r: Row,
+}
+
+pub fn divide(p: u64, a: &Row, b: &Row, il: u64) -> QuotRem
+    requires { ⌜ DivIn p (now a) (now b) il ⌝ }
+    ensures { λ d. ⌜ Divided p (now (a .entry)) (now (b .entry)) (d .q) (d .r) ⌝ }
+{
+    let q = quotient(p, a, b, il);
+    let s = mul(p, &q, b);
+    let r = sub(p, a, &s);
+    QuotRem { q, r }
+}
+
+// d/dt
+fn derivative(p: u64, x: &Row) -> Row
+    requires { ⌜ Given p (now x) ⌝ }
+    ensures { λ r. ⌜ Derived p (now (x .entry)) r ⌝ }
+{
+    let n = size(x);
+    let mut r: Row = [0; 32];
+    let mut i: usize = 0;
+    while i + 1 < n {
+        r[i] = ((i + 1) as u64) * x[i + 1] % p;
+        i += 1;
+    }
+    r
+}
+
+// A greatest common divisor, by Euclid: the longer of the two loses its leading term, until one is 0.
+pub fn gcd(p: u64, a: &Row, b: &Row) -> Row
+    requires { ⌜ OverBoth p (now a) (now b) ⌝ }
+    ensures { λ r. ⌜ Common p (now (a .entry)) (now (b .entry)) r ⌝ }
+{
+    let q = rapid_of(p);
+    let mut x = *a;
+    let mut y = *b;
+    let mut n = size(a);
+    let mut m = size(b);
+    while m > 0 {
+        if n < m {
+            let t = x;
+            x = y;
+            y = t;
+            let k = n;
+            n = m;
+            m = k;
+        } else {
+            let s = y[m - 1];
+            let c = x[n - 1];
+            cross_in(p, q, s, &mut x, c, n - m, &y, n);
+            n = size_from(&x, n - 1);
+        }
+    }
+    x
+}
+
+// Whether no square of a polynomial that is not constant divides x: whether x is coprime to its derivative, which is 0 for a p-th power.
+pub fn squarefree(p: u64, x: &Row) -> bool
+    requires { ⌜ Over p (now x) ⌝ }
+    ensures { λ r. ⌜ SquareTest p (now (x .entry)) r ⌝ }
+{
+    let d = derivative(p, x);
+    let m = size(&d);
+    if m == 0 {
+        let k = size(x);
+        if k == 1 { true } else { false }
+    } else {
+        let g = gcd(p, x, &d);
+        let n = size(&g);
+        if n == 1 { true } else { false }
+    }
+}
+
+// Whether no polynomial that is not constant divides both.
+pub fn coprime(p: u64, x: &Row, y: &Row) -> bool
+    requires { ⌜ OverBoth p (now x) (now y) ⌝ }
+    ensures { λ r. ⌜ CoprimeTest p (now (x .entry)) (now (y .entry)) r ⌝ }
+{
+    let g = gcd(p, x, y);
+    let n = size(&g);
+    if n == 1 { true } else { false }
+}

@@ -1,0 +1,237 @@
+-- Determinants, coordinates and the common factor: from what the calls hand out to the contracts.
+use mathlib.Core.Path.{_≡_, sym, ap, ap₂, _∙_, subst}
+use mathlib.Core.Logic.{_≢_}
+use mathlib.Core.Bool.{true}
+use mathlib.Core.List.{List, [], _∷_}
+use Prim.Native.Nat.{ℕ, zero, suc, _+_, _*_, _-_, _%_, _<_, _≤_}
+use native.Mathlib.Nat.{mul-comm}
+use native.Mathlib.Omega.{arith}
+use lib.ListN.{length, getD, replicate}
+use Rattle.math_ring.proofs.Laws as rg
+use Rattle.math_ring.specs.Ring.{Ops, CRing}
+use Rattle.math_ring.proofs.Solve.{var, hyp, one, minus, _:+_, _:*_, solve, solve-by}
+use Rattle.math_fp.specs.Fp.{Prime}
+use Rattle.math_valued.specs.Val.{Valued}
+use Rattle.math_valued.specs.Degree.{Has}
+use Rattle.math_valued.specs.Polynomial.{polys, Poly, Divides, IsUnit}
+use Rattle.math_valued.specs.Gcd.{IsGcd}
+use Rattle.math_valued.proofs.Degree as d
+use Rattle.math_valued.proofs.Divide.{p-cancel}
+use Rattle.math_valued.proofs.Gcds.{divides-trans}
+use Rattle.math_valued.proofs.Polynomial.{P-path, const-unit}
+use Rattle.math_valued.proofs.Coprime.{gcd-greatest, zero-divides}
+use Rattle.num_residue.specs.Residue.{Modulus, Nonzero, Inverse}
+use Rattle.math_rows.specs.Reading.{Reading}
+use Rattle.math_rows.specs.Made.{reading}
+use Rattle.math_rows.specs.Row.{Row, Size, row}
+use Rattle.math_rows.proofs.Rows.{size-le, size-has}
+use Rattle.math_rows.proofs.Floors.{zero-row}
+use Rattle.poly_rows.specs.Leaf.{MulIn, Product, Difference}
+use Rattle.poly_rows.specs.Division.{DivIn, Exact}
+use Rattle.poly_rows.specs.Factors.{polynomial, Common}
+use Rattle.poly_rows.specs.Terms.{Ready}
+use Rattle.poly_lent.specs.Sized.{BothOut, TimesBy, DetOut}
+use Rattle.poly_rows.proofs.Leaf.{size-one}
+use Rattle.step_divide.specs.Rows.{Seven}
+use Rattle.step_divide.specs.Quotients.{three, Det, Quotients, CoordsIn, Coordinates}
+use Rattle.step_divide.specs.Common.{Content, Four, fourDet, CutIn, CutOff}
+
+-- ---- determinants
+pub det-of : (p : ℕ) (x y z v a b r : List ℕ) → Product p x y a → Product p z v b → Difference p a b r → Det p x y z v r
+det-of p x y z v a b r ha hb h = record {
+  is-row = h .is-row;
+  law = λ pr. let o = reading p pr .𝓥 .L .ops in h .law pr ∙ ap₂ (λ s t. o .add s (o .neg t)) (ha .law pr) (hb .law pr);
+}
+
+pub det-out : {p : ℕ} {x y z v o : List ℕ} {l : ℕ} → DetOut p x y z v o l → Det p x y z v o
+det-out h = record { is-row = h .is-row; law = h .law }
+
+-- what `times_in` asks
+pub times-by : {p mul lim n m : ℕ} {x y r : List ℕ} → MulIn p x y → Ready p mul lim → Size x n → Size y m → r ≡ replicate 32 0 → TimesBy p mul lim x n y m r
+times-by h w a b z = record { modulus = h .modulus; ready = w; hx = h .hx; hy = h .hy; sx = a; sy = b; fits = h .room _ _ a b; blank = z }
+
+-- ---- coordinates
+module _ {p : ℕ} {va vb vc : List ℕ} {b : Seven} {e : List ℕ} {ie : ℕ} (c : CoordsIn p va vb vc b e ie)
+    {s β t γ : List ℕ} (ds : Det p vb (b .n2) vc (b .n1) s) (hβ : Exact p s e β) (dt : Det p vc (b .m1) vb (b .m2) t) (hγ : Exact p t e γ) where
+  β-is : (pr : Prime p) {x y z : reading p pr .𝓥 .L .El} → Quotients pr va vb vc b e x y z → row (reading p pr) β ≡ y
+  β-is pr {x} {y} q = hβ .law pr y (q .β-poly) (sym (q .e-β) ∙ sym (ds .law pr))
+
+  γ-is : (pr : Prime p) {x y z : reading p pr .𝓥 .L .El} → Quotients pr va vb vc b e x y z → row (reading p pr) γ ≡ z
+  γ-is pr {x} {y} {z} q = hγ .law pr z (q .γ-poly) (sym (q .e-γ) ∙ sym (dt .law pr))
+
+  pub room-β : MulIn p β (b .m0)
+  room-β = record {
+    modulus = c .modulus;
+    hx = hβ .is-row;
+    hy = c .rows .m0;
+    room = λ n m sn sm.
+        let l : n ≤ c .kβ = size-le (reading p (c .prime)) (c .kβ) (hβ .is-row) sn (d.lt-eq (reading p (c .prime) .𝓥) (c .β-lt) (sym (β-is (c .prime) (c .some)))) in
+        let h : c .kβ + m ≤ 33 = c .room-m0 m sm in
+        omega arith;
+  }
+
+  pub room-γ : MulIn p γ (b .n0)
+  room-γ = record {
+    modulus = c .modulus;
+    hx = hγ .is-row;
+    hy = c .rows .n0;
+    room = λ n m sn sm.
+        let l : n ≤ c .kγ = size-le (reading p (c .prime)) (c .kγ) (hγ .is-row) sn (d.lt-eq (reading p (c .prime) .𝓥) (c .γ-lt) (sym (γ-is (c .prime) (c .some)))) in
+        let h : c .kγ + m ≤ 33 = c .room-n0 m sm in
+        omega arith;
+  }
+
+  pub coords-made : {h α : List ℕ} {n : ℕ} → BothOut p true β (b .m0) true γ (b .n0) va h n → Exact p h (b .u) α → Coordinates p va vb vc b e (three α β γ)
+  coords-made {h} {α} g ha = record {
+    ha = ha .is-row;
+    hb = hβ .is-row;
+    hc = hγ .is-row;
+    law = λ pr α′ β′ γ′ q. (ha .law pr α′ (q .α-poly) (sym (q .U-α) ∙ sym (off pr q)), β-is pr q, γ-is pr q);
+  }
+    where
+      off : (pr : Prime p) {α′ β′ γ′ : reading p pr .𝓥 .L .El} → Quotients pr va vb vc b e α′ β′ γ′
+          → row (reading p pr) h ≡ (let o = reading p pr .𝓥 .L .ops in o .add (row (reading p pr) va) (o .neg (o .add (o .mul β′ (row (reading p pr) (b .m0))) (o .mul γ′ (row (reading p pr) (b .n0))))))
+      off pr {α′} {β′} {γ′} q = let L = reading p pr .𝓥 .L in let o = L .ops in let R = row (reading p pr) in
+          g .law pr
+          ∙ ap₂ (λ s t. o .add (o .add (R va) (o .neg (o .mul s (R (b .m0))))) (o .neg (o .mul t (R (b .n0))))) (β-is pr q) (γ-is pr q)
+          ∙ solve L (var 0 :+ minus (var 1 :* var 2) :+ minus (var 3 :* var 4)) (var 0 :+ minus (var 1 :* var 2 :+ var 3 :* var 4)) tt (R va ∷ β′ ∷ R (b .m0) ∷ γ′ ∷ R (b .n0) ∷ [])
+
+-- ---- the common factor
+-- a row of length 1 is a unit
+pub size-unit : {p : ℕ} (pr : Prime p) (l : List ℕ) → Row p l → Size l 1 → IsUnit (reading p pr .𝓥) (polynomial p pr l)
+size-unit {p} pr l r s = const-unit (reading p pr .𝓥) (polynomial p pr l) (size-has (reading p pr) r s)
+
+unit-divides : (𝓥 : Valued) (u a : Poly 𝓥) → IsUnit 𝓥 u → Divides 𝓥 u a
+unit-divides 𝓥 u a (v, e) = (polys 𝓥 .ops .mul v a, solve-by (polys 𝓥) (var 2) (var 0 :* (var 1 :* var 2)) (hyp (var 2) one (var 0 :* var 1) ∷ []) tt (u ∷ v ∷ a ∷ []) (e, tt))
+
+pub content-unit : (p : ℕ) (x0 x2 y0 y2 g : List ℕ) (n : ℕ) → Common p x2 y2 g → Size g n → n ≡ 1 → Content p x0 x2 y0 y2 g
+content-unit p x0 x2 y0 y2 g n h z e = let s : Size g 1 = subst (Size g) e z in record {
+  is-row = h .is-row;
+  divides = λ pr. let u = size-unit pr g (h .is-row) s in
+      (unit-divides (reading p pr .𝓥) _ _ u, unit-divides (reading p pr .𝓥) _ _ u, unit-divides (reading p pr .𝓥) _ _ u, unit-divides (reading p pr .𝓥) _ _ u);
+  most = λ pr d a b c e. gcd-greatest (reading p pr .𝓥) d (h .law pr) b e;
+}
+
+pub content-of : (p : ℕ) (x0 x2 y0 y2 g k r : List ℕ) → Common p x2 y2 g → Common p g y0 k → Common p k x0 r → Content p x0 x2 y0 y2 r
+content-of p x0 x2 y0 y2 g k r h₁ h₂ h₃ = record {
+  is-row = h₃ .is-row;
+  divides = λ pr. let 𝓥 = reading p pr .𝓥 in
+      let rk = h₃ .law pr .left in
+      let rg = divides-trans 𝓥 _ _ _ rk (h₂ .law pr .left) in
+      (h₃ .law pr .right, divides-trans 𝓥 _ _ _ rg (h₁ .law pr .left), divides-trans 𝓥 _ _ _ rk (h₂ .law pr .right), divides-trans 𝓥 _ _ _ rg (h₁ .law pr .right));
+  most = λ pr d a b c e. let 𝓥 = reading p pr .𝓥 in gcd-greatest 𝓥 d (h₃ .law pr) (gcd-greatest 𝓥 d (h₂ .law pr) (gcd-greatest 𝓥 d (h₁ .law pr) b e) c) a;
+}
+
+module _ {p : ℕ} {x0 x2 y0 y2 k f : List ℕ} (c : CutIn p x0 x2 y0 y2) (h : Content p x0 x2 y0 y2 k) (df : Det p x2 y0 x0 y2 f) where
+  -- the determinant is not 0, so the common factor is not
+  pub content-pos : (n : ℕ) → Size k n → 0 < n
+  content-pos zero s = absurd (c .nz (
+      let pr = c .rows .prime in
+      let 𝓥 = reading p pr .𝓥 in
+      let z = zero-row (reading p pr) k s in
+      let (a0, a2, b0, b2) = h .divides pr in
+      let o = 𝓥 .L .ops in
+      ap₂ (λ u v. o .add (o .mul u (row (reading p pr) y0)) (o .neg (o .mul v (row (reading p pr) y2)))) (zero-divides 𝓥 _ _ z a2) (zero-divides 𝓥 _ _ z a0)
+      ∙ ap₂ (λ u v. o .add u (o .neg v)) (rg.zero-mul′ (𝓥 .L) (row (reading p pr) y0)) (rg.zero-mul′ (𝓥 .L) (row (reading p pr) y2)) ∙ 𝓥 .L .laws .add-neg (o .𝟎)))
+  content-pos (suc n) s = omega arith
+
+  pub content-lead : {n : ℕ} → Size k n → Nonzero p (getD k (n - 1) 0)
+  content-lead {n} s = record {
+    modulus = c .rows .modulus;
+    prime = c .rows .prime;
+    pos = (let e : getD k (n - 1) 0 ≢ 0 = s .top (content-pos n s) in omega (arith, e));
+    below = h .is-row .each (n - 1);
+  }
+
+  -- division by it
+  pub by-content : {n il : ℕ} → Size k n → Inverse p (getD k (n - 1) 0) il → (x : List ℕ) → Row p x → DivIn p x k il
+  by-content {n} {il} s i x r = record {
+    modulus = c .rows .modulus;
+    ha = r;
+    hb = h .is-row;
+    hi = i .below;
+    inv = λ m t. ap (λ j. (il * getD k (j - 1) 0) % p) (size-one t s) ∙ ap (λ z. z % p) (mul-comm il (getD k (n - 1) 0)) ∙ i .law;
+  }
+
+  -- f is the determinant
+  f-is : (pr : Prime p) → polynomial p pr f ≡ fourDet p pr x0 x2 y0 y2
+  f-is pr = P-path (reading p pr .𝓥) {a = polynomial p pr f} {b = fourDet p pr x0 x2 y0 y2} (df .law pr)
+
+  pub cut-none : (n : ℕ) (o : Four) → Size k n → n ≡ 1 → o .a0 ≡ x0 → o .a2 ≡ x2 → o .b0 ≡ y0 → o .b2 ≡ y2 → o .d ≡ f → o .cut ≡ 0 → CutOff p x0 x2 y0 y2 o
+  cut-none n o z e e0 e2 g0 g2 ed ec = let s : Size k 1 = subst (Size k) e z in record {
+    h0 = subst (Row p) (sym e0) (c .rows .h0);
+    h2 = subst (Row p) (sym e2) (c .rows .h2);
+    k0 = subst (Row p) (sym g0) (c .rows .k0);
+    k2 = subst (Row p) (sym g2) (c .rows .k2);
+    hd = subst (Row p) (sym ed) (df .is-row);
+    law = λ pr. let 𝓥 = reading p pr .𝓥 in let R = polys 𝓥 in record {
+      g = R .ops .𝟏;
+      g-has = subst (Has 𝓥 (𝓥 .L .ops .𝟏)) (sym ec) (d.has-one 𝓥);
+      x0-eq = ap (polynomial p pr) (sym e0) ∙ sym (rg.one-mul R _);
+      x2-eq = ap (polynomial p pr) (sym e2) ∙ sym (rg.one-mul R _);
+      y0-eq = ap (polynomial p pr) (sym g0) ∙ sym (rg.one-mul R _);
+      y2-eq = ap (polynomial p pr) (sym g2) ∙ sym (rg.one-mul R _);
+      d-eq = sym (f-is pr) ∙ ap (polynomial p pr) (sym ed) ∙ sym (rg.one-mul R _);
+      alone = λ z a0 a2 b0 b2. divides-trans 𝓥 z (polynomial p pr k) (R .ops .𝟏)
+          (h .most pr z (subst (λ l. Divides 𝓥 z (polynomial p pr l)) e0 a0) (subst (λ l. Divides 𝓥 z (polynomial p pr l)) e2 a2)
+          (subst (λ l. Divides 𝓥 z (polynomial p pr l)) g0 b0) (subst (λ l. Divides 𝓥 z (polynomial p pr l)) g2 b2))
+          (size-unit pr k (h .is-row) s);
+    };
+  }
+
+  -- an exact quotient by the common factor
+  over : (pr : Prime p) (x q : List ℕ) → Exact p x k q → Divides (reading p pr .𝓥) (polynomial p pr k) (polynomial p pr x)
+      → polynomial p pr x ≡ polys (reading p pr .𝓥) .ops .mul (polynomial p pr k) (polynomial p pr q)
+  over pr x q hq (w, e) = e ∙ ap (λ z. polys (reading p pr .𝓥) .ops .mul (polynomial p pr k) z)
+      (sym (P-path (reading p pr .𝓥) {a = polynomial p pr q} {b = w} (hq .law pr (w .0) (w .1) (sym (ap (λ z. z .0) e)))))
+
+  -- it divides the determinant
+  divides-f : (pr : Prime p) → Divides (reading p pr .𝓥) (polynomial p pr k) (polynomial p pr f)
+  divides-f pr =
+      let R = polys (reading p pr .𝓥) in
+      let ((q0, e0), (q2, e2), b0, b2) = h .divides pr in
+      let P = polynomial p pr in (
+        R .ops .add (R .ops .mul q2 (P y0)) (R .ops .neg (R .ops .mul q0 (P y2))),
+        f-is pr ∙ solve-by R (var 0 :* var 1 :+ minus (var 2 :* var 3)) (var 4 :* (var 5 :* var 1 :+ minus (var 6 :* var 3)))
+            (hyp (var 1) (var 0) (var 4 :* var 5) ∷ hyp (minus (var 3)) (var 2) (var 4 :* var 6) ∷ []) tt
+            (P x2 ∷ P y0 ∷ P x0 ∷ P y2 ∷ P k ∷ q2 ∷ q0 ∷ []) (e2, (e0, tt)),
+      )
+
+  pub cut-some : {n : ℕ} (o : Four) → Size k n → Exact p x0 k (o .a0) → Exact p x2 k (o .a2) → Exact p y0 k (o .b0) → Exact p y2 k (o .b2) → Exact p f k (o .d) → o .cut ≡ n - 1
+      → CutOff p x0 x2 y0 y2 o
+  cut-some {n} o s a0 a2 b0 b2 df′ ec = record {
+    h0 = a0 .is-row;
+    h2 = a2 .is-row;
+    k0 = b0 .is-row;
+    k2 = b2 .is-row;
+    hd = df′ .is-row;
+    law = λ pr.
+        let 𝓥 = reading p pr .𝓥 in
+        let R = polys 𝓥 in
+        let (d0, d2, c0, c2) = h .divides pr in
+        let e0 = over pr x0 (o .a0) a0 d0 in
+        let e2 = over pr x2 (o .a2) a2 d2 in
+        let f0 = over pr y0 (o .b0) b0 c0 in
+        let f2 = over pr y2 (o .b2) b2 c2 in
+        let g-has : Has 𝓥 (polynomial p pr k .0) (n - 1) = has-at pr n s in
+        record {
+          g = polynomial p pr k;
+          g-has = subst (Has 𝓥 (polynomial p pr k .0)) (sym ec) g-has;
+          x0-eq = e0;
+          x2-eq = e2;
+          y0-eq = f0;
+          y2-eq = f2;
+          d-eq = sym (f-is pr) ∙ over pr f (o .d) df′ (divides-f pr);
+          alone = λ z a0 a2 b0 b2.
+              let (q, e) = h .most pr (R .ops .mul (polynomial p pr k) z) (more pr z e0 a0) (more pr z e2 a2) (more pr z f0 b0) (more pr z f2 b2) in
+              (q, p-cancel 𝓥 (polynomial p pr k) (R .ops .𝟏) (R .ops .mul z q) g-has (R .laws .mul-one _ ∙ e ∙ R .laws .mul-assoc _ _ _));
+        };
+  }
+    where
+      has-at : (pr : Prime p) (n : ℕ) → Size k n → Has (reading p pr .𝓥) (polynomial p pr k .0) (n - 1)
+      has-at pr zero s = absurd (let l : 0 < 0 = content-pos 0 s in omega arith)
+      has-at pr (suc n) s = subst (Has (reading p pr .𝓥) (polynomial p pr k .0)) (let e : n ≡ suc n - 1 = omega arith in e) (size-has (reading p pr) (h .is-row) s)
+
+      more : (pr : Prime p) (z : Poly (reading p pr .𝓥)) {x q : Poly (reading p pr .𝓥)} → x ≡ polys (reading p pr .𝓥) .ops .mul (polynomial p pr k) q → Divides (reading p pr .𝓥) z q
+          → Divides (reading p pr .𝓥) (polys (reading p pr .𝓥) .ops .mul (polynomial p pr k) z) x
+      more pr z e (w, f) = let R = polys (reading p pr .𝓥) in (w, e ∙ ap (λ t. R .ops .mul (polynomial p pr k) t) f ∙ sym (R .laws .mul-assoc _ _ _))

@@ -1,0 +1,196 @@
+-- What `advanced` makes is the step: the rows that are loaded, the seven polynomials that come back, and the degree of m.
+use mathlib.Core.Path.{_≡_, refl, sym, ap, ap₂, _∙_, subst}
+use mathlib.Core.List.{List}
+use Prim.Native.Nat.{ℕ, zero, suc, _+_, _*_, _-_, _<_, _≤_}
+use native.Mathlib.Omega.{arith}
+use lib.ListN.{getD}
+use Rattle.math_ring.specs.Ring.{Ops, CRing}
+use Rattle.math_valued.specs.Val.{Valued}
+use Rattle.math_valued.specs.Degree.{Has, Lt}
+use Rattle.math_valued.specs.Polynomial.{polys, Poly, Divides, IsUnit}
+use Rattle.math_valued.proofs.Degree as d
+use Rattle.math_valued.proofs.Polynomial.{P-path, const-unit}
+use Rattle.num_residue.specs.Residue.{Modulus}
+use Rattle.math_rows.specs.Reading.{Reading}
+use Rattle.math_rows.specs.Made.{reading}
+use Rattle.math_rows.specs.Row.{Row, Size, row}
+use Rattle.math_turns.specs.Points.{Pt, Moved}
+use Rattle.poly_rows.proofs.Leaf.{size-one}
+use Rattle.field_open.specs.Refusal.{Accepted}
+use Rattle.math_ideals.specs.Setting.{Setting, P}
+use Rattle.math_ideals.specs.Ideal.{Basis}
+use Rattle.math_ideals.specs.Basis.{Good}
+use Rattle.math_ideals.specs.Next.{Next}
+use Rattle.math_ideals.proofs.Degrees.{small}
+use Rattle.math_ideals.proofs.Divided.{ev-M}
+use Rattle.math_chain.specs.Chain.{Degree}
+use Rattle.math_chain.proofs.Parts.{Parts, Cut, x1, y1, base}
+use Rattle.math_chain.proofs.Changed.{Pair, Changed}
+use Rattle.math_chain.proofs.Moved.{changed-of}
+use Rattle.math_chain.proofs.Frame.{pair, off, Framed, Rebased}
+use Rattle.math_chain.proofs.Correct.{Ends, base-framed, step-correct}
+use Rattle.basis_record.specs.Record.{part, setting, polyOf, basisOf, IsRecord}
+use Rattle.step_divide.specs.Rows.{Seven, seven, AreRows, rowsOf}
+use Rattle.step_divide.proofs.Products.{sizes}
+use Rattle.step_divide.specs.Generated.{Generators, Generated, GeneratorsIn, AreGenerators}
+use Rattle.basis_reduce.specs.Frame.{frame, Meaning}
+use Rattle.basis_scale.specs.Store.{SevenLoaded}
+use Rattle.basis_scale.specs.Based.{BasisIn, BasedAt, Based}
+use Rattle.basis_scale.proofs.Loads.{rows-are, rows-path, rows-good}
+use Rattle.step_next.specs.Steps.{Known, Keeps, Steps, AdvanceIn, Advanced}
+use Rattle.step_next.specs.declared.Advance.{Advance}
+use Rattle.step_next.proofs.Reduction.{size-of, pairOf, RowsOf, meaning, cut-low, basis-in}
+
+-- ---- from the end of the reduction to the next basis
+module _ {p : ℕ} {G H : List ℕ} (A : Accepted p G H) {g h gh : List ℕ} {n dr dw : ℕ} {r w : List ℕ} (k : Known A g h gh n dr dw r w)
+    (b : Seven) (good : Good (setting A) (rowsOf A b)) {o : Generators} (m : Generated A b o) (B′ : List ℕ) where
+  abbrev 𝓥 : Valued
+  𝓥 = setting A .𝓥
+
+  abbrev base₀ : Basis (setting A)
+  base₀ = base (setting A) (rowsOf A b) (m .k) (m .c)
+
+  -- base, with its rows in place of its polynomials
+  abbrev base₁ : Basis (setting A)
+  base₁ = record {
+    U = polyOf A (o .u);
+    M = record { a = base (setting A) (rowsOf A b) (m .k) (m .c) .M .a; b = polyOf A (o .mb); c = polyOf A (o .mc) };
+    N = record { a = base (setting A) (rowsOf A b) (m .k) (m .c) .N .a; b = polyOf A (o .nb); c = polyOf A (o .nc) };
+  }
+
+  same-base : base₁ ≡ base₀
+  same-base = λ i. record {
+    U = m .u-is i;
+    M = record { a = base (setting A) (rowsOf A b) (m .k) (m .c) .M .a; b = m .mb-is i; c = m .mc-is i };
+    N = record { a = base (setting A) (rowsOf A b) (m .k) (m .c) .N .a; b = m .nb-is i; c = m .nc-is i };
+  }
+
+  module _ (e : BasedAt (meaning A k) (pairOf o) (o .u) (o .x) (o .y) B′) where
+    ends : Ends (setting A) (basisOf A B′)
+    ends = record {
+      u = e .u;
+      x = e .x;
+      y = e .y;
+      U-lead = e .U-lead;
+      X-M = e .X-M;
+      Y-N = e .Y-N;
+      u≤y = e .u≤y;
+      X-N = e .X-N;
+      Y-M = e .Y-M;
+      Z-M = e .Z-M;
+      Z-N = e .Z-N;
+    }
+
+    rebased : Rebased (setting A) (polyOf A (o .x)) (polyOf A (o .y)) base₁ (basisOf A B′)
+    rebased = record {
+      old = subst (λ z. Framed (setting A) (polyOf A (o .x)) (polyOf A (o .y)) z) (sym same-base)
+          (subst (λ z. Framed (setting A) z (polyOf A (o .y)) base₀) (sym (m .x-is)) (subst (λ z. Framed (setting A) (x1 (setting A) (rowsOf A b) (m .k)) z base₀) (sym (m .y-is)) (base-framed (setting A) (rowsOf A b) (m .k) (m .c))));
+      new = record { M-a = ((e .kM, e .kM-poly), P-path 𝓥 (e .M-a)); N-a = ((e .kN, e .kN-poly), P-path 𝓥 (e .N-a)) };
+      unit = (𝓥 .const (e .ν), 𝓥 .const-poly (e .ν));
+      is-unit = const-unit 𝓥 (𝓥 .const (e .ν), 𝓥 .const-poly (e .ν)) (e .ν, e .ν-unit, 𝓥 .const-lead (e .ν));
+      U-eq = P-path 𝓥 (e .U-eq);
+      change = changed-of (reading p (A .prime)) (pair (setting A) (base₁ .M)) (pair (setting A) (base₁ .N)) (pair (setting A) (basisOf A B′ .M)) (pair (setting A) (basisOf A B′ .N)) (e .moved);
+    }
+
+    pub made : Good (setting A) (basisOf A B′) × Next (setting A) (rowsOf A b) (basisOf A B′)
+    made = step-correct (setting A) (rowsOf A b) good (m .k) (m .c) (basisOf A B′)
+        (subst (λ z. Rebased (setting A) z (y1 (setting A) (rowsOf A b) (m .k)) base₀ (basisOf A B′)) (m .x-is)
+        (subst (λ z. Rebased (setting A) (polyOf A (o .x)) z base₀ (basisOf A B′)) (m .y-is)
+        (subst (λ z. Rebased (setting A) (polyOf A (o .x)) (polyOf A (o .y)) z (basisOf A B′)) same-base rebased)))
+        ends
+
+-- ---- the degree of m
+pub degree-of : {p : ℕ} {G H : List ℕ} (A : Accepted p G H) (b : Seven) → AreRows p b → Good (setting A) (rowsOf A b) → (lm lu : ℕ) → Size (b .m0) lm → Size (b .u) lu
+    → (lu ≤ lm) × Degree (setting A) (rowsOf A b) (lm - lu)
+degree-of {p} A b rows good lm lu sm su =
+    let s = small (setting A) (rowsOf A b) good in
+    let e : lm ≡ suc (s .x) = size-one sm (size-of (reading p (A .prime)) (rows .m0) (s .M0)) in
+    let f : lu ≡ suc (s .u) = size-one su (size-of (reading p (A .prime)) (rows .u) (s .U-has)) in
+    let l : s .u < s .x = s .u<x in
+    (omega arith, record { x = s .x; u = s .u; M-deg = ev-M (setting A) (rowsOf A b) s; U-deg = s .U-has; eq = omega arith })
+
+-- ---- what `advanced` asks and makes
+pub field-modulus : {p : ℕ} {g h gh : List ℕ} {n dr dw : ℕ} {r w B : List ℕ} → AdvanceIn p g h gh n dr dw r w B → Modulus p
+field-modulus {p} i = let A = i .keeps .accepted in record { big = A .prime .big; small = (let l : p ≤ 65535 = A .high in omega arith) }
+
+module _ {p : ℕ} {g h gh : List ℕ} {n dr dw : ℕ} {r w B : List ℕ} (i : AdvanceIn p g h gh n dr dw r w B) {b : Seven} (l : SevenLoaded B b) where
+  abbrev A : Accepted p (i .G) (i .H)
+  A = i .keeps .accepted
+
+  pub good-rows : Good (setting (i .keeps .accepted)) (rowsOf (i .keeps .accepted) b)
+  good-rows = rows-good A l (i .is-record .good A)
+
+  pub are-rows : AreRows p b
+  are-rows = rows-are l (i .is-record .each)
+
+  pub n-small : n ≤ 16
+  n-small = let e : n ≡ A .degG + A .degH = i .keeps .known A .n-is in let q : A .degG + A .degH ≤ 16 = A .sum in omega arith
+
+  pub gh-size : Size gh (n + 1)
+  gh-size = subst (Size gh) (omega (arith, i .keeps .known A .n-is))
+      (size-of (reading p (A .prime)) (i .keeps .hgh) (d.has-eq (reading p (A .prime) .𝓥) (d.has-mul (reading p (A .prime) .𝓥) (setting A .G-deg) (setting A .H-deg)) (sym (i .keeps .known A .holds .gh-is))))
+
+  -- G H leads at n
+  lead-at : (m : ℕ) → Size gh m → getD gh n 0 ≡ getD gh (m - 1) 0
+  lead-at m s = let e : m ≡ n + 1 = size-one s gh-size in ap (λ j. getD gh j 0) (let w : n ≡ m - 1 = omega arith in w)
+
+  pub lead-low : getD gh n 0 ≤ p
+  lead-low = let t : getD gh n 0 < p = i .keeps .hgh .each n in omega arith
+
+  pub divided-in : GeneratorsIn p (n + 1) g h gh (p - getD gh n 0) b
+  divided-in = record {
+    hg = i .keeps .hg;
+    hh = i .keeps .hh;
+    hgh = i .keeps .hgh;
+    rows = are-rows;
+    inverse = λ m s. ap (λ t. p - t) (lead-at m s);
+    G = i .G;
+    H = i .H;
+    σ = A;
+    holds = i .keeps .known A .holds;
+    good = good-rows;
+    past = (let q : n ≡ A .degG + A .degH = i .keeps .known A .n-is in omega arith);
+    fits = (let q : n ≤ 16 = n-small in omega arith);
+  }
+
+  -- the lengths of G, H and G H; deg G = 2 deg w − deg r and deg H = 2 deg r − deg w
+  pub degrees-small : (dr ≤ 16) × (dw ≤ 16)
+  degrees-small = (omega (arith, i .keeps .known A .dr-is, i .keeps .known A .n-is, sizes A b good-rows .both, n-small), omega (arith, i .keeps .known A .dw-is, i .keeps .known A .n-is, sizes A b good-rows .both, n-small))
+
+  pub dr-low : dr ≤ 2 * dw
+  dr-low = omega (arith, i .keeps .known A .dr-is, i .keeps .known A .dw-is, sizes A b good-rows .two-r, sizes A b good-rows .both)
+
+  pub dw-low : dw ≤ 2 * dr
+  dw-low = omega (arith, i .keeps .known A .dr-is, i .keeps .known A .dw-is, sizes A b good-rows .two-r, sizes A b good-rows .both)
+
+  pub g-size : Size g (2 * dw + 1 - dr)
+  g-size = subst (Size g) (omega (arith, i .keeps .known A .dr-is, i .keeps .known A .dw-is, sizes A b good-rows .two-r, sizes A b good-rows .both))
+      (size-of (reading p (A .prime)) (i .keeps .hg) (d.has-eq (reading p (A .prime) .𝓥) (setting A .G-deg) (sym (i .keeps .known A .holds .g-is))))
+
+  pub h-size : Size h (2 * dr + 1 - dw)
+  h-size = subst (Size h) (omega (arith, i .keeps .known A .dr-is, i .keeps .known A .dw-is, sizes A b good-rows .two-r, sizes A b good-rows .both))
+      (size-of (reading p (A .prime)) (i .keeps .hh) (d.has-eq (reading p (A .prime) .𝓥) (setting A .H-deg) (sym (i .keeps .known A .holds .h-is))))
+
+  pub shorter : (lm lu : ℕ) → Size (b .m0) lm → Size (b .u) lu → lu ≤ lm
+  shorter lm lu sm su = degree-of A b are-rows good-rows lm lu sm su .0
+
+  generator-rows : {o : Generators} → AreGenerators p g h gh b o → RowsOf p o
+  generator-rows ho = record { hx = ho .hx; hy = ho .hy; hmb = ho .hmb; hmc = ho .hmc; hnb = ho .hnb; hnc = ho .hnc; hu = ho .hu }
+
+  pub cut-fits : {o : Generators} → AreGenerators p g h gh b o → o .cut ≤ n
+  cut-fits ho = cut-low A (i .keeps) b good-rows (generator-rows ho) (ho .each A (i .keeps .known A .holds) good-rows)
+
+  pub reduced-in : {o : Generators} → AreGenerators p g h gh b o → BasisIn (frame p r w dr dw) (pairOf o) (n + 1 - o .cut) (o .u) (o .x) (o .y)
+  reduced-in ho = basis-in A (i .keeps) b good-rows (generator-rows ho) (ho .each A (i .keeps .known A .holds) good-rows)
+
+  pub advanced-of : {o : Generators} → AreGenerators p g h gh b o → (lm lu : ℕ) → Size (b .m0) lm → Size (b .u) lu
+      → (a : Advance) → Based (frame p r w dr dw) (pairOf o) (o .u) (o .x) (o .y) (a .basis) → a .degree ≡ lm - lu → Advanced p g h gh n dr dw r w B a
+  advanced-of {o} ho lm lu sm su a hb e = λ G H kp rec.
+      let goodAt : (A : Accepted p G H) → Good (setting A) (rowsOf A b) = λ A. rows-good A l (rec .good A) in
+      let step : (A : Accepted p G H) → Good (setting A) (basisOf A (a .basis)) × Next (setting A) (rowsOf A b) (basisOf A (a .basis)) =
+      λ A. made A (kp .known A) b (goodAt A) (ho .each A (kp .known A .holds) (goodAt A)) (a .basis) (hb .meant (meaning A (kp .known A))) in
+      record {
+        is-record = record { size = hb .size; each = hb .each; good = λ A. step A .0 };
+        next = λ A. subst (λ z. Next (setting A) z (basisOf A (a .basis))) (rows-path A l) (step A .1);
+        degree = λ A. subst (λ z. Degree (setting A) z (a .degree)) (rows-path A l) (subst (Degree (setting A) (rowsOf A b)) (sym e) (degree-of A b (rows-are l (rec .each)) (goodAt A) lm lu sm su .1));
+      }

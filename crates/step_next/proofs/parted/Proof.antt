@@ -1,0 +1,101 @@
+-- `step_next::parted` meets its contract.
+use mathlib.Core.Path.{refl}
+use native.Mathlib.Omega.{arith}
+use borrow.Author.Needs.{needs}
+use Rattle.step_divide.specs.Rows.{seven}
+use Rattle.basis_scale.specs.Store.{SevenLoaded}
+use Rattle.step_next.proofs.Made.{lead-low, divided-in, n-small, g-size, h-size, gh-size, dr-low, dw-low, degrees-small, shorter}
+use Rattle.step_next.proofs.parted.Statement.{statement}
+use Rattle.step_next.proofs.parted.Tie as tie
+
+-- the seven rows
+seven-loaded : (c : tie.After-load7) → SevenLoaded (c .before .before .before .before .before .before .before .args .b .now) (seven (c .before .before .before .before .before .before .load .result) (c .before .before .before .before .before .load2 .result) (c .before .before .before .before .load3 .result) (c .before .before .before .load4 .result) (c .before .before .load5 .result) (c .before .load6 .result) (c .load7 .result))
+seven-loaded c = record { m0 = c .before .before .before .before .before .before .load .ensures; m1 = c .before .before .before .before .before .load2 .ensures; m2 = c .before .before .before .before .load3 .ensures; n0 = c .before .before .before .load4 .ensures; n1 = c .before .before .load5 .ensures; n2 = c .before .load6 .ensures; u = c .load7 .ensures }
+
+load-requires : tie.Need-load-requires
+load-requires c κs = search needs
+
+load-requires-2 : tie.Need-load-requires-2
+load-requires-2 c κs = search needs
+
+load-requires-3 : tie.Need-load-requires-3
+load-requires-3 c κs = search needs
+
+load-requires-4 : tie.Need-load-requires-4
+load-requires-4 c κs = search needs
+
+load-requires-5 : tie.Need-load-requires-5
+load-requires-5 c κs = search needs
+
+load-requires-6 : tie.Need-load-requires-6
+load-requires-6 c κs = search needs
+
+load-requires-7 : tie.Need-load-requires-7
+load-requires-7 c κs = search needs
+
+mul-l : tie.Need-mul-l
+mul-l c = omega (arith, n-small (c .before .before .before .before .before .before .before .pre .on .inp) (seven-loaded c))
+
+element-copy-out-l : tie.Need-element-copy-out-l
+element-copy-out-l c = omega (arith, n-small (c .before .before .before .before .before .before .before .pre .on .inp) (seven-loaded c))
+
+add-divided : tie.Need-add-divided
+add-divided c = omega (arith, n-small (c .before .before .before .before .before .before .before .before .pre .on .inp) (seven-loaded (c .before)), degrees-small (c .before .before .before .before .before .before .before .before .pre .on .inp) (seven-loaded (c .before)))
+
+mul-divided : tie.Need-mul-divided
+mul-divided c = omega (arith, n-small (c .before .before .before .before .before .before .before .before .pre .on .inp) (seven-loaded (c .before)), degrees-small (c .before .before .before .before .before .before .before .before .pre .on .inp) (seven-loaded (c .before)))
+
+add-divided-2 : tie.Need-add-divided-2
+add-divided-2 c = omega (arith, n-small (c .before .before .before .before .before .before .before .before .pre .on .inp) (seven-loaded (c .before)), degrees-small (c .before .before .before .before .before .before .before .before .pre .on .inp) (seven-loaded (c .before)))
+
+mul-divided-2 : tie.Need-mul-divided-2
+mul-divided-2 c = omega (arith, n-small (c .before .before .before .before .before .before .before .before .pre .on .inp) (seven-loaded (c .before)), degrees-small (c .before .before .before .before .before .before .before .before .pre .on .inp) (seven-loaded (c .before)))
+
+add-divided-3 : tie.Need-add-divided-3
+add-divided-3 c = omega (arith, n-small (c .before .before .before .before .before .before .before .before .pre .on .inp) (seven-loaded (c .before)), degrees-small (c .before .before .before .before .before .before .before .before .pre .on .inp) (seven-loaded (c .before)))
+
+sub-divided : tie.Need-sub-divided
+sub-divided c = omega (arith, dr-low (c .before .before .before .before .before .before .before .before .pre .on .inp) (seven-loaded (c .before)))
+
+sub-divided-2 : tie.Need-sub-divided-2
+sub-divided-2 c = omega (arith, dw-low (c .before .before .before .before .before .before .before .before .pre .on .inp) (seven-loaded (c .before)))
+
+sub-divided-3 : tie.Need-sub-divided-3
+sub-divided-3 c = lead-low (c .before .before .before .before .before .before .before .before .pre .on .inp) (seven-loaded (c .before))
+
+divided-requires : tie.Need-divided-requires
+divided-requires c κs =
+    let s = c .before .before .before .before .before .before .before .before .before .before .before .before .before .before .before .before .before .before .before .before .before .before .pre in
+    let l = seven-loaded (c .before .before .before .before .before .before .before .before .before .before .before .before .before .before .before) in
+    record { inp = divided-in (s .on .inp) l; ready = s .on .ready; sg = g-size (s .on .inp) l; sh = h-size (s .on .inp) l; sgh = gh-size (s .on .inp) l; blank-x = s .on .blank-x; blank-y = s .on .blank-y; blank-d = s .on .blank-d }
+
+sub-t27 : tie.Need-sub-t27
+sub-t27 c = shorter (c .before .before .before .before .before .before .before .before .before .before .before .before .before .before .before .before .before .before .before .before .before .before .before .before .pre .on .inp) (seven-loaded (c .before .before .before .before .before .before .before .before .before .before .before .before .before .before .before .before .before)) _ _ (c .before .divided .ensures .was-m0) (c .before .divided .ensures .was-u)
+
+returns : tie.Need-returns
+returns c = record { b = _; loaded = seven-loaded (c .before .before .before .before .before .before .before .before .before .before .before .before .before .before .before .before .before); lm = _; lu = _; divided = c .before .divided .ensures; degree = refl }
+
+pub parted-spec : {M : Type 1} → statement M
+parted-spec =
+    tie.close
+    (tie.spec
+    load-requires
+    load-requires-2
+    load-requires-3
+    load-requires-4
+    load-requires-5
+    load-requires-6
+    load-requires-7
+    mul-l
+    element-copy-out-l
+    add-divided
+    mul-divided
+    add-divided-2
+    sub-divided
+    mul-divided-2
+    add-divided-3
+    sub-divided-2
+    sub-divided-3
+    divided-requires
+    sub-t27
+    returns)

@@ -1,0 +1,36 @@
+-- A step on rows, and its first half: from the record to the generators of the ideal divided by m.
+--   AdvanceOn   what `advanced` asks, and seven zero rows
+--   PartIn      the same for some series r, w of the degrees dr, dw
+--   Parting     the generators (`Divided` of crate step_divide) of the seven rows of the record, and the degree of m
+use mathlib.Core.Path.{_≡_}
+use mathlib.Core.List.{List}
+use Prim.Native.Nat.{ℕ, _-_}
+use lib.ListN.{replicate}
+use Rattle.poly_rows.specs.Terms.{Ready}
+use Rattle.step_divide.specs.Rows.{Seven}
+use Rattle.step_divide.specs.Quotients.{Three}
+use Rattle.step_divide.specs.Known.{Blank}
+use Rattle.step_divide.specs.Generated.{Generators, Divided}
+use Rattle.basis_scale.specs.Store.{SevenLoaded}
+use Rattle.step_next.specs.Steps.{AdvanceIn}
+use Rattle.step_next.specs.declared.Measures.{Measures}
+
+pub record AdvanceOn (p mul lim : ℕ) (g h gh : List ℕ) (n dr dw : ℕ) (r w B : List ℕ) (x y : Three) (d : List ℕ) : Type 0 where
+  pub inp : AdvanceIn p g h gh n dr dw r w B
+  pub ready : Ready p mul lim
+  pub blank-x : Blank x
+  pub blank-y : Blank y
+  pub blank-d : d ≡ replicate 32 0
+
+pub record PartIn (p mul lim : ℕ) (g h gh : List ℕ) (n dr dw : ℕ) (B : List ℕ) (x y : Three) (d : List ℕ) : Type 0 where
+  pub r : List ℕ
+  pub w : List ℕ
+  pub on : AdvanceOn p mul lim g h gh n dr dw r w B x y d
+
+pub record Parting (p : ℕ) (g h gh B : List ℕ) (o : Generators) (k : Measures) : Type 0 where
+  pub b : Seven
+  pub loaded : SevenLoaded B b
+  pub lm : ℕ
+  pub lu : ℕ
+  pub divided : Divided p g h gh b o (record { cut = k .cut; x = k .x; y = k .y; d = k .d; m0 = lm; u = lu })
+  pub degree : k .degree ≡ lm - lu

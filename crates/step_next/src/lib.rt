@@ -1,0 +1,175 @@
+// The step: from the record of a reduced ideal to that of the ideal divided by m, with the degree of m.
+use basis_scale::load;
+use basis_scale::reduced_basis;
+use step_divide::divided;
+use poly_rows::Rapid;
+use poly_rows::rapid_of;
+use basis_reduce::Bounds;
+ghost use Rattle.step_divide.specs.Quotients.{three};
+ghost use Rattle.step_divide.specs.Generated.{generators};
+ghost use Rattle.step_next.specs.Steps.{AdvanceIn, Advanced};
+ghost use Rattle.step_next.specs.Parting.{PartIn, Parting, AdvanceOn};
+
+// The degree of m, the degree of what the generators had in common, and the lengths of x1, y1 and of the denominator.
+pub struct Measures {
+    pub degree: usize,
+    pub cut: usize,
+    pub x: usize,
+    pub y: usize,
+    pub d: usize,
+}
+
+// The generators of the ideal divided by m, into seven zero rows. The rows of the record end before n + 1, which is the length of G H.
+// The lengths of G and H follow from the degrees of r and w: these are (deg G + 2 deg H)/3 and (2 deg G + deg H)/3.
+fn parted(
+    p: u64,
+    q: Rapid,
+    g: &[u64; 32],
+    h: &[u64; 32],
+    gh: &[u64; 32],
+    n: usize,
+    dr: usize,
+    dw: usize,
+    b: &[u16; 119],
+    nc: &mut [u64; 32],
+    x: &mut [u64; 32],
+    mc: &mut [u64; 32],
+    nb: &mut [u64; 32],
+    y: &mut [u64; 32],
+    mb: &mut [u64; 32],
+    d: &mut [u64; 32],
+) -> Measures
+    requires { ⌜ PartIn p (q .m) (q .lim) (now g) (now h) (now gh) n dr dw (now b) (three (now nc) (now x) (now mc)) (three (now nb) (now y) (now mb)) (now d) ⌝ }
+    ensures { λ o. ⌜ Parting p (now (g .entry)) (now (h .entry)) (now (gh .entry)) (now (b .entry)) (generators (now (x .exit)) (now (y .exit)) (now (mb .exit)) (now (mc .exit)) (now (nb .exit)) (now (nc .exit)) (now (d .exit)) (o .cut)) o ⌝ }
+{
+    let m0 = load(b, 0);
+    let m1 = load(b, 1);
+    let m2 = load(b, 2);
+    let n0 = load(b, 3);
+    let n1 = load(b, 4);
+    let n2 = load(b, 5);
+    let u = load(b, 6);
+    let l = gh[n];
+    let k = divided(
+        p,
+        q,
+        n + 1,
+        g,
+        2 * dw + 1 - dr,
+        h,
+        2 * dr + 1 - dw,
+        gh,
+        p - l,
+        &m0,
+        &m1,
+        &m2,
+        &n0,
+        &n1,
+        &n2,
+        &u,
+        nc,
+        x,
+        mc,
+        nb,
+        y,
+        mb,
+        d,
+    );
+    Measures {
+        degree: k.m0 - k.u,
+        cut: k.cut,
+        x: k.x,
+        y: k.y,
+        d: k.d,
+    }
+}
+
+// The degree of the m divided by, and the next record.
+pub struct Advance {
+    pub degree: u64,
+    pub basis: [u16; 119],
+}
+
+// The step, on seven zero rows for the generators, which are turned in place.
+fn advance_in(
+    p: u64,
+    q: Rapid,
+    g: &[u64; 32],
+    h: &[u64; 32],
+    gh: &[u64; 32],
+    n: usize,
+    dr: usize,
+    dw: usize,
+    r: &[u64; 32],
+    w: &[u64; 32],
+    b: &[u16; 119],
+    nc: &mut [u64; 32],
+    x: &mut [u64; 32],
+    mc: &mut [u64; 32],
+    nb: &mut [u64; 32],
+    y: &mut [u64; 32],
+    mb: &mut [u64; 32],
+    d: &mut [u64; 32],
+) -> Advance
+    requires { ⌜ AdvanceOn p (q .m) (q .lim) (now g) (now h) (now gh) n dr dw (now r) (now w) (now b) (three (now nc) (now x) (now mc)) (three (now nb) (now y) (now mb)) (now d) ⌝ }
+    ensures { λ o. ⌜ Advanced p (now (g .entry)) (now (h .entry)) (now (gh .entry)) n dr dw (now (r .entry)) (now (w .entry)) (now (b .entry)) o ⌝ }
+{
+    let k = parted(p, q, g, h, gh, n, dr, dw, b, nc, x, mc, nb, y, mb, d);
+    let f = Bounds {
+        p,
+        dr,
+        dw,
+        top: n + 1 - k.cut,
+    };
+    let o = reduced_basis(f, q, r, w, mb, mc, nb, nc, d, k.d, x, k.x, y, k.y);
+    Advance {
+        degree: k.degree as u64,
+        basis: o,
+    }
+}
+
+// What a field keeps from step to step is lent: G, H and G·H, n = deg GH, the degrees of r and w and their first 32 coefficients.
+pub fn advanced(
+    p: u64,
+    g: &[u64; 32],
+    h: &[u64; 32],
+    gh: &[u64; 32],
+    n: usize,
+    dr: usize,
+    dw: usize,
+    r: &[u64; 32],
+    w: &[u64; 32],
+    b: &[u16; 119],
+) -> Advance
+    requires { ⌜ AdvanceIn p (now g) (now h) (now gh) n dr dw (now r) (now w) (now b) ⌝ }
+    ensures { λ o. ⌜ Advanced p (now (g .entry)) (now (h .entry)) (now (gh .entry)) n dr dw (now (r .entry)) (now (w .entry)) (now (b .entry)) o ⌝ }
+{
+    let q = rapid_of(p);
+    let mut nc: [u64; 32] = [0; 32];
+    let mut x: [u64; 32] = [0; 32];
+    let mut mc: [u64; 32] = [0; 32];
+    let mut nb: [u64; 32] = [0; 32];
+    let mut y: [u64; 32] = [0; 32];
+    let mut mb: [u64; 32] = [0; 32];
+    let mut d: [u64; 32] = [0; 32];
+    advance_in(
+        p,
+        q,
+        g,
+        h,
+        gh,
+        n,
+        dr,
+        dw,
+        r,
+        w,
+        b,
+        &mut nc,
+        &mut x,
+        &mut mc,
+        &mut nb,
+        &mut y,
+        &mut mb,
+        &mut d,
+    )
+}

@@ -1,0 +1,75 @@
+// The walk along the chain of minima, from a record or from the order.
+use step_next::advanced;
+ghost use Rattle.walk_chain.specs.Closed.{ClosedIn, OnePart};
+ghost use Rattle.walk_chain.specs.Going.{GoIn, Gone};
+
+// What a walk answers: the refusal's number (0: closed), the steps taken, the sum of the degrees passed, the last basis.
+pub struct Walked {
+    pub refusal: u32,
+    pub steps: u64,
+    pub sum: u64,
+    pub basis: [u16; 119],
+}
+
+// Whether U = 1: the ideal is the whole order. U is the last row, from place 102 on.
+fn is_closed(p: u64, b: &[u16; 119]) -> bool
+    requires { ⌜ ClosedIn p (now b) ⌝ }
+    ensures { λ r. ⌜ OnePart p (now (b .entry)) r ⌝ }
+{
+    if b[102] != 1 {
+        return false;
+    }
+    let mut k: usize = 103;
+    while k < 119 {
+        if b[k] != 0 {
+            return false;
+        }
+        k += 1;
+    }
+    true
+}
+
+// At most `budget` steps from a record; what a field keeps from step to step is lent.
+pub fn go(
+    p: u64,
+    g: &[u64; 32],
+    h: &[u64; 32],
+    gh: &[u64; 32],
+    n: usize,
+    dr: usize,
+    dw: usize,
+    r: &[u64; 32],
+    w: &[u64; 32],
+    from: [u16; 119],
+    budget: u64,
+) -> Walked
+    requires { ⌜ GoIn p (now g) (now h) (now gh) n dr dw (now r) (now w) from budget ⌝ }
+    ensures { λ o. ⌜ Gone p (now (g .entry)) (now (h .entry)) (now (gh .entry)) n dr dw (now (r .entry)) (now (w .entry)) from budget o ⌝ }
+{
+    let mut b = from;
+    let mut steps: u64 = 0;
+    let mut sum: u64 = 0;
+    while steps < budget {
+        let o = advanced(p, g, h, gh, n, dr, dw, r, w, &b);
+        let d = o.degree;
+        let c = o.basis;
+        sum += d;
+        steps += 1;
+        b = c;
+        let done = is_closed(p, &b);
+        if done {
+            return Walked {
+                refusal: 0,
+                steps: steps,
+                sum: sum,
+                basis: b,
+            };
+        }
+    }
+    Walked {
+        refusal: 10,
+        steps: steps,
+        sum: sum,
+        basis: b,
+    }
+}
