@@ -69,9 +69,9 @@ module _ {p : ℕ} {G H : List ℕ} (A : Accepted p G H) (c : Cubic) (h : Prefix
       record {
         modulus = modulus A c h;
         prime = A .prime;
-        hg = row-short ρ 13 (g-row c h A) (d.lt-eq (ρ .𝓥) (d.has-up (ρ .𝓥) 13 (setting A .G-deg) (omega (arith, lg))) (sym (holds-of c h A .g-is)));
-        hh = row-short ρ 13 (h-row c h A) (d.lt-eq (ρ .𝓥) (d.has-up (ρ .𝓥) 13 (setting A .H-deg) (omega (arith, lh))) (sym (holds-of c h A .h-is)));
-        hgh = row-short ρ 17 (gh-row c h A) (d.lt-eq (ρ .𝓥) (d.has-up (ρ .𝓥) 17 (d.has-mul (ρ .𝓥) (setting A .G-deg) (setting A .H-deg)) (omega arith)) (sym (holds-of c h A .gh-is)));
+        hg = row-short ρ 13 (g-row c h A) (d.lt-eq (ρ .𝓥) (d.has-up (ρ .𝓥) 13 (setting A .roots .G-deg) (omega (arith, lg))) (sym (holds-of c h A .g-is)));
+        hh = row-short ρ 13 (h-row c h A) (d.lt-eq (ρ .𝓥) (d.has-up (ρ .𝓥) 13 (setting A .roots .H-deg) (omega (arith, lh))) (sym (holds-of c h A .h-is)));
+        hgh = row-short ρ 17 (gh-row c h A) (d.lt-eq (ρ .𝓥) (d.has-up (ρ .𝓥) 17 (d.has-mul (ρ .𝓥) (setting A .roots .G-deg) (setting A .roots .H-deg)) (omega arith)) (sym (holds-of c h A .gh-is)));
       }
 
   pub fine-of : Fine (frameOf c)
@@ -135,13 +135,13 @@ module _ {p : ℕ} {G H : List ℕ} (A : Accepted p G H) (c : Cubic) (h : Prefix
     narrow-of rows good =
         let ρ = reading p (A .prime) in
         let z : Sizes A b = sizes A b good in
-        let er : setting A .dr ≡ c .field .dr = dr-is A c h in
-        let ew : setting A .dw ≡ c .field .dw = dw-is A c h in
+        let er : setting A .roots .dr ≡ c .field .dr = dr-is A c h in
+        let ew : setting A .roots .dw ≡ c .field .dw = dw-is A c h in
         record {
-          h1 = λ i l. row-short ρ (suc (setting A .dw)) (rows .m1) (z .m1) .above i (omega arith);
-          h2 = λ i l. row-short ρ (suc (setting A .dr)) (rows .m2) (z .m2) .above i (omega arith);
-          k1 = λ i l. row-short ρ (setting A .dw) (rows .n1) (z .n1) .above i (omega arith);
-          k2 = λ i l. row-short ρ (setting A .dr) (rows .n2) (z .n2) .above i (omega arith);
+          h1 = λ i l. row-short ρ (suc (setting A .roots .dw)) (rows .m1) (z .m1) .above i (omega arith);
+          h2 = λ i l. row-short ρ (suc (setting A .roots .dr)) (rows .m2) (z .m2) .above i (omega arith);
+          k1 = λ i l. row-short ρ (setting A .roots .dw) (rows .n1) (z .n1) .above i (omega arith);
+          k2 = λ i l. row-short ρ (setting A .roots .dr) (rows .n2) (z .n2) .above i (omega arith);
         }
 
 pub are-rows : {p : ℕ} {b : Seven} → Seventeen p b → AreRows p b

@@ -26,13 +26,13 @@ use Rattle.basis_scale.specs.Based.{BasedAt, Based, Mpt, Npt, at}
 use Rattle.basis_scale.specs.First.{unit, nothing, units}
 use Rattle.basis_scale.proofs.First.{unit-is, nothing-is}
 
-module _ {p : ℕ} {G H : List ℕ} (A : Accepted p G H) (r w : List ℕ) (hr : Reads (reading p (A .prime)) r (setting A .dr) (setting A .r)) (hw : Reads (reading p (A .prime)) w (setting A .dw) (setting A .w)) where
+module _ {p : ℕ} {G H : List ℕ} (A : Accepted p G H) (r w : List ℕ) (hr : Reads (reading p (A .prime)) r (setting A .roots .dr) (setting A .roots .r)) (hw : Reads (reading p (A .prime)) w (setting A .roots .dw) (setting A .roots .w)) where
   abbrev pub fieldFrame : Frame
-  fieldFrame = frame p r w (setting A .dr) (setting A .dw)
+  fieldFrame = frame p r w (setting A .roots .dr) (setting A .roots .dw)
 
   -- the lists mean the series of the field
   abbrev pub meaning : Meaning fieldFrame
-  meaning = record { prime = A .prime; r = setting A .r; w = setting A .w; r-deg = setting A .r-deg; w-deg = setting A .w-deg; r-reads = hr; w-reads = hw; two = setting A .two≢ }
+  meaning = record { prime = A .prime; r = setting A .roots .r; w = setting A .roots .w; r-deg = setting A .roots .r-deg; w-deg = setting A .roots .w-deg; r-reads = hr; w-reads = hw; two = setting A .roots .two≢ }
 
   pub based-ends : {q : reduced.Pair} {d x1 y1 B : List ℕ} → BasedAt meaning q d x1 y1 B → Ends (setting A) (basisOf A B)
   based-ends b = record { u = b .u; x = b .x; y = b .y; U-lead = b .U-lead; X-M = b .X-M; Y-N = b .Y-N; u≤y = b .u≤y; X-N = b .X-N; Y-M = b .Y-M; Z-M = b .Z-M; Z-N = b .Z-N }

@@ -22,7 +22,7 @@ use Rattle.math_rows.specs.Row.{Floor}
 use Rattle.field_open.specs.Refusal.{Accepted}
 use Rattle.field_roots.specs.SeriesOf.{SeriesOf}
 use Rattle.field_roots.specs.Prefix.{enough, plusPart, minusPart}
-use Rattle.field_roots.proofs.Root.{degR, degW}
+use Rattle.field_roots.specs.Pair.{degR, degW}
 use Rattle.field_roots.proofs.Prefix.{prefix-is-enough}
 use Rattle.math_ideals.specs.Setting.{Setting}
 use Rattle.math_ideals.specs.Element.{O, sc, el-r, el-w, X, Y, Z}

@@ -23,7 +23,8 @@ use Rattle.field_roots.proofs.First.{convᵏ}
 use Rattle.field_roots.proofs.Begin.{begins-row, begins-only, begins-floor, cast-conv, cast-cube}
 use Rattle.field_roots.proofs.Near.{pair-begins}
 use Rattle.math_rows.proofs.Constants.{three≢, cube-inj}
-use Rattle.field_roots.proofs.Root.{degR, degW, sizes, leadR, leadR-cube, leadR-not, H-has, root-r, root-w, root-pair}
+use Rattle.field_roots.specs.Pair.{degR, degW}
+use Rattle.field_roots.proofs.Root.{sizes, leadR, leadR-cube, leadR-not, H-has, root-r, root-w, root-pair}
 
 -- a list of coefficients, read from its leading one
 pub top-is : {p d : ℕ} {l : List ℕ} → Degree p l d → (i : ℕ) → fallAt l d i ≡ top l i

@@ -29,7 +29,8 @@ use Rattle.field_roots.specs.First.{Begins}
 use Rattle.field_roots.specs.SeriesOf.{entry, SeriesOf}
 use Rattle.field_roots.specs.Prefix.{enough, partAt, plusPart, minusPart}
 use Rattle.field_roots.proofs.Begin.{begins-floor}
-use Rattle.field_roots.proofs.Root.{degR, degW, root-r, root-w}
+use Rattle.field_roots.specs.Pair.{degR, degW}
+use Rattle.field_roots.proofs.Root.{root-r, root-w}
 use Rattle.field_roots.proofs.Only.{small-degrees, series-of-begins}
 
 module _ {p : ℕ} (ρ : Reading p) where

@@ -17,7 +17,7 @@ use Rattle.math_valued.specs.Polynomial.{polys, Divides}
 use Rattle.math_valued.proofs.Degree as d
 use Rattle.math_valued.proofs.Compare.{lt-≺, has-≼, lt-unscale}
 use Rattle.math_valued.proofs.Polynomial.{view, not-zero}
-use Rattle.math_ideals.specs.Setting.{Setting, P}
+use Rattle.math_ideals.specs.Setting.{Roots, Setting, P}
 use Rattle.math_ideals.specs.Element.{O, el-r, el-w, X, Y, Z}
 use Rattle.math_ideals.specs.Ideal.{Basis, In, det}
 use Rattle.math_ideals.specs.Basis.{ReducedBasis, Scaled, NoFactor, Good}
@@ -35,7 +35,8 @@ use Rattle.math_chain.proofs.Changed.{Changed, Alone}
 use Rattle.math_chain.proofs.Frame.{pair, off, Framed, Rebased, rebased-to, rebased-U, rebased-rank, rebased-alone, rebased-over}
 
 module _ (S : Setting) where
-  open Setting S using (𝓥, r, w)
+  open Setting S using (𝓥)
+  open Roots (S .roots) using (r, w)
   open Valued 𝓥 using (K, L, Lead)
   open Ops (L .ops) using (add as _+_, mul as _*_, neg as -_, 𝟎, 𝟏)
   open Ops (K .ops) using (add as _+ᵏ_, 𝟎 as 0ᵏ, 𝟏 as 1ᵏ)
@@ -72,11 +73,11 @@ module _ (S : Setting) where
   pub ends : (B : Basis S) → Ends B → Finished B
   ends B e =
       let hU : Has 𝓥 (B .U .0) (e .u) = (1ᵏ, 𝓥 .one≢zero, e .U-lead) in
-      let hX : Has 𝓥 (X S (B .M)) (e .x) = (1ᵏ +ᵏ 1ᵏ, S .two≢, e .X-M) in
+      let hX : Has 𝓥 (X S (B .M)) (e .x) = (1ᵏ +ᵏ 1ᵏ, S .roots .two≢, e .X-M) in
       let hY : Has 𝓥 (Y S (B .N)) (e .y) = (1ᵏ, 𝓥 .one≢zero, e .Y-N) in
       record {
         basis = record { X-N = lt-≺ 𝓥 (e .X-N) hX; Y-M = lt-≺ 𝓥 (e .Y-M) hU; Y-N = has-≼ 𝓥 hU hY (e .u≤y); Z-M = lt-≺ 𝓥 (e .Z-M) hU; Z-N = lt-≺ 𝓥 (e .Z-N) hU };
-        X-M = (e .x, 0, S .two≢, e .X-M);
+        X-M = (e .x, 0, S .roots .two≢, e .X-M);
         Y-N = (e .y, 0, 𝓥 .one≢zero, e .Y-N);
         monic = (e .u, 0, 𝓥 .one≢zero, e .U-lead);
       }
@@ -138,8 +139,8 @@ module _ (S : Setting) where
   -- an element of the order with X and Y of degree at most 0 is a polynomial, for r and w have degree at least 1
   pub order-poly : (v : O S .El) → Lt 𝓥 (X S v) 1 → Lt 𝓥 (Y S v) 1 → (v .b .0 ≡ 𝟎) × (v .c .0 ≡ 𝟎)
   order-poly v hX hY = (
-    zero-of (v .b) (S .r-deg) (dr-pos S) (lt-unscale 𝓥 (has-two S) (d.lt-eq 𝓥 (d.lt-add 𝓥 hX hY) (two-b S v))),
-    zero-of (v .c) (S .w-deg) (dw-pos S) (lt-unscale 𝓥 (has-two S) (d.lt-eq 𝓥 (d.lt-add 𝓥 hX (d.lt-neg 𝓥 hY)) (two-c S v))),
+    zero-of (v .b) (S .roots .r-deg) (dr-pos S) (lt-unscale 𝓥 (has-two S) (d.lt-eq 𝓥 (d.lt-add 𝓥 hX hY) (two-b S v))),
+    zero-of (v .c) (S .roots .w-deg) (dw-pos S) (lt-unscale 𝓥 (has-two S) (d.lt-eq 𝓥 (d.lt-add 𝓥 hX (d.lt-neg 𝓥 hY)) (two-c S v))),
   )
     where
       zero-of : {x : L .El} {n : ℕ} (a : P S) → Has 𝓥 x n → 1 ≤ n → Lt 𝓥 (a .0 * x) 1 → a .0 ≡ 𝟎

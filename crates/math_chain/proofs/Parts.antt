@@ -21,7 +21,7 @@ use Rattle.math_valued.specs.Polynomial.{polys, Divides, IsUnit}
 use Rattle.math_valued.proofs.Polynomial.{P-path, degree}
 use Rattle.math_valued.proofs.Divide.{p-cancel}
 use Rattle.math_valued.proofs.Gcds.{All, Comb, gcds, quots, comb-quots, comb-divides, divides-mul}
-use Rattle.math_ideals.specs.Setting.{Setting, P}
+use Rattle.math_ideals.specs.Setting.{Roots, Setting, P}
 use Rattle.math_ideals.specs.Element.{O, sc, norm}
 use Rattle.math_ideals.specs.Ideal.{Basis, lin, In, det, Ideal}
 use Rattle.math_ideals.specs.Next.{Next}
@@ -31,7 +31,8 @@ use Rattle.math_ideals.proofs.Check.{Coords, coords-of, coords-eq, coords-uniqu
 use Rattle.math_ideals.proofs.Tests.{times-r, times-w}
 
 module _ (S : Setting) where
-  open Setting S using (𝓥, G, H)
+  open Setting S using (𝓥)
+  open Roots (S .roots) using (G, H)
   open Valued 𝓥 using (L)
   open Ops (polys 𝓥 .ops) using (add as _⊞_, mul as _⊠_, neg as ⊟_, 𝟎 as 0ₚ, 𝟏 as 1ₚ)
   open Ops (O S .ops) using (add as _⊕_, mul as _⊗_)

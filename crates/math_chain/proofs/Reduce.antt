@@ -18,7 +18,7 @@ use Rattle.math_valued.specs.Polynomial.{polys}
 use Rattle.math_valued.proofs.Degree as d
 use Rattle.math_valued.proofs.Compare.{has-scale}
 use Rattle.math_valued.proofs.Polynomial.{degree, divide, not-zero, unit-const}
-use Rattle.math_ideals.specs.Setting.{Setting, P, dGH}
+use Rattle.math_ideals.specs.Setting.{Roots, Setting, P, dGH}
 use Rattle.math_ideals.specs.Element.{O, X, Y}
 use Rattle.math_ideals.specs.Ideal.{Basis, det}
 use Rattle.math_ideals.proofs.Sizes.{X-Y-det}
@@ -28,7 +28,8 @@ use Rattle.math_ideals.proofs.Norm.{X-lt, YZ-lt, M-not}
 use Rattle.math_chain.proofs.Changed.{Pair, Changed, changed-start, changed-then}
 
 module _ (S : Setting) where
-  open Setting S using (𝓥, G, H, r, w)
+  open Setting S using (𝓥)
+  open Roots (S .roots) using (G, H, r, w)
   open Valued 𝓥 using (K, L, Lead)
   open Ops (L .ops) using (add as _+_, mul as _*_, neg as -_, 𝟎, 𝟏)
   open Ops (K .ops) using (𝟎 as 0ᵏ)
@@ -145,7 +146,7 @@ module _ (S : Setting) where
   -- m and n with both Y below u and X(n) below X(m): the determinant has degree below deg X(m) + u
   both-low : {u ε p q : ℕ} {a : K .El} (m n : Pair 𝓥) → Has 𝓥 (det₂ m n .0) ε → Lt 𝓥 (Y S (el m)) u → Lt 𝓥 (Y S (el n)) u → Lead (X S (el m)) p q a → Lead (X S (el n)) p q 0ᵏ → ε +ⁿ dGH S +ⁿ q < p +ⁿ u
   both-low {u} {ε} {p} {q} {a} m n hε hm hn hX hX′ =
-      let D : HasDeg 𝓥 (- ((𝟏 + 𝟏) * (det₂ m n .0 * (G .0 * H .0)))) (ε +ⁿ dGH S) 0 = d.has-neg 𝓥 (has-scale 𝓥 (has-two S) (d.has-mul 𝓥 hε (d.has-mul 𝓥 (S .G-deg) (S .H-deg)))) in
+      let D : HasDeg 𝓥 (- ((𝟏 + 𝟏) * (det₂ m n .0 * (G .0 * H .0)))) (ε +ⁿ dGH S) 0 = d.has-neg 𝓥 (has-scale 𝓥 (has-two S) (d.has-mul 𝓥 hε (d.has-mul 𝓥 (S .roots .G-deg) (S .roots .H-deg)))) in
       let D′ : Lead (- ((𝟏 + 𝟏) * (det₂ m n .0 * (G .0 * H .0)))) (p +ⁿ u) (q +ⁿ 0) 0ᵏ =
       d.lead-eq 𝓥 (𝓥 .lead-add (𝓥 .lead-mul hX hn) (𝓥 .lead-neg (𝓥 .lead-mul hX′ hm))) (X-Y-det S (flat m n)) (ring₁ K (λ a. a :* zer :+ minus (zer :* zer) := zer) tt a) in
       omega (arith, d.has-above 𝓥 D D′)

@@ -21,7 +21,7 @@ use Rattle.math_valued.specs.Polynomial.{polys}
 use Rattle.math_valued.proofs.Degree as d
 use Rattle.math_valued.proofs.Compare.{lt-unscale, has-unscale}
 use Rattle.math_valued.proofs.Polynomial.{degree, unit-const, not-zero}
-use Rattle.math_ideals.specs.Setting.{Setting}
+use Rattle.math_ideals.specs.Setting.{Roots, Setting}
 use Rattle.math_ideals.specs.Element.{O, sc, ev, norm}
 use Rattle.math_ideals.specs.Ideal.{Basis, det}
 use Rattle.math_ideals.specs.Next.{Start}
@@ -38,7 +38,8 @@ use Rattle.math_chain.proofs.Passed.{Passed, passed, rows, spans}
 use Rattle.math_chain.proofs.Unit.{large, Q-F, inverse-has, closing-pos, unit-degree}
 
 module _ (S : Setting) where
-  open Setting S using (𝓥, G, H, r, w)
+  open Setting S using (𝓥)
+  open Roots (S .roots) using (G, H, r, w)
   open Valued 𝓥 using (K, L, Lead)
   open Ops (L .ops) using (add as _+_, mul as _*_, neg as -_, 𝟎, 𝟏)
   open Ops (polys 𝓥 .ops) using (mul as _⊠_)
@@ -58,8 +59,8 @@ module _ (S : Setting) where
   pub fit-below : (v : O S .El) (m : ℕ) → Below S v m → Fit m v
   fit-below v m b = record {
     a-lt = lt-unscale 𝓥 (has-two S) (d.lt-eq 𝓥 (d.lt-add 𝓥 (b .X-lt) (b .Z-lt)) (two-a S v));
-    b-lt = lt-off S (S .r-deg) (lt-unscale 𝓥 (has-two S) (d.lt-eq 𝓥 (d.lt-add 𝓥 (b .X-lt) (b .Y-lt)) (two-b S v)));
-    c-lt = lt-off S (S .w-deg) (lt-unscale 𝓥 (has-two S) (d.lt-eq 𝓥 (d.lt-add 𝓥 (b .X-lt) (d.lt-neg 𝓥 (b .Y-lt))) (two-c S v)));
+    b-lt = lt-off S (S .roots .r-deg) (lt-unscale 𝓥 (has-two S) (d.lt-eq 𝓥 (d.lt-add 𝓥 (b .X-lt) (b .Y-lt)) (two-b S v)));
+    c-lt = lt-off S (S .roots .w-deg) (lt-unscale 𝓥 (has-two S) (d.lt-eq 𝓥 (d.lt-add 𝓥 (b .X-lt) (d.lt-neg 𝓥 (b .Y-lt))) (two-c S v)));
   }
 
   pub fit-up : {m : ℕ} (n : ℕ) (v : O S .El) → m ≤ n → Fit m v → Fit n v

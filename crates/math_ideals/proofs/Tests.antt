@@ -12,7 +12,7 @@ use Rattle.math_valued.specs.Polynomial.{polys, Divides, IsUnit}
 use Rattle.math_valued.proofs.Degree as d
 use Rattle.math_valued.proofs.Compare.{≺-has, has-≼, has-≺, lt-≺, leads-at}
 use Rattle.math_valued.proofs.Gcds.{divides-trans}
-use Rattle.math_ideals.specs.Setting.{Setting, P}
+use Rattle.math_ideals.specs.Setting.{Roots, Setting, P}
 use Rattle.math_ideals.specs.Element.{O, X, Y, Z}
 use Rattle.math_ideals.specs.Ideal.{Basis, In, det, Ideal}
 use Rattle.math_ideals.specs.Basis.{NoFactor, Good}
@@ -21,7 +21,8 @@ use Rattle.math_ideals.proofs.Check.{Coords, coords-of, in-of, ideal-of
 use Rattle.math_ideals.proofs.Degrees.{Small, small}
 
 module _ (S : Setting) where
-  open Setting S using (𝓥, G, H)
+  open Setting S using (𝓥)
+  open Roots (S .roots) using (G, H)
   open Valued 𝓥 using (K, L, Lead)
   open Ops (L .ops) using (𝟎)
   open Ops (K .ops) using (add as _+ᵏ_, 𝟎 as 0ᵏ, 𝟏 as 1ᵏ)
@@ -65,7 +66,7 @@ module _ (S : Setting) where
   pub good-of : (B : Basis S) → Tests B → Good S B
   good-of B t =
       let hU : Has 𝓥 (B .U .0) (t .u) = (1ᵏ, 𝓥 .one≢zero, t .U-lead) in
-      let hX : Has 𝓥 (X S (B .M)) (t .x) = (1ᵏ +ᵏ 1ᵏ, S .two≢, t .X-M) in
+      let hX : Has 𝓥 (X S (B .M)) (t .x) = (1ᵏ +ᵏ 1ᵏ, S .roots .two≢, t .X-M) in
       let hY : Has 𝓥 (Y S (B .N)) (t .y) = (1ᵏ, 𝓥 .one≢zero, t .Y-N) in
       record {
         ideal = ideal-of S B (λ e. d.has-not-zero 𝓥 (d.has-eq 𝓥 hU e)) (t .rank)
@@ -76,7 +77,7 @@ module _ (S : Setting) where
             (subst (In S B) (sym (by-w S (B .M))) (in-of S B (t .rank) _ (t .w-M)))
             (subst (In S B) (sym (by-w S (B .N))) (in-of S B (t .rank) _ (t .w-N)));
         basis = record { X-N = lt-≺ 𝓥 (t .X-N) hX; Y-M = lt-≺ 𝓥 (t .Y-M) hU; Y-N = has-≼ 𝓥 hU hY (t .u≤y); Z-M = lt-≺ 𝓥 (t .Z-M) hU; Z-N = lt-≺ 𝓥 (t .Z-N) hU };
-        scaled = record { X-M = (t .x, 0, S .two≢, t .X-M); Y-N = (t .y, 0, 𝓥 .one≢zero, t .Y-N); monic = (t .u, 0, 𝓥 .one≢zero, t .U-lead); seven = t .seven };
+        scaled = record { X-M = (t .x, 0, S .roots .two≢, t .X-M); Y-N = (t .y, 0, 𝓥 .one≢zero, t .Y-N); monic = (t .u, 0, 𝓥 .one≢zero, t .U-lead); seven = t .seven };
         reduced = record {
           X-M = has-≺ 𝓥 hU hX (t .u<x);
           N-large = elim (t .N-large) [ inl l ↦ inr (has-≺ 𝓥 hU hY l) | inr (i, l, h) ↦ inl (has-≺ 𝓥 hU h l) ];

@@ -11,7 +11,7 @@ use Rattle.math_ring.specs.Ring.{Ops, CRing}
 use Rattle.math_triple.specs.Tri.{Tri, normT, cofT}
 use Rattle.math_triple.specs.Order.{order}
 use Rattle.math_valued.specs.Polynomial.{polys}
-use Rattle.math_ideals.specs.Setting.{Setting, P}
+use Rattle.math_ideals.specs.Setting.{Roots, Setting, P}
 
 module _ {A : Type 0} (o : Ops A) (r w : A) where
   open Ops o using (add as _+_, mul as _*_, neg as -_, 𝟏)
@@ -34,7 +34,8 @@ module _ {A : Type 0} (o : Ops A) (r w : A) where
   ZT x = (𝟏 + 𝟏) * x .a + - (x .b * r) + - (x .c * w)
 
 module _ (S : Setting) where
-  open Setting S using (𝓥, G, H, r, w)
+  open Setting S using (𝓥)
+  open Roots (S .roots) using (G, H, r, w)
 
   -- "The order O is those with polynomial A, B, C"; products by rw = GH, r² = Hw, w² = Gr
   abbrev pub O : CRing

@@ -12,7 +12,7 @@ use Rattle.math_valued.specs.Val.{Valued}
 use Rattle.math_valued.specs.Degree.{Has, Lt}
 use Rattle.math_valued.proofs.Degree as d
 use Rattle.math_valued.proofs.Compare.{lt-scale, lt-unscale, lt-mul-sharp}
-use Rattle.math_ideals.specs.Setting.{Setting, P}
+use Rattle.math_ideals.specs.Setting.{Roots, Setting, P}
 use Rattle.math_ideals.specs.Element.{O, X, Y, Z}
 use Rattle.math_ideals.specs.Ideal.{Basis, lin, det}
 use Rattle.math_ideals.specs.Basis.{Good}
@@ -24,7 +24,8 @@ use Rattle.math_ideals.proofs.Tests.{times-r, times-w}
 use Rattle.math_ideals.proofs.Degrees.{Small}
 
 module _ (S : Setting) (B : Basis S) (s : Small S B) where
-  open Setting S using (𝓥, G, H, r, w)
+  open Setting S using (𝓥)
+  open Roots (S .roots) using (G, H, r, w)
   open Valued 𝓥 using (L)
   open Ops (L .ops) using (add as _+_, mul as _*_, neg as -_, 𝟎, 𝟏)
 

@@ -128,7 +128,7 @@ module _ {p : ℕ} {g h gh : List ℕ} {n dr dw : ℕ} {r w B : List ℕ} (i : A
 
   pub gh-size : Size gh (n + 1)
   gh-size = subst (Size gh) (omega (arith, i .keeps .known A .n-is))
-      (size-of (reading p (A .prime)) (i .keeps .hgh) (d.has-eq (reading p (A .prime) .𝓥) (d.has-mul (reading p (A .prime) .𝓥) (setting A .G-deg) (setting A .H-deg)) (sym (i .keeps .known A .holds .gh-is))))
+      (size-of (reading p (A .prime)) (i .keeps .hgh) (d.has-eq (reading p (A .prime) .𝓥) (d.has-mul (reading p (A .prime) .𝓥) (setting A .roots .G-deg) (setting A .roots .H-deg)) (sym (i .keeps .known A .holds .gh-is))))
 
   -- G H leads at n
   lead-at : (m : ℕ) → Size gh m → getD gh n 0 ≡ getD gh (m - 1) 0
@@ -165,11 +165,11 @@ module _ {p : ℕ} {g h gh : List ℕ} {n dr dw : ℕ} {r w B : List ℕ} (i : A
 
   pub g-size : Size g (2 * dw + 1 - dr)
   g-size = subst (Size g) (omega (arith, i .keeps .known A .dr-is, i .keeps .known A .dw-is, sizes A b good-rows .two-r, sizes A b good-rows .both))
-      (size-of (reading p (A .prime)) (i .keeps .hg) (d.has-eq (reading p (A .prime) .𝓥) (setting A .G-deg) (sym (i .keeps .known A .holds .g-is))))
+      (size-of (reading p (A .prime)) (i .keeps .hg) (d.has-eq (reading p (A .prime) .𝓥) (setting A .roots .G-deg) (sym (i .keeps .known A .holds .g-is))))
 
   pub h-size : Size h (2 * dr + 1 - dw)
   h-size = subst (Size h) (omega (arith, i .keeps .known A .dr-is, i .keeps .known A .dw-is, sizes A b good-rows .two-r, sizes A b good-rows .both))
-      (size-of (reading p (A .prime)) (i .keeps .hh) (d.has-eq (reading p (A .prime) .𝓥) (setting A .H-deg) (sym (i .keeps .known A .holds .h-is))))
+      (size-of (reading p (A .prime)) (i .keeps .hh) (d.has-eq (reading p (A .prime) .𝓥) (setting A .roots .H-deg) (sym (i .keeps .known A .holds .h-is))))
 
   pub shorter : (lm lu : ℕ) → Size (b .m0) lm → Size (b .u) lu → lu ≤ lm
   shorter lm lu sm su = degree-of A b are-rows good-rows lm lu sm su .0
