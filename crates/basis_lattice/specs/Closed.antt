@@ -12,10 +12,8 @@ use Prim.Native.Nat.{ℕ}
 use Rattle.math_fp.specs.Fp.{Prime}
 use Rattle.math_valued.specs.Polynomial.{polys}
 use Rattle.num_residue.specs.Residue.{Modulus}
-use Rattle.math_ideals.specs.Element.{O}
-use Rattle.math_ideals.specs.Ideal.{det}
-use Rattle.math_ideals.proofs.Check.{Coords}
-use Rattle.math_ideals.proofs.Tests.{times-r, times-w}
+use Rattle.math_ideals.specs.Element.{O, times-r, times-w}
+use Rattle.math_ideals.specs.Ideal.{det, Coords}
 use Rattle.field_open.specs.Refusal.{Accepted}
 use Rattle.basis_record.specs.Record.{setting, polyOf}
 use Rattle.basis_reduce.specs.Frame.{Short}

@@ -25,13 +25,13 @@ use Rattle.field_roots.specs.Prefix.{enough, plusPart, minusPart}
 use Rattle.field_roots.specs.Pair.{degR, degW}
 use Rattle.field_roots.proofs.Prefix.{prefix-is-enough}
 use Rattle.math_ideals.specs.Setting.{Setting}
-use Rattle.math_ideals.specs.Element.{O, sc, el-r, el-w, X, Y, Z}
-use Rattle.math_ideals.specs.Ideal.{Basis, In, det}
+use Rattle.math_ideals.specs.Element.{O, sc, el-r, el-w, X, Y, Z, times-r, times-w}
+use Rattle.math_ideals.specs.Ideal.{Basis, In, det, Coords}
 use Rattle.math_ideals.specs.Basis.{Good}
 use Rattle.math_ideals.proofs.Sizes.{O-path}
 use Rattle.math_ideals.proofs.Lattice.{lin-a, lin-b, lin-c, by-r, by-w, by-r-poly, by-w-poly}
-use Rattle.math_ideals.proofs.Check.{Coords, coords-of}
-use Rattle.math_ideals.proofs.Tests.{Tests, good-of, times-r, times-w}
+use Rattle.math_ideals.proofs.Check.{coords-of}
+use Rattle.math_ideals.proofs.Tests.{Tests, good-of}
 use Rattle.basis_record.specs.Record.{setting, polyOf}
 use Rattle.examples_lists.specs.Lists.{ends}
 use Rattle.examples_lists.specs.Quotients.{bezout}

@@ -18,7 +18,7 @@ use lib.ListN.{length, getD}
 use Rattle.math_ring.specs.Ring.{Ops}
 use Rattle.math_triple.specs.Tri.{Tri, cofT, normT}
 use Rattle.math_triple.specs.Order.{triops}
-use Rattle.math_fp.proofs.Trial.{primeb}
+use Rattle.math_fp.specs.Trial.{primeb}
 use Rattle.num_prime.specs.Table.{largest}
 use Rattle.field_open.specs.Refusal.{longest, highest}
 use Rattle.field_roots.specs.SeriesOf.{top, entry, prod}

@@ -29,7 +29,8 @@ use Rattle.math_ideals.proofs.Lattice.{in-U, in-scale, lin-a, lin-b, lin-c}
 use Rattle.math_ideals.proofs.Check.{only-of-rank}
 use Rattle.math_ideals.proofs.Reduced.{OnlyPolys, reduced-of}
 use Rattle.math_ideals.proofs.Divided.{next-ideal, next-reduced, next-unique}
-use Rattle.math_chain.proofs.Parts.{Parts, Cut, x1, y1, pt, base, base-next}
+use Rattle.math_chain.specs.Parts.{Parts, Cut, x1, y1, pt, base}
+use Rattle.math_chain.proofs.Parts.{base-next}
 use Rattle.math_chain.proofs.Room.{Room, room}
 use Rattle.math_chain.proofs.Changed.{Changed, Alone}
 use Rattle.math_chain.proofs.Frame.{pair, off, Framed, Rebased, rebased-to, rebased-U, rebased-rank, rebased-alone, rebased-over}

@@ -23,7 +23,8 @@ use Rattle.math_ideals.specs.Ideal.{Basis, det}
 use Rattle.math_ideals.specs.Basis.{Good}
 use Rattle.math_ideals.specs.Next.{Next, Start}
 use Rattle.math_chain.specs.Chain.{Chain, here, then}
-use Rattle.math_chain.proofs.Parts.{Parts, Cut, parts, cut, x1, y1, base}
+use Rattle.math_chain.specs.Parts.{Parts, Cut, x1, y1, base}
+use Rattle.math_chain.proofs.Parts.{parts, cut}
 use Rattle.math_chain.proofs.Room.{Room, room, d-not-zero}
 use Rattle.math_chain.proofs.Changed.{Pair, Changed, changed-then, changed-scale}
 use Rattle.math_chain.proofs.Frame.{pair, Framed, Rebased}

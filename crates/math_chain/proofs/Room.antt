@@ -27,7 +27,8 @@ use Rattle.math_ideals.proofs.Form.{form-has, form-below, has-two, has-three}
 use Rattle.math_ideals.proofs.Norm.{F, F-deg, F-mul, Q-deg, M-not, Below, below-of}
 use Rattle.math_ideals.proofs.Degrees.{Small, small}
 use Rattle.math_ideals.proofs.Divided.{ev-M}
-use Rattle.math_chain.proofs.Parts.{Parts, Cut, dd, base, d-norm, base-d, base-det, base-M, base-N}
+use Rattle.math_chain.specs.Parts.{Parts, Cut, dd, base}
+use Rattle.math_chain.proofs.Parts.{d-norm, base-d, base-det, base-M, base-N}
 
 module _ (S : Setting) where
   open Setting S using (𝓥)

@@ -12,32 +12,22 @@ use Rattle.math_valued.specs.Polynomial.{polys, Divides, IsUnit}
 use Rattle.math_valued.proofs.Degree as d
 use Rattle.math_valued.proofs.Compare.{≺-has, has-≼, has-≺, lt-≺, leads-at}
 use Rattle.math_valued.proofs.Gcds.{divides-trans}
-use Rattle.math_ideals.specs.Setting.{Roots, Setting, P}
-use Rattle.math_ideals.specs.Element.{O, X, Y, Z}
-use Rattle.math_ideals.specs.Ideal.{Basis, In, det, Ideal}
+use Rattle.math_ideals.specs.Setting.{Setting, P}
+use Rattle.math_ideals.specs.Element.{O, times-r, times-w, X, Y, Z}
+use Rattle.math_ideals.specs.Ideal.{Basis, In, det, Coords, Ideal}
 use Rattle.math_ideals.specs.Basis.{NoFactor, Good}
 use Rattle.math_ideals.proofs.Lattice.{in-U, in-M, in-N, by-r, by-w, by-r-poly, by-w-poly}
-use Rattle.math_ideals.proofs.Check.{Coords, coords-of, in-of, ideal-of}
+use Rattle.math_ideals.proofs.Check.{coords-of, in-of, ideal-of}
 use Rattle.math_ideals.proofs.Degrees.{Small, small}
 
 module _ (S : Setting) where
   open Setting S using (𝓥)
-  open Roots (S .roots) using (G, H)
   open Valued 𝓥 using (K, L, Lead)
   open Ops (L .ops) using (𝟎)
   open Ops (K .ops) using (add as _+ᵏ_, 𝟎 as 0ᵏ, 𝟏 as 1ᵏ)
-  open Ops (polys 𝓥 .ops) using (mul as _⊠_, 𝟎 as 0ₚ)
-  open Ops (O S .ops) using (mul as _⊗_)
+  open Ops (polys 𝓥 .ops) using (𝟎 as 0ₚ)
 
   infixl 60 _+ᵏ_
-  infixl 70 _⊗_ _⊠_
-  -- r v and w v, written out
-  abbrev pub times-r : O S .El → O S .El
-  times-r v = record { a = v .c ⊠ (G ⊠ H); b = v .a; c = v .b ⊠ H }
-
-  abbrev pub times-w : O S .El → O S .El
-  times-w v = record { a = v .b ⊠ (G ⊠ H); b = v .c ⊠ G; c = v .a }
-
   pub record Tests (B : Basis S) : Type 0 where
     -- u = deg U, x = deg X(M), y = deg Y(N)
     pub u : ℕ
@@ -58,10 +48,10 @@ module _ (S : Setting) where
     -- r, w, rm, wm, rn, wn in the lattice
     pub r-one : Coords S B (record { a = 0ₚ; b = B .U; c = 0ₚ })
     pub w-one : Coords S B (record { a = 0ₚ; b = 0ₚ; c = B .U })
-    pub r-M : Coords S B (times-r (B .M))
-    pub w-M : Coords S B (times-w (B .M))
-    pub r-N : Coords S B (times-r (B .N))
-    pub w-N : Coords S B (times-w (B .N))
+    pub r-M : Coords S B (times-r S (B .M))
+    pub w-M : Coords S B (times-w S (B .M))
+    pub r-N : Coords S B (times-r S (B .N))
+    pub w-N : Coords S B (times-w S (B .N))
 
   pub good-of : (B : Basis S) → Tests B → Good S B
   good-of B t =

@@ -1,6 +1,7 @@
 -- Elements and sizes (document 01, "Elements and sizes").
 --   O           the order: the triples A, B, C of polynomials, for A + B r + C w
 --   sc a        the polynomial a as an element; el-r, el-w the elements r and w
+--   times-r v   r v, and times-w v is w v, written out
 --   ev x        the element as a series
 --   X Y Z       its sizes
 --   norm cof    its norm and its cofactor
@@ -49,6 +50,13 @@ module _ (S : Setting) where
 
   abbrev pub el-w : O .El
   el-w = record { a = polys 𝓥 .ops .𝟎; b = polys 𝓥 .ops .𝟎; c = polys 𝓥 .ops .𝟏 }
+
+  -- r (a + br + cw) = cGH + ar + bHw and w (a + br + cw) = bGH + cGr + aw
+  abbrev pub times-r : O .El → O .El
+  times-r v = let o = polys 𝓥 .ops in record { a = o .mul (v .c) (o .mul G H); b = v .a; c = o .mul (v .b) H }
+
+  abbrev pub times-w : O .El → O .El
+  times-w v = let o = polys 𝓥 .ops in record { a = o .mul (v .b) (o .mul G H); b = o .mul (v .c) G; c = v .a }
 
   -- the three coordinates as series
   abbrev pub val : O .El → Tri (𝓥 .L .El)

@@ -11,8 +11,7 @@ use Rattle.math_valued.specs.Polynomial.{polys, Poly, Divides}
 use Rattle.math_valued.specs.Gcd.{IsGcd}
 use Rattle.math_valued.proofs.Polynomial.{P-path}
 use Rattle.math_rows.specs.Reading.{Reading}
-use Rattle.math_rows.specs.Row.{tpow}
-use Rattle.math_rows.proofs.Turn.{comb}
+use Rattle.math_rows.specs.Row.{tpow, comb}
 use Rattle.math_turns.specs.Points.{Pt, Turned, Moved}
 use Rattle.math_turns.proofs.Turn.{moved-start, moved-swap, moved-turn, moved-back}
 

@@ -19,9 +19,9 @@ use Rattle.math_valued.specs.Val.{Valued}
 use Rattle.math_valued.specs.Degree.{Has, Lt}
 use Rattle.math_valued.proofs.Degree.{k-domain, k-neg, lead-eq, lt-eq, has-eq, lt-add, lt-neg, lt-up, above, has-lt, lt-cancel, lead-up}
 use Rattle.math_rows.specs.Reading.{Reading}
-use Rattle.math_rows.specs.Row.{tpow}
+use Rattle.math_rows.specs.Row.{tpow, comb}
 use Rattle.math_rows.proofs.Rows.{tpow-lead, tpow-poly, const-neg}
-use Rattle.math_rows.proofs.Turn.{comb, lead-scale, lt-scale, lt-mul-sharp}
+use Rattle.math_rows.proofs.Turn.{lead-scale, lt-scale, lt-mul-sharp}
 use Rattle.math_turns.specs.Points.{Pt, X, Y, side, D, Turned, Moved}
 
 module _ {p : ℕ} (ρ : Reading p) where

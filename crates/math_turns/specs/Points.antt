@@ -14,7 +14,7 @@ use Prim.Native.Nat.{ℕ}
 use Rattle.math_ring.specs.Ring.{Ops, CRing}
 use Rattle.math_valued.specs.Val.{Valued}
 use Rattle.math_rows.specs.Reading.{Reading}
-use Rattle.math_rows.proofs.Turn.{comb}
+use Rattle.math_rows.specs.Row.{comb}
 
 pub record Pt (A : Type 0) : Type 0 where
   pub b : A

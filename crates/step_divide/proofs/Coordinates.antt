@@ -13,14 +13,13 @@ use Rattle.math_valued.specs.Degree.{Has, Lt}
 use Rattle.math_valued.proofs.Degree as d
 use Rattle.math_valued.proofs.Compare.{lt-scale, lt-unscale, lt-mul-sharp}
 use Rattle.math_ideals.specs.Setting.{Roots, Setting, P}
-use Rattle.math_ideals.specs.Element.{O, X, Y, Z}
-use Rattle.math_ideals.specs.Ideal.{Basis, lin, det}
+use Rattle.math_ideals.specs.Element.{O, X, Y, Z, times-r, times-w}
+use Rattle.math_ideals.specs.Ideal.{Basis, lin, det, Coords}
 use Rattle.math_ideals.specs.Basis.{Good}
 use Rattle.math_ideals.proofs.Sizes.{X-lin, Y-lin, Z-lin}
 use Rattle.math_ideals.proofs.Values.{w-w}
 use Rattle.math_ideals.proofs.Form.{has-two, has-three}
-use Rattle.math_ideals.proofs.Check.{Coords, coords-eq}
-use Rattle.math_ideals.proofs.Tests.{times-r, times-w}
+use Rattle.math_ideals.proofs.Check.{coords-eq}
 use Rattle.math_ideals.proofs.Degrees.{Small}
 
 module _ (S : Setting) (B : Basis S) (s : Small S B) where

@@ -26,7 +26,8 @@ use Rattle.poly_rows.specs.Leaf.{Product}
 use Rattle.poly_rows.specs.Terms.{Ready}
 use Rattle.math_ideals.specs.Basis.{Good}
 use Rattle.math_ideals.proofs.Degrees.{small}
-use Rattle.math_chain.proofs.Parts.{Parts, parts, Cut, base, base-d}
+use Rattle.math_chain.specs.Parts.{Parts, Cut, base}
+use Rattle.math_chain.proofs.Parts.{parts, base-d}
 use Rattle.math_chain.proofs.Room.{d-not-zero}
 use Rattle.field_open.specs.Refusal.{Accepted}
 use Rattle.basis_record.specs.Record.{setting, polyOf}

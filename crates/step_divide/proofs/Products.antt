@@ -23,11 +23,10 @@ use Rattle.math_rows.proofs.Floors.{sized, zero-row}
 use Rattle.math_rows.proofs.Unique.{cast-inj}
 use Rattle.poly_rows.specs.Leaf.{Cut, MulIn, Product}
 use Rattle.math_ideals.specs.Setting.{dGH}
-use Rattle.math_ideals.specs.Element.{O}
+use Rattle.math_ideals.specs.Element.{O, times-r, times-w}
 use Rattle.math_ideals.specs.Basis.{Good}
 use Rattle.math_ideals.proofs.Values.{dr-dw, dr-eq, dr-pos, dw-pos}
-use Rattle.math_ideals.proofs.Check.{Coords}
-use Rattle.math_ideals.proofs.Tests.{times-r, times-w}
+use Rattle.math_ideals.specs.Ideal.{Coords}
 use Rattle.math_ideals.proofs.Degrees.{small, det-lead}
 use Rattle.field_open.specs.Refusal.{Accepted}
 use Rattle.basis_record.specs.Record.{setting, polyOf}

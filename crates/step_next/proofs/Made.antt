@@ -24,7 +24,7 @@ use Rattle.math_ideals.specs.Next.{Next}
 use Rattle.math_ideals.proofs.Degrees.{small}
 use Rattle.math_ideals.proofs.Divided.{ev-M}
 use Rattle.math_chain.specs.Chain.{Degree}
-use Rattle.math_chain.proofs.Parts.{Parts, Cut, x1, y1, base}
+use Rattle.math_chain.specs.Parts.{Parts, Cut, x1, y1, base}
 use Rattle.math_chain.proofs.Changed.{Pair, Changed}
 use Rattle.math_chain.proofs.Moved.{changed-of}
 use Rattle.math_chain.proofs.Frame.{pair, off, Framed, Rebased}
