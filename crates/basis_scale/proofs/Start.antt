@@ -15,9 +15,8 @@ use Rattle.math_turns.specs.Points.{Moved}
 use Rattle.field_open.specs.Refusal.{Accepted}
 use Rattle.math_ideals.specs.Setting.{P}
 use Rattle.math_ideals.specs.Next.{Start}
-use Rattle.math_chain.proofs.Changed.{Pair, Changed}
+use Rattle.math_chain.proofs.Changed.{Pair, Changed, changed-of}
 use Rattle.math_chain.proofs.Frame.{pair}
-use Rattle.math_chain.proofs.Moved.{changed-of}
 use Rattle.math_chain.proofs.Correct.{Ends, order-correct}
 use Rattle.basis_record.specs.Record.{part, setting, polyOf, basisOf}
 use Rattle.basis_reduce.specs.Frame.{Frame, frame, Meaning, pt}

@@ -12,6 +12,7 @@ use mathlib.Core.List.{List}
 use Prim.Native.Nat.{ℕ, suc, _%_, _<_, _≤_}
 use lib.ListN.{length, getD}
 use Rattle.math_ring.specs.Ring.{Ops, CRing}
+use Rattle.math_triple.specs.Sizes.{sizeZ}
 use Rattle.math_valued.specs.Val.{Valued}
 use Rattle.math_rows.specs.Reading.{Reading}
 use Rattle.math_rows.specs.Row.{Size}
@@ -50,7 +51,7 @@ pub record BasisOn (F : Frame) (mul lim : ℕ) (q : Pair) (top : ℕ) (d : List 
 module _ {F : Frame} (μ : Meaning F) where
   -- 2a − b r − c w
   abbrev pub Z : Ser μ → Ser μ → Ser μ → Ser μ
-  Z a b c = let o = rd μ .𝓥 .L .ops in o .add (o .add (o .mul (o .add (o .𝟏) (o .𝟏)) a) (o .neg (o .mul b (μ .r)))) (o .neg (o .mul c (μ .w)))
+  Z = sizeZ (rd μ .𝓥 .L .ops) (μ .r) (μ .w)
 
   abbrev pub at : ℕ → List ℕ → Ser μ
   at i B = rowμ μ (part i B)

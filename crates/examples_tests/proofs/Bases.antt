@@ -37,7 +37,8 @@ use Rattle.examples_lists.specs.Lists.{ends}
 use Rattle.examples_lists.specs.Quotients.{bezout}
 use Rattle.examples_lists.specs.Lists as L
 use Rattle.examples_lists.proofs.Lists.{ends-sound, lead-list}
-use Rattle.examples_lists.proofs.Meaning.{hom-eval, poly-hom, el, el-hom, el-alike, coprime-list}
+use Rattle.math_ring.proofs.Hom.{hom-eval}
+use Rattle.examples_lists.proofs.Meaning.{poly-hom, el, el-hom, el-alike, coprime-list}
 use Rattle.examples_tests.specs.Rows.{Rows}
 use Rattle.examples_tests.specs.Tests.{every, last, some, αOf, βOf, γOf, lies, linL, detL, pure, rootR, rootW, by, shapedAt, double, hasTop, xPart, yPart, short, sizes, apart, good}
 use Rattle.examples_tests.proofs.Fields.{every-at, series-of}

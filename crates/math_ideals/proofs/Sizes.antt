@@ -11,6 +11,7 @@ use mathlib.Core.List.{List, [], _∷_}
 use Prim.Native.Nat.{ℕ}
 use Rattle.math_ring.specs.Ring.{Ops}
 use Rattle.math_ring.proofs.Solve.{Expr, hyp, var, exprs, one, lit, zer, minus, _:+_, _:*_, _:=_, solve, solve-by, ring₂, ring₃}
+use Rattle.math_triple.specs.Sizes.{evT, XT, YT, ZT}
 use Rattle.math_triple.specs.Tri.{Tri, triE}
 use Rattle.math_triple.specs.Order.{triops}
 use Rattle.math_valued.specs.Val.{Valued}
@@ -19,7 +20,7 @@ use Rattle.math_valued.proofs.Degree as d
 use Rattle.math_valued.proofs.Polynomial.{P-path}
 use Rattle.math_ideals.specs.Setting.{Roots, Setting, P}
 use Rattle.math_ideals.specs.Element as D
-use Rattle.math_ideals.specs.Element.{evT, XT, YT, ZT, O, sc}
+use Rattle.math_ideals.specs.Element.{O, sc}
 use Rattle.math_ideals.specs.Ideal.{Basis, lin, det}
 
 -- ---- expressions

@@ -13,13 +13,14 @@ use native.Mathlib.Omega.{arith}
 use Rattle.math_ring.specs.Ring.{Ops}
 use Rattle.math_ring.proofs.Solve.{hyp, var, exprs, one, zer, minus, _:+_, _:*_, _:=_, solve, solve-by, ring₂}
 use Rattle.math_triple.specs.Tri as T
+use Rattle.math_triple.specs.Sizes.{evT, YT, ZT}
 use Rattle.math_triple.specs.Tri.{Tri, cofT}
 use Rattle.math_triple.specs.Order.{triops}
 use Rattle.math_valued.specs.Val.{Valued}
 use Rattle.math_valued.specs.Polynomial.{polys}
 use Rattle.math_valued.proofs.Degree as d
 use Rattle.math_ideals.specs.Setting.{Roots, Setting, P, dGH}
-use Rattle.math_ideals.specs.Element.{evT, YT, ZT, O, sc, ev, Y, Z, norm, cof}
+use Rattle.math_ideals.specs.Element.{O, sc, ev, Y, Z, norm, cof}
 use Rattle.math_ideals.proofs.Sizes.{gE, hE, rE, wE, xE, yE, env}
 open Ops (triops exprs gE hE) using (mul as _:⊗_)
 

@@ -25,8 +25,7 @@ use Rattle.math_ideals.proofs.Degrees.{small}
 use Rattle.math_ideals.proofs.Divided.{ev-M}
 use Rattle.math_chain.specs.Chain.{Degree}
 use Rattle.math_chain.specs.Parts.{Parts, Cut, x1, y1, base}
-use Rattle.math_chain.proofs.Changed.{Pair, Changed}
-use Rattle.math_chain.proofs.Moved.{changed-of}
+use Rattle.math_chain.proofs.Changed.{Pair, Changed, changed-of}
 use Rattle.math_chain.proofs.Frame.{pair, off, Framed, Rebased}
 use Rattle.math_chain.proofs.Correct.{Ends, base-framed, step-correct}
 use Rattle.basis_record.specs.Record.{part, setting, polyOf, basisOf, IsRecord}

@@ -19,6 +19,7 @@ use Rattle.math_rows.specs.Made.{reading}
 use Rattle.math_rows.specs.Row.{Row, Size, row}
 use Rattle.math_rows.proofs.Rows.{size-le, size-has}
 use Rattle.math_rows.proofs.Floors.{sized, zero-row}
+use Rattle.math_triple.specs.Sizes.{sizeX, sizeY}
 use Rattle.math_turns.specs.Points.{Pt}
 use Rattle.math_turns.proofs.Turn.{b-lt, c-lt}
 use Rattle.field_open.specs.Refusal.{Accepted}
@@ -137,12 +138,6 @@ module _ {p : ℕ} {G H : List ℕ} (A : Accepted p G H) {g h gh : List ℕ} {n 
   μ = meaning A (kp .known A)
 
   -- the sizes of the two elements
-  combine : (s t s′ t′ : ρ .𝓥 .L .El) → s ≡ s′ → t ≡ t′ → (let q = ρ .𝓥 .L .ops in q .add (q .mul s (setting A .roots .r)) (q .mul t (setting A .roots .w)) ≡ q .add (q .mul s′ (setting A .roots .r)) (q .mul t′ (setting A .roots .w)))
-  combine s t s′ t′ e f = let q = ρ .𝓥 .L .ops in ap₂ (λ x y. q .add (q .mul x (setting A .roots .r)) (q .mul y (setting A .roots .w))) e f
-
-  subtract : (s t s′ t′ : ρ .𝓥 .L .El) → s ≡ s′ → t ≡ t′ → (let q = ρ .𝓥 .L .ops in q .add (q .mul s (setting A .roots .r)) (q .neg (q .mul t (setting A .roots .w))) ≡ q .add (q .mul s′ (setting A .roots .r)) (q .neg (q .mul t′ (setting A .roots .w))))
-  subtract s t s′ t′ e f = let q = ρ .𝓥 .L .ops in ap₂ (λ x y. q .add (q .mul x (setting A .roots .r)) (q .neg (q .mul y (setting A .roots .w)))) e f
-
   mb-is : base (setting A) (rowsOf A b) (m .k) (m .c) .M .b .0 ≡ row ρ (o .mb)
   mb-is = sym (ap (λ t. t .0) (m .mb-is))
 
@@ -159,22 +154,28 @@ module _ {p : ℕ} {G H : List ℕ} (A : Accepted p G H) {g h gh : List ℕ} {n 
   at x y = record { b = row ρ x; c = row ρ y }
 
   abbrev Xₐ : List ℕ → List ℕ → ρ .𝓥 .L .El
-  Xₐ x y = let q = ρ .𝓥 .L .ops in q .add (q .mul (row ρ x) (setting A .roots .r)) (q .mul (row ρ y) (setting A .roots .w))
+  Xₐ x y = sizeX (ρ .𝓥 .L .ops) (setting A .roots .r) (setting A .roots .w) (row ρ x) (row ρ y)
 
   abbrev Yₐ : List ℕ → List ℕ → ρ .𝓥 .L .El
-  Yₐ x y = let q = ρ .𝓥 .L .ops in q .add (q .mul (row ρ x) (setting A .roots .r)) (q .neg (q .mul (row ρ y) (setting A .roots .w)))
+  Yₐ x y = sizeY (ρ .𝓥 .L .ops) (setting A .roots .r) (setting A .roots .w) (row ρ x) (row ρ y)
+
+  X-is : {b c : ρ .𝓥 .L .El} {x y : List ℕ} → b ≡ row ρ x → c ≡ row ρ y → sizeX (ρ .𝓥 .L .ops) (setting A .roots .r) (setting A .roots .w) b c ≡ Xₐ x y
+  X-is e f = ap₂ (sizeX (ρ .𝓥 .L .ops) (setting A .roots .r) (setting A .roots .w)) e f
+
+  Y-is : {b c : ρ .𝓥 .L .El} {x y : List ℕ} → b ≡ row ρ x → c ≡ row ρ y → sizeY (ρ .𝓥 .L .ops) (setting A .roots .r) (setting A .roots .w) b c ≡ Yₐ x y
+  Y-is e f = ap₂ (sizeY (ρ .𝓥 .L .ops) (setting A .roots .r) (setting A .roots .w)) e f
 
   lx1 : Lt (ρ .𝓥) (Xₐ (o .mb) (o .mc)) (suc (rm .a))
-  lx1 = d.lt-eq (ρ .𝓥) (rm .P-below .X-lt) (combine _ _ _ _ mb-is mc-is)
+  lx1 = d.lt-eq (ρ .𝓥) (rm .P-below .X-lt) (X-is mb-is mc-is)
 
   ly1 : Lt (ρ .𝓥) (Yₐ (o .mb) (o .mc)) (suc (rm .a))
-  ly1 = d.lt-eq (ρ .𝓥) (rm .P-below .Y-lt) (subtract _ _ _ _ mb-is mc-is)
+  ly1 = d.lt-eq (ρ .𝓥) (rm .P-below .Y-lt) (Y-is mb-is mc-is)
 
   lx2 : Lt (ρ .𝓥) (Xₐ (o .nb) (o .nc)) (suc (rm .b))
-  lx2 = d.lt-eq (ρ .𝓥) (rm .Q-below .X-lt) (combine _ _ _ _ nb-is nc-is)
+  lx2 = d.lt-eq (ρ .𝓥) (rm .Q-below .X-lt) (X-is nb-is nc-is)
 
   ly2 : Lt (ρ .𝓥) (Yₐ (o .nb) (o .nc)) (suc (rm .b))
-  ly2 = d.lt-eq (ρ .𝓥) (rm .Q-below .Y-lt) (subtract _ _ _ _ nb-is nc-is)
+  ly2 = d.lt-eq (ρ .𝓥) (rm .Q-below .Y-lt) (Y-is nb-is nc-is)
 
   -- the numbers
   whole : suc (rm .s) ≡ n + 1 - o .cut
@@ -249,7 +250,7 @@ module _ {p : ℕ} {G H : List ℕ} (A : Accepted p G H) {g h gh : List ℕ} {n 
     ly1 = ly1;
     ly2 = ly2;
     det = d.has-eq (ρ .𝓥) (rm .det-has) (let q = ρ .𝓥 .L .ops in
-        ap₂ (λ s t. q .add s (q .neg t)) (ap₂ (q .mul) (combine _ _ _ _ mb-is mc-is) (subtract _ _ _ _ nb-is nc-is)) (ap₂ (q .mul) (combine _ _ _ _ nb-is nc-is) (subtract _ _ _ _ mb-is mc-is)));
+        ap₂ (λ s t. q .add s (q .neg t)) (ap₂ (q .mul) (X-is mb-is mc-is) (Y-is nb-is nc-is)) (ap₂ (q .mul) (X-is nb-is nc-is) (Y-is mb-is mc-is)));
   }
 
   u-has : Has (ρ .𝓥) (row ρ (o .u)) (rm .u)
