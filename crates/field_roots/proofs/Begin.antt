@@ -7,7 +7,7 @@
 --   begins-row                a row begins with its coefficients, read from the top
 --   begins-cut, begins-floor  fewer coefficients; the polynomial parts of t^k z
 --   stand-in                  a series that begins so
---   cast-conv                 the coefficients of a product of numbers, in the field; cast-cube: the cube of a number
+--   cast-conv                 the coefficients of a product of numbers, in the field
 use mathlib.Core.Path.{_≡_, refl, sym, ap, ap₂, _∙_, subst}
 use mathlib.Core.List.{List, [], _∷_}
 use Prim.Native.Nat.{ℕ, zero, suc, _≤_, _<_}
@@ -189,6 +189,3 @@ module _ {p : ℕ} (ρ : Reading p) where
   unfolding conv
   cast-conv zero f g = ρ .cast-mul (f 0) (g 0)
   cast-conv (suc n) f g = ρ .cast-add (N._*_ (f 0) (g (suc n))) _ ∙ ap₂ _+ᵏ_ (ρ .cast-mul (f 0) (g (suc n))) (cast-conv n (λ i. f (suc i)) g)
-
-  pub cast-cube : (a : ℕ) → cast (N._*_ (N._*_ a a) a) ≡ cast a *ᵏ cast a *ᵏ cast a
-  cast-cube a = ρ .cast-mul (N._*_ a a) a ∙ ap (λ x. x *ᵏ cast a) (ρ .cast-mul a a)

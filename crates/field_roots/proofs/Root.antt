@@ -26,10 +26,10 @@ use Rattle.field_open.specs.Refusal.{Accepted}
 use Rattle.field_open.proofs.Accept.{degree-size, degree-lead, degree-has}
 use Rattle.math_rows.proofs.Rows.{size-lead}
 use Rattle.math_rows.proofs.Unique.{same-cast}
+use Rattle.math_rows.proofs.Numbers.{cast-square, cast-cube}
 use Rattle.field_roots.specs.Pair.{degR, degW, RootPair}
 use Rattle.field_roots.proofs.Pair.{three, w-has, pair-from}
 use Rattle.field_roots.proofs.Near.{Sizes}
-use Rattle.field_roots.proofs.Begin.{cast-cube}
 use Rattle.math_rows.proofs.Constants.{three≢}
 
 module _ {p : ℕ} {G H : List ℕ} (A : Accepted p G H) (pr : Prime p) where
@@ -66,12 +66,11 @@ module _ {p : ℕ} {G H : List ℕ} (A : Accepted p G H) (pr : Prime p) where
       let r : ℕ = powMod p top-D (third p) in
       sym (cast-cube ρ r)
       ∙ same-cast ρ (r * r * r) (lg * (lh * lh)) (root-value p pr top-D (mod-lt (lg * (lh * lh)) (ρ .pos)) (A .kind) r refl)
-      ∙ ρ .cast-mul lg (lh * lh)
-      ∙ ap (λ x. cast lg *ᵏ x) (ρ .cast-mul lh lh)
+      ∙ cast-square ρ lg lh
 
   -- r leads with the cube root of D's leading coefficient
   pub leadR-cube : leadR *ᵏ leadR *ᵏ leadR ≡ cast (lg * (lh * lh))
-  leadR-cube = cube-is ∙ sym (ρ .cast-mul lg (lh * lh) ∙ ap (λ x. cast lg *ᵏ x) (ρ .cast-mul lh lh))
+  leadR-cube = cube-is ∙ sym (cast-square ρ lg lh)
 
   pub leadR-not : leadR ≢ 0ᵏ
   leadR-not e =
