@@ -17,7 +17,8 @@ use Rattle.math_rows.specs.Reading.{Reading}
 use Rattle.math_rows.specs.Made.{reading}
 use Rattle.math_rows.specs.Row.{Row, row}
 use Rattle.math_ideals.specs.Basis.{Good}
-use Rattle.math_ideals.proofs.Tests.{Tests, good-of, tests-of}
+use Rattle.math_ideals.specs.Tests.{Tests}
+use Rattle.math_ideals.proofs.Tests.{good-of, tests-of}
 use Rattle.field_open.specs.Refusal.{Accepted}
 use Rattle.basis_record.specs.Record.{setting, basisOf, IsRecord}
 use Rattle.field_series.specs.Answer.{Prefix}
@@ -83,52 +84,14 @@ module _ {p : ℕ} {G H : List ℕ} (A : Accepted p G H) (c : Cubic) (h : Prefix
     shaped-at {o} s = subst (λ F. Shaped F b o) (sym (frame-is A c h)) s (meaning A (c .r) (c .w) (r-reads A c h) (w-reads A c h))
 
     numbers-in : Tests (setting A) (rowsOf A b) → Numbers (meaning A (c .r) (c .w) (r-reads A c h) (w-reads A c h)) b
-    numbers-in t = record {
-      u = t .u;
-      x = t .x;
-      y = t .y;
-      U-lead = t .U-lead;
-      X-M = t .X-M;
-      Y-N = t .Y-N;
-      u<x = t .u<x;
-      u≤y = t .u≤y;
-      X-N = t .X-N;
-      Y-M = t .Y-M;
-      Z-M = t .Z-M;
-      Z-N = t .Z-N;
-      N-large = t .N-large;
-    }
+    numbers-in t = t .sizes
 
     closed-in : Tests (setting A) (rowsOf A b) → Closed A b
-    closed-in t = record { rank = t .rank; r-one = t .r-one; w-one = t .w-one; r-M = t .r-M; w-M = t .w-M; r-N = t .r-N; w-N = t .w-N }
+    closed-in t = t .closed
 
     -- Good, from the answers
     good-from : Shaped (frameOf c) b true → Alone p b true → Closed A b → Good (setting A) (rowsOf A b)
-    good-from s a k =
-        let n = shaped-at s .yes! refl in
-        good-of (setting A) (rowsOf A b) (record {
-          u = n .u;
-          x = n .x;
-          y = n .y;
-          U-lead = n .U-lead;
-          X-M = n .X-M;
-          Y-N = n .Y-N;
-          u<x = n .u<x;
-          u≤y = n .u≤y;
-          X-N = n .X-N;
-          Y-M = n .Y-M;
-          Z-M = n .Z-M;
-          Z-N = n .Z-N;
-          N-large = n .N-large;
-          rank = k .rank;
-          seven = a G H A .yes! refl;
-          r-one = k .r-one;
-          w-one = k .w-one;
-          r-M = k .r-M;
-          w-M = k .w-M;
-          r-N = k .r-N;
-          w-N = k .w-N;
-        })
+    good-from s a k = good-of (setting A) (rowsOf A b) (record { sizes = shaped-at s .yes! refl; seven = a G H A .yes! refl; closed = k })
 
     -- the rows of a good basis end where `narrow` asks
     narrow-of : AreRows p b → Good (setting A) (rowsOf A b) → Narrow (c .field .dw + 1) (c .field .dr + 1) (b .m1) (b .m2) (b .n1) (b .n2)

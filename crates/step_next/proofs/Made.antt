@@ -27,7 +27,7 @@ use Rattle.math_chain.specs.Chain.{Degree}
 use Rattle.math_chain.specs.Parts.{Parts, Cut, x1, y1, base}
 use Rattle.math_chain.proofs.Changed.{Pair, Changed, changed-of}
 use Rattle.math_chain.proofs.Frame.{pair, off, Framed, Rebased}
-use Rattle.math_chain.proofs.Correct.{Ends, base-framed, step-correct}
+use Rattle.math_chain.proofs.Correct.{base-framed, step-correct}
 use Rattle.basis_record.specs.Record.{part, setting, polyOf, basisOf, IsRecord}
 use Rattle.step_divide.specs.Rows.{Seven, seven, AreRows, rowsOf}
 use Rattle.step_divide.proofs.Products.{sizes}
@@ -65,21 +65,6 @@ module _ {p : ℕ} {G H : List ℕ} (A : Accepted p G H) {g h gh : List ℕ} {n 
   }
 
   module _ (e : BasedAt (meaning A k) (pairOf o) (o .u) (o .x) (o .y) B′) where
-    ends : Ends (setting A) (basisOf A B′)
-    ends = record {
-      u = e .u;
-      x = e .x;
-      y = e .y;
-      U-lead = e .U-lead;
-      X-M = e .X-M;
-      Y-N = e .Y-N;
-      u≤y = e .u≤y;
-      X-N = e .X-N;
-      Y-M = e .Y-M;
-      Z-M = e .Z-M;
-      Z-N = e .Z-N;
-    }
-
     rebased : Rebased (setting A) (polyOf A (o .x)) (polyOf A (o .y)) base₁ (basisOf A B′)
     rebased = record {
       old = subst (λ z. Framed (setting A) (polyOf A (o .x)) (polyOf A (o .y)) z) (sym same-base)
@@ -96,7 +81,7 @@ module _ {p : ℕ} {G H : List ℕ} (A : Accepted p G H) {g h gh : List ℕ} {n 
         (subst (λ z. Rebased (setting A) z (y1 (setting A) (rowsOf A b) (m .k)) base₀ (basisOf A B′)) (m .x-is)
         (subst (λ z. Rebased (setting A) (polyOf A (o .x)) z base₀ (basisOf A B′)) (m .y-is)
         (subst (λ z. Rebased (setting A) (polyOf A (o .x)) (polyOf A (o .y)) z (basisOf A B′)) same-base rebased)))
-        ends
+        (e .numbers)
 
 -- ---- the degree of m
 pub degree-of : {p : ℕ} {G H : List ℕ} (A : Accepted p G H) (b : Seven) → AreRows p b → Good (setting A) (rowsOf A b) → (lm lu : ℕ) → Size (b .m0) lm → Size (b .u) lu
