@@ -5,16 +5,14 @@
 --   Keeps, Under       an answer that decides the one, the other, at each field that the rows g, h, gh hold
 --   Room p b           how long the rows of b are; with it all products on the way fit into 32 coefficients
 -- Rows of a basis of a reduced ideal are no longer: crate basis_accept tests that first. Two answers of one question are equal: `under-one`.
-use mathlib.Core.Logic.{_≢_}
 use mathlib.Core.Bool.{Bool}
 use mathlib.Core.List.{List}
 use Prim.Native.Nat.{ℕ}
 use Rattle.math_fp.specs.Fp.{Prime}
-use Rattle.math_valued.specs.Polynomial.{polys}
 use Rattle.num_residue.specs.Residue.{Modulus}
 use Rattle.math_ideals.specs.Element.{O, times-r, times-w}
 use Rattle.math_ideals.specs.Tests.{IsClosed}
-use Rattle.math_ideals.specs.Ideal.{det, Coords}
+use Rattle.math_ideals.specs.Ideal.{Coords}
 use Rattle.field_open.specs.Refusal.{Accepted}
 use Rattle.basis_record.specs.Record.{setting, polyOf}
 use Rattle.basis_reduce.specs.Frame.{Short}

@@ -3,9 +3,8 @@
 use mathlib.Core.Path.{_≡_}
 use mathlib.Core.List.{List}
 use Prim.Native.Nat.{ℕ}
-use Rattle.math_ring.specs.Ring.{Ops, CRing}
+use Rattle.math_ring.specs.Ring.{Ops}
 use Rattle.math_fp.specs.Fp.{Prime}
-use Rattle.math_valued.specs.Val.{Valued}
 use Rattle.math_valued.specs.Degree.{Has}
 use Rattle.math_ideals.specs.Setting.{at}
 use Rattle.math_ideals.proofs.Roots.{roots-unique}

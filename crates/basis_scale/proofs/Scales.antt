@@ -1,7 +1,7 @@
 -- One inversion for three: with i = 1/(abc), j = i c is 1/(ab), so j b = 1/a, 2 j a = 2/b and i ab = 1/c.
-use mathlib.Core.Path.{_≡_, refl, sym, ap, ap₂, _∙_}
+use mathlib.Core.Path.{_≡_, sym, ap, ap₂, _∙_}
 use mathlib.Core.List.{List, [], _∷_}
-use Prim.Native.Nat.{ℕ, zero, suc, _<_, _%_}
+use Prim.Native.Nat.{ℕ, _<_, _%_}
 use Prim.Native.Nat as N
 use native.Mathlib.Nat.{mod-lt}
 use native.Mathlib.Omega.{arith}
@@ -10,7 +10,6 @@ use Rattle.math_ring.proofs.Solve.{var, one, _:+_, _:*_, solve}
 use Rattle.math_fp.specs.Fp.{Prime}
 use Rattle.math_valued.specs.Val.{Valued}
 use Rattle.num_residue.specs.Residue.{Modulus, Nonzero, Inverse}
-use Rattle.math_rows.specs.Reading.{Reading}
 use Rattle.math_rows.specs.Made.{reading}
 use Rattle.math_rows.proofs.Numbers.{cast-product, product-some}
 use Rattle.basis_reduce.proofs.Leaves.{less-square}

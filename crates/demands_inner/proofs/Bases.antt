@@ -128,7 +128,8 @@ module _ {F : Frame} {q : Pair} {d x1 y1 B B′ : List ℕ} (μ : Meaning F) (h 
   scaled : Scaled (rd μ) (Mpt μ B) (Npt μ B) (Mpt μ B′) (Npt μ B′)
   scaled = pairs-one (rd μ) (μ .r) (μ .w) (moved-then (rd μ) (moved-back (rd μ) (h .moved)) (h′ .moved))
       (_, μ .two, h .numbers .X-M) (h .numbers .X-N) (h .numbers .Y-M) (K .ops .𝟏, 𝓥 .one≢zero, h .numbers .Y-N) (h .numbers .u≤y)
-      (_, μ .two, h′ .numbers .X-M) (h′ .numbers .X-N) (lt-up 𝓥 (h .numbers .u) (h′ .numbers .Y-M) (let e : h .numbers .u ≡ h′ .numbers .u = u-same in omega arith)) (K .ops .𝟏, 𝓥 .one≢zero, h′ .numbers .Y-N) (let e : h .numbers .u ≡ h′ .numbers .u = u-same in let l : h′ .numbers .u ≤ h′ .numbers .y = h′ .numbers .u≤y in omega arith)
+      (_, μ .two, h′ .numbers .X-M) (h′ .numbers .X-N) (lt-up 𝓥 (h .numbers .u) (h′ .numbers .Y-M) (let e : h .numbers .u ≡ h′ .numbers .u = u-same in omega arith))
+      (K .ops .𝟏, 𝓥 .one≢zero, h′ .numbers .Y-N) (let e : h .numbers .u ≡ h′ .numbers .u = u-same in let l : h′ .numbers .u ≤ h′ .numbers .y = h′ .numbers .u≤y in omega arith)
 
   -- a leading coefficient that a constant keeps
   kept : (c v : K .El) (z z′ : L .El) (m n : ℕ) → c ≢ K .ops .𝟎 → v ≢ K .ops .𝟎 → 𝓥 .Lead z m 0 v → 𝓥 .Lead z′ n 0 v → z′ ≡ const c ⊗ z → const c ≡ 𝟏

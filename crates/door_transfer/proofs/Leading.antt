@@ -3,7 +3,6 @@
 --   lead-times                          the product of two leading coefficients, mod p, has an inverse too
 --   factors-law                         what the functions hand out are the factors
 use mathlib.Core.Path.{_≡_, sym, ap, _∙_, subst}
-use mathlib.Core.Logic.{_≢_}
 use mathlib.Core.List.{[], _∷_}
 use Prim.Native.Nat.{ℕ, _%_, _<_}
 use Prim.Native.Nat as N

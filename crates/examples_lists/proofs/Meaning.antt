@@ -3,10 +3,10 @@
 --   el, el-hom                 triples of lists as triples of polynomials
 --   poly-alike, el-alike       the tests
 --   coprime-list, squarefree-list   u a + v b = 1, u a + v a′ = 1
-use mathlib.Core.Path.{_≡_, refl, sym, ap, ap₂, _∙_, subst}
+use mathlib.Core.Path.{_≡_, sym, ap₂, _∙_, subst}
 use mathlib.Core.Bool.{_&&_}
-use mathlib.Core.List.{List, [], _∷_, map}
-use Prim.Native.Nat.{ℕ, zero, suc}
+use mathlib.Core.List.{List, [], _∷_}
+use Prim.Native.Nat.{ℕ}
 use lib.Dec.{T}
 use Rattle.math_ring.proofs.Laws as r
 use Rattle.math_ring.specs.Ring.{CRing, Hom}

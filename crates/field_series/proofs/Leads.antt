@@ -1,13 +1,11 @@
 -- Leading coefficients: the cube root of g h², and the inverse of 3 c².
 --   lead-root-is, thrice-inverse-is   what the calls hand out is what is asked
 use mathlib.Core.Path.{_≡_, refl, sym, ap, _∙_}
-use mathlib.Core.Logic.{_≢_}
-use Prim.Native.Nat.{ℕ, zero, suc, _+_, _*_, _%_, _≤_, _<_}
+use Prim.Native.Nat.{ℕ, suc, _+_, _*_, _%_, _≤_, _<_}
 use native.Mathlib.Nat.{mod-lt, mod-eq-of-lt, mul-assoc}
 use native.Mathlib.Decide.{ℕ-discrete}
 use native.Mathlib.Omega.{arith}
 use Rattle.math_ring.specs.Ring.{CRing}
-use Rattle.math_fp.specs.Fp.{F, Prime, cls}
 use Rattle.math_fp.proofs.Ring.{mul-mod-mod, mod-mul-mod}
 use Rattle.math_fp.proofs.Field.{ppos}
 use Rattle.math_rows.specs.Made.{reading}

@@ -15,10 +15,10 @@ use Rattle.math_valued.specs.Val.{Valued}
 use Rattle.math_valued.specs.Degree.{Has, Lt, Leads}
 use Rattle.math_valued.specs.Polynomial.{polys, Divides}
 use Rattle.math_valued.proofs.Degree as d
-use Rattle.math_valued.proofs.Compare.{lt-≺, has-≼, lt-unscale}
+use Rattle.math_valued.proofs.Compare.{lt-unscale}
 use Rattle.math_valued.proofs.Polynomial.{view, not-zero}
 use Rattle.math_ideals.specs.Setting.{Roots, Setting, P}
-use Rattle.math_ideals.specs.Element.{O, el-r, el-w, X, Y, Z}
+use Rattle.math_ideals.specs.Element.{O, el-r, el-w, X, Y}
 use Rattle.math_ideals.specs.Ideal.{Basis, In, det}
 use Rattle.math_ideals.specs.Basis.{ReducedBasis, Scaled, NoFactor, Good}
 use Rattle.math_ideals.specs.Next.{Next, Start}

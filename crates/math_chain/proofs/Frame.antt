@@ -4,7 +4,7 @@
 --   Rebased B B′    both framed, U′ = U times a unit, and the pairs of B′ are those of B changed
 --   rebased-to rebased-from   then their lattices are one
 --   rebased-over rebased-rank rebased-alone   and what B is over, its rank and its lack of a common factor pass to B′
-use mathlib.Core.Path.{_≡_, sym, ap, ap₂, _∙_, subst}
+use mathlib.Core.Path.{_≡_, sym, ap, _∙_, subst}
 use mathlib.Core.List.{[], _∷_}
 use mathlib.Core.Logic.{_≢_}
 use Rattle.math_ring.proofs.Laws as rg

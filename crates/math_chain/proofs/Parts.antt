@@ -13,7 +13,7 @@ use Rattle.math_ring.proofs.Solve.{var, hyp, zer, minus, _:+_, _:*_, _:=_, expr
 use Rattle.math_triple.specs.Tri.{triE, normT}
 use Rattle.math_triple.specs.Order.{triops}
 use Rattle.math_valued.specs.Val.{Valued}
-use Rattle.math_valued.specs.Polynomial.{polys, Divides, IsUnit}
+use Rattle.math_valued.specs.Polynomial.{polys, Divides}
 use Rattle.math_valued.proofs.Polynomial.{P-path, degree}
 use Rattle.math_valued.proofs.Divide.{p-cancel}
 use Rattle.math_valued.proofs.Gcds.{All, Comb, gcds, quots, comb-quots, comb-divides, divides-mul}

@@ -5,7 +5,7 @@
 --   reduce        there is a change to pairs of that shape
 -- First deg Y(m) is brought below u, then deg X(m) is lowered until deg Y(n) is at least u. While it is not, deg X(m) exceeds the degree
 -- of the determinant less u, so this ends.
-use mathlib.Core.Path.{_≡_, refl, sym, ap, _∙_}
+use mathlib.Core.Path.{_≡_, refl, sym, ap}
 use mathlib.Core.List.{[], _∷_}
 use mathlib.Core.Logic.{_≢_, _⊎_, inl, inr}
 use Prim.Native.Nat.{ℕ, zero, suc, _≤_, _<_, _+_ as _+ⁿ_}

@@ -6,7 +6,6 @@ use mathlib.Core.Path.{sym, subst}
 use mathlib.Core.Logic.{inl, inr}
 use Prim.Native.Nat.{_<_}
 use Rattle.math_ring.specs.Ring.{Ops}
-use Rattle.math_valued.specs.Val.{Valued}
 use Rattle.math_valued.specs.Degree.{Has}
 use Rattle.math_valued.specs.Polynomial.{polys, Divides, IsUnit}
 use Rattle.math_valued.proofs.Degree as d

@@ -8,7 +8,7 @@
 -- Theorems (proofs/Tests): `good-of` and `tests-of`, the tests together are `Good`.
 use mathlib.Core.Logic.{_≢_, _⊎_}
 use Prim.Native.Nat.{ℕ, _≤_, _<_}
-use Rattle.math_ring.specs.Ring.{Ops, CRing}
+use Rattle.math_ring.specs.Ring.{Ops}
 use Rattle.math_triple.specs.Tri.{Tri}
 use Rattle.math_triple.specs.Sizes.{XT, YT, ZT}
 use Rattle.math_valued.specs.Val.{Valued}

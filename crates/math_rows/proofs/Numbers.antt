@@ -8,7 +8,7 @@ use mathlib.Core.Logic.{_≢_}
 use Prim.Native.Nat.{ℕ, zero, suc, _<_, _%_}
 use Prim.Native.Nat as N
 use native.Mathlib.Omega.{arith}
-use Rattle.math_ring.specs.Ring.{Ops, CRing}
+use Rattle.math_ring.specs.Ring.{Ops}
 use Rattle.math_valued.specs.Val.{Valued}
 use Rattle.math_valued.proofs.Degree.{k-domain}
 use Rattle.math_rows.specs.Reading.{Reading}

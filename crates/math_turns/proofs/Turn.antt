@@ -12,20 +12,19 @@ use Prim.Native.Nat.{ℕ, zero, suc, _≤_, _<_}
 use Prim.Native.Nat as N
 use native.Mathlib.Omega.{arith}
 use native.Mathlib.Decide.{decLe}
-use Rattle.math_ring.proofs.Laws as r
 use Rattle.math_ring.specs.Ring.{Ops, CRing, Hom}
-use Rattle.math_ring.proofs.Solve.{var, one, zer, minus, _:+_, _:*_, _:-_, hyp, solve, solve-by}
+use Rattle.math_ring.proofs.Solve.{var, one, minus, _:+_, _:*_, _:-_, hyp, solve, solve-by}
 use Rattle.math_triple.proofs.Pairs.{changed-start, changed-swap, changed-mix, changed-scale, changed-then, changed-back, changed-det}
 use Rattle.math_valued.specs.Val.{Valued}
 use Rattle.math_valued.specs.Degree.{Has, Lt}
 use Rattle.math_valued.specs.Polynomial.{polys, Poly, IsUnit}
 use Rattle.math_valued.proofs.Polynomial.{const-unit, unit-const}
 use Rattle.math_valued.proofs.Compare.{has-scale}
-use Rattle.math_valued.proofs.Degree.{k-domain, k-neg, lead-eq, lt-eq, has-eq, lt-add, lt-neg, lt-up, above, has-lt, lt-cancel, lead-up}
+use Rattle.math_valued.proofs.Degree.{lead-eq, lt-eq, has-eq, lt-add, lt-neg, lt-up, above, has-lt, lt-cancel, lead-up}
 use Rattle.math_rows.specs.Reading.{Reading}
 use Rattle.math_rows.specs.Row.{tpow, comb}
-use Rattle.math_rows.proofs.Rows.{tpow-lead, tpow-poly, const-neg}
-use Rattle.math_rows.proofs.Turn.{lead-scale, lt-scale, lt-mul-sharp}
+use Rattle.math_rows.proofs.Rows.{tpow-lead, tpow-poly}
+use Rattle.math_rows.proofs.Turn.{lt-scale, lt-mul-sharp}
 use Rattle.math_turns.specs.Points.{Pt, X, Y, side, D, Turned, Moved}
 
 module _ {p : ℕ} (ρ : Reading p) where

@@ -182,7 +182,8 @@ module _ {p cap : ℕ} {g h gh : List ℕ} {ie : ℕ} {b : Seven} (i : Generator
         record {
           rows = record { modulus = modulus i; prime = i .σ .prime; h0 = na .opposite .is-row; h2 = sx .hc; k0 = sy .ha; k2 = nc .opposite .is-row };
           left = fits-of ρ (setting (i .σ) .roots .dr) (setting (i .σ) .roots .dw) (sx .hc) (sy .ha) (low (x .c) _ (setting (i .σ) .roots .dr) ec (r-near .γ-lt)) (low (y .a) _ (setting (i .σ) .roots .dw) fa (w-near .α-lt)) (omega (arith, z .both, z .all));
-          right = fits-of ρ (setting (i .σ) .roots .dr) (setting (i .σ) .roots .dw) (na .opposite .is-row) (nc .opposite .is-row) (low-neg (setting (i .σ) .roots .dr) na (low (x .a) _ (setting (i .σ) .roots .dr) ea (r-near .α-lt))) (low-neg (setting (i .σ) .roots .dw) nc (low (y .c) _ (setting (i .σ) .roots .dw) fc (w-near .γ-lt))) (omega (arith, z .both, z .all));
+          right = fits-of ρ (setting (i .σ) .roots .dr) (setting (i .σ) .roots .dw) (na .opposite .is-row) (nc .opposite .is-row)
+              (low-neg (setting (i .σ) .roots .dr) na (low (x .a) _ (setting (i .σ) .roots .dr) ea (r-near .α-lt))) (low-neg (setting (i .σ) .roots .dw) nc (low (y .c) _ (setting (i .σ) .roots .dw) fc (w-near .γ-lt))) (omega (arith, z .both, z .all));
           nz = λ t. d-not-zero (setting (i .σ)) (rowsOf (i .σ) b) (i .good) k
               (let o = polys (ρ .𝓥) .ops in
               ap (λ s. s .0) (ap₂ (λ s u. o .add s (o .neg u)) (ap₂ (o .mul) (sym ec) (sym fa)) (ap₂ (o .mul) (sym ea) (sym fc)) ∙ sym (signs (i .σ .prime))) ∙ t);

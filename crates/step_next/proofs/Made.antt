@@ -24,7 +24,7 @@ use Rattle.math_ideals.specs.Next.{Next}
 use Rattle.math_ideals.proofs.Degrees.{small}
 use Rattle.math_ideals.proofs.Divided.{ev-M}
 use Rattle.math_chain.specs.Chain.{Degree}
-use Rattle.math_chain.specs.Parts.{Parts, Cut, x1, y1, base}
+use Rattle.math_chain.specs.Parts.{x1, y1, base}
 use Rattle.math_chain.proofs.Changed.{Pair, Changed, changed-of}
 use Rattle.math_chain.proofs.Frame.{pair, off, Framed, Rebased}
 use Rattle.math_chain.proofs.Correct.{base-framed, step-correct}

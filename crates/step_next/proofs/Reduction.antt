@@ -28,7 +28,7 @@ use Rattle.math_ideals.specs.Ideal.{det}
 use Rattle.math_ideals.specs.Basis.{Good}
 use Rattle.math_ideals.specs.Element.{X, Y}
 use Rattle.math_ideals.proofs.Degrees.{small}
-use Rattle.math_chain.specs.Parts.{Parts, Cut, base}
+use Rattle.math_chain.specs.Parts.{base}
 use Rattle.math_chain.proofs.Parts.{base-d}
 use Rattle.math_chain.proofs.Room.{Room, room}
 use Rattle.basis_record.specs.Record.{setting, polyOf}
