@@ -26,7 +26,7 @@ use Rattle.math_rows.specs.Reading.{Reading}
 use Rattle.math_rows.specs.Row.{tab, tpow, psum, coefs, row, fallAt, Floor}
 use Rattle.math_rows.proofs.Rows.{tpow-add, tpow-lead, psum-cut, row-tab}
 use Rattle.math_rows.proofs.Floors.{fall-in, fall-out}
-use Rattle.math_rows.proofs.Turn.{lt-mul-sharp}
+use Rattle.math_valued.proofs.Compare.{lt-mul-sharp}
 use Rattle.field_roots.specs.First.{conv, fall, Begins}
 use Rattle.field_roots.proofs.First.{convᵏ, fall-ext, fall-poly, fall-lt, fall-lead, fall-split, fall-zero, fall-psum, fall-inj, fall-mul}
 
@@ -88,9 +88,9 @@ module _ {p : ℕ} (ρ : Reading p) where
       let ab : A * B ≡ t * P = sym (tpow-add ρ (suc d) (suc e)) ∙ ap T (let q : N._+_ (suc d) (suc e) ≡ suc (suc (N._+_ d e)) = omega arith in q) in
       let k : ℕ = N._+_ (suc n) (suc (N._+_ d e)) in
       let x-lt : Lt 𝓥 (A * (B * x)) k = lt-up 𝓥 k (t-lt (suc d) (t-lt (suc e) hx)) (omega arith) in
-      let y-lt : Lt 𝓥 (A * (F * (t * T n * y + - (B * G)))) k = lt-up 𝓥 k (t-lt (suc d) (lt-mul-sharp ρ (fall-lt ρ (suc n) f) hy)) (omega arith) in
-      let z-lt : Lt 𝓥 (B * (G * (t * T n * z + - (A * F)))) k = lt-up 𝓥 k (t-lt (suc e) (lt-mul-sharp ρ (fall-lt ρ (suc n) g) hz)) (omega arith) in
-      let w-lt : Lt 𝓥 ((t * T n * z + - (A * F)) * (t * T n * y + - (B * G))) k = lt-up 𝓥 k (lt-mul-sharp ρ hz hy) (omega arith) in
+      let y-lt : Lt 𝓥 (A * (F * (t * T n * y + - (B * G)))) k = lt-up 𝓥 k (t-lt (suc d) (lt-mul-sharp 𝓥 (fall-lt ρ (suc n) f) hy)) (omega arith) in
+      let z-lt : Lt 𝓥 (B * (G * (t * T n * z + - (A * F)))) k = lt-up 𝓥 k (t-lt (suc e) (lt-mul-sharp 𝓥 (fall-lt ρ (suc n) g) hz)) (omega arith) in
+      let w-lt : Lt 𝓥 ((t * T n * z + - (A * F)) * (t * T n * y + - (B * G))) k = lt-up 𝓥 k (lt-mul-sharp 𝓥 hz hy) (omega arith) in
       lt-cancel 𝓥 (suc (N._+_ d e)) (t-has (suc n))
       (lt-eq 𝓥 (lt-add 𝓥 (lt-add 𝓥 x-lt y-lt) (lt-add 𝓥 z-lt w-lt))
       (solve-by L

@@ -2,7 +2,7 @@
 use mathlib.Core.Path.{_≡_, refl, sym, ap, ap₂, _∙_, subst}
 use mathlib.Core.Logic.{_≢_}
 use mathlib.Core.List.{List, [], _∷_}
-use Prim.Native.Nat.{ℕ, zero, suc, _≤_, _<_}
+use Prim.Native.Nat.{ℕ, zero, _≤_, _<_}
 use Prim.Native.Nat as N
 use native.Mathlib.Omega.{arith}
 use native.Mathlib.Decide.{decLe}
@@ -47,8 +47,3 @@ module _ {p : ℕ} (ρ : Reading p) where
   -- the leading term stays
   pub comb-keep : {x y : L .El} {d : ℕ} (k : ℕ) (s c : K .El) → s ≢ 0ᵏ → Has 𝓥 x d → Lt 𝓥 (tpow ρ k * y) d → Has 𝓥 (comb ρ s c k x y) d
   comb-keep k s c hs (a, ha, h) g = has-lt 𝓥 (s *ᵏ a, k-domain 𝓥 s a hs ha, lead-scale s h) (lt-neg 𝓥 (lt-scale c g))
-
-  pub lt-mul-sharp : {x y : L .El} {a b : ℕ} → Lt 𝓥 x (suc a) → Lt 𝓥 y b → Lt 𝓥 (x * y) (N._+_ a b)
-  lt-mul-sharp {a} {b} h g =
-      let (c, d) = 𝓥 .lead-down h in
-      lead-eq 𝓥 (𝓥 .lead-move (N._+_ a b) 0 (𝓥 .lead-mul d g) (omega arith)) refl (r.mul-zero K c)

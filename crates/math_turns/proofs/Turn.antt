@@ -19,12 +19,12 @@ use Rattle.math_valued.specs.Val.{Valued}
 use Rattle.math_valued.specs.Degree.{Has, Lt}
 use Rattle.math_valued.specs.Polynomial.{polys, Poly, IsUnit}
 use Rattle.math_valued.proofs.Polynomial.{const-unit, unit-const}
-use Rattle.math_valued.proofs.Compare.{has-scale}
+use Rattle.math_valued.proofs.Compare.{has-scale, lt-mul-sharp}
 use Rattle.math_valued.proofs.Degree.{lead-eq, lt-eq, has-eq, lt-add, lt-neg, lt-up, above, has-lt, lt-cancel, lead-up}
 use Rattle.math_rows.specs.Reading.{Reading}
 use Rattle.math_rows.specs.Row.{tpow, comb}
 use Rattle.math_rows.proofs.Rows.{tpow-lead, tpow-poly}
-use Rattle.math_rows.proofs.Turn.{lt-scale, lt-mul-sharp}
+use Rattle.math_rows.proofs.Turn.{lt-scale}
 use Rattle.math_turns.specs.Points.{Pt, X, Y, side, D, Turned, Moved}
 
 module _ {p : ℕ} (ρ : Reading p) where
@@ -127,7 +127,7 @@ module _ {p : ℕ} (ρ : Reading p) where
     -- ---- the end of clear_y: degrees from the determinant
     module _ {m n : Pt (L .El)} (s u : ℕ) (det : Has 𝓥 (D ρ ρᵣ ω m n) (N._+_ s u)) (xn : Lt 𝓥 (X ρ ρᵣ ω n) (suc s)) (ym : Lt 𝓥 (Y ρ ρᵣ ω m) u) where
       small : Lt 𝓥 (X ρ ρᵣ ω n * Y ρ ρᵣ ω m) (N._+_ s u)
-      small = lt-mul-sharp ρ xn ym
+      small = lt-mul-sharp 𝓥 xn ym
 
       no-other : Lt 𝓥 (X ρ ρᵣ ω m * Y ρ ρᵣ ω n) (N._+_ s u) → ⊥
       no-other h = let z : N._+_ s u < N._+_ s u = above 𝓥 det (lt-add 𝓥 h (lt-neg 𝓥 small)) in absurd (omega arith)
@@ -137,8 +137,8 @@ module _ {p : ℕ} (ρ : Reading p) where
       full a b ha hb l = go (decLe (N._+_ (N._+_ s u) 2) (N._+_ a b))
         where
           low : (a : ℕ) → Lt 𝓥 (X ρ ρᵣ ω m) a → N._+_ a b < N._+_ (N._+_ s u) 2 → Lt 𝓥 (X ρ ρᵣ ω m * Y ρ ρᵣ ω n) (N._+_ s u)
-          low zero h z = lt-eq 𝓥 (lt-up 𝓥 (N._+_ s u) (lt-mul-sharp ρ (lt-up 𝓥 (suc s) hb l) h) (omega arith)) (L .laws .mul-comm (Y ρ ρᵣ ω n) (X ρ ρᵣ ω m))
-          low (suc a) h z = lt-up 𝓥 (N._+_ s u) (lt-mul-sharp ρ h hb) (omega arith)
+          low zero h z = lt-eq 𝓥 (lt-up 𝓥 (N._+_ s u) (lt-mul-sharp 𝓥 (lt-up 𝓥 (suc s) hb l) h) (omega arith)) (L .laws .mul-comm (Y ρ ρᵣ ω n) (X ρ ρᵣ ω m))
+          low (suc a) h z = lt-up 𝓥 (N._+_ s u) (lt-mul-sharp 𝓥 h hb) (omega arith)
 
           go : Dec (N._+_ (N._+_ s u) 2 ≤ N._+_ a b) → N._+_ (N._+_ s u) 2 ≤ N._+_ a b
           go (yes z) = z
