@@ -17,7 +17,8 @@ use Rattle.math_rows.specs.Reading.{Reading}
 use Rattle.math_rows.specs.Made.{reading}
 use Rattle.math_rows.specs.Row.{Row, row}
 use Rattle.math_ideals.specs.Basis.{Good}
-use Rattle.math_ideals.proofs.Tests.{Tests, good-of, tests-of}
+use Rattle.math_ideals.specs.Tests.{Tests}
+use Rattle.math_ideals.proofs.Tests.{good-of, tests-of}
 use Rattle.field_open.specs.Refusal.{Accepted}
 use Rattle.basis_record.specs.Record.{setting, basisOf, IsRecord}
 use Rattle.field_series.specs.Answer.{Prefix}
@@ -69,9 +70,9 @@ module _ {p : ℕ} {G H : List ℕ} (A : Accepted p G H) (c : Cubic) (h : Prefix
       record {
         modulus = modulus A c h;
         prime = A .prime;
-        hg = row-short ρ 13 (g-row c h A) (d.lt-eq (ρ .𝓥) (d.has-up (ρ .𝓥) 13 (setting A .G-deg) (omega (arith, lg))) (sym (holds-of c h A .g-is)));
-        hh = row-short ρ 13 (h-row c h A) (d.lt-eq (ρ .𝓥) (d.has-up (ρ .𝓥) 13 (setting A .H-deg) (omega (arith, lh))) (sym (holds-of c h A .h-is)));
-        hgh = row-short ρ 17 (gh-row c h A) (d.lt-eq (ρ .𝓥) (d.has-up (ρ .𝓥) 17 (d.has-mul (ρ .𝓥) (setting A .G-deg) (setting A .H-deg)) (omega arith)) (sym (holds-of c h A .gh-is)));
+        hg = row-short ρ 13 (g-row c h A) (d.lt-eq (ρ .𝓥) (d.has-up (ρ .𝓥) 13 (setting A .roots .G-deg) (omega (arith, lg))) (sym (holds-of c h A .g-is)));
+        hh = row-short ρ 13 (h-row c h A) (d.lt-eq (ρ .𝓥) (d.has-up (ρ .𝓥) 13 (setting A .roots .H-deg) (omega (arith, lh))) (sym (holds-of c h A .h-is)));
+        hgh = row-short ρ 17 (gh-row c h A) (d.lt-eq (ρ .𝓥) (d.has-up (ρ .𝓥) 17 (d.has-mul (ρ .𝓥) (setting A .roots .G-deg) (setting A .roots .H-deg)) (omega arith)) (sym (holds-of c h A .gh-is)));
       }
 
   pub fine-of : Fine (frameOf c)
@@ -83,65 +84,27 @@ module _ {p : ℕ} {G H : List ℕ} (A : Accepted p G H) (c : Cubic) (h : Prefix
     shaped-at {o} s = subst (λ F. Shaped F b o) (sym (frame-is A c h)) s (meaning A (c .r) (c .w) (r-reads A c h) (w-reads A c h))
 
     numbers-in : Tests (setting A) (rowsOf A b) → Numbers (meaning A (c .r) (c .w) (r-reads A c h) (w-reads A c h)) b
-    numbers-in t = record {
-      u = t .u;
-      x = t .x;
-      y = t .y;
-      U-lead = t .U-lead;
-      X-M = t .X-M;
-      Y-N = t .Y-N;
-      u<x = t .u<x;
-      u≤y = t .u≤y;
-      X-N = t .X-N;
-      Y-M = t .Y-M;
-      Z-M = t .Z-M;
-      Z-N = t .Z-N;
-      N-large = t .N-large;
-    }
+    numbers-in t = t .sizes
 
     closed-in : Tests (setting A) (rowsOf A b) → Closed A b
-    closed-in t = record { rank = t .rank; r-one = t .r-one; w-one = t .w-one; r-M = t .r-M; w-M = t .w-M; r-N = t .r-N; w-N = t .w-N }
+    closed-in t = t .closed
 
     -- Good, from the answers
     good-from : Shaped (frameOf c) b true → Alone p b true → Closed A b → Good (setting A) (rowsOf A b)
-    good-from s a k =
-        let n = shaped-at s .yes! refl in
-        good-of (setting A) (rowsOf A b) (record {
-          u = n .u;
-          x = n .x;
-          y = n .y;
-          U-lead = n .U-lead;
-          X-M = n .X-M;
-          Y-N = n .Y-N;
-          u<x = n .u<x;
-          u≤y = n .u≤y;
-          X-N = n .X-N;
-          Y-M = n .Y-M;
-          Z-M = n .Z-M;
-          Z-N = n .Z-N;
-          N-large = n .N-large;
-          rank = k .rank;
-          seven = a G H A .yes! refl;
-          r-one = k .r-one;
-          w-one = k .w-one;
-          r-M = k .r-M;
-          w-M = k .w-M;
-          r-N = k .r-N;
-          w-N = k .w-N;
-        })
+    good-from s a k = good-of (setting A) (rowsOf A b) (record { sizes = shaped-at s .yes! refl; seven = a G H A .yes! refl; closed = k })
 
     -- the rows of a good basis end where `narrow` asks
     narrow-of : AreRows p b → Good (setting A) (rowsOf A b) → Narrow (c .field .dw + 1) (c .field .dr + 1) (b .m1) (b .m2) (b .n1) (b .n2)
     narrow-of rows good =
         let ρ = reading p (A .prime) in
         let z : Sizes A b = sizes A b good in
-        let er : setting A .dr ≡ c .field .dr = dr-is A c h in
-        let ew : setting A .dw ≡ c .field .dw = dw-is A c h in
+        let er : setting A .roots .dr ≡ c .field .dr = dr-is A c h in
+        let ew : setting A .roots .dw ≡ c .field .dw = dw-is A c h in
         record {
-          h1 = λ i l. row-short ρ (suc (setting A .dw)) (rows .m1) (z .m1) .above i (omega arith);
-          h2 = λ i l. row-short ρ (suc (setting A .dr)) (rows .m2) (z .m2) .above i (omega arith);
-          k1 = λ i l. row-short ρ (setting A .dw) (rows .n1) (z .n1) .above i (omega arith);
-          k2 = λ i l. row-short ρ (setting A .dr) (rows .n2) (z .n2) .above i (omega arith);
+          h1 = λ i l. row-short ρ (suc (setting A .roots .dw)) (rows .m1) (z .m1) .above i (omega arith);
+          h2 = λ i l. row-short ρ (suc (setting A .roots .dr)) (rows .m2) (z .m2) .above i (omega arith);
+          k1 = λ i l. row-short ρ (setting A .roots .dw) (rows .n1) (z .n1) .above i (omega arith);
+          k2 = λ i l. row-short ρ (setting A .roots .dr) (rows .n2) (z .n2) .above i (omega arith);
         }
 
 pub are-rows : {p : ℕ} {b : Seven} → Seventeen p b → AreRows p b

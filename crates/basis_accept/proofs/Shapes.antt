@@ -91,18 +91,20 @@ module _ {F : Frame} (μ : Meaning F) {top : ℕ} {b : Seven} {mx my nx ny zm zn
       let o₅ : s .lu < s .lx = o .X-M in
       let o₆ : s .ln < s .lx = o .X-N in
       record {
-        u = s .lu - 1;
-        x = s .lx - 1;
-        y = s .ly - 1;
-        U-lead = d.lead-eq 𝓥 (size-lead-at ρ (s .lu) (s .su) (omega arith)) refl (ap cast (s .units .U-one) ∙ ρ .cast-one);
-        X-M = d.lead-eq 𝓥 (floor-top ρ (s .lx) (pmx .law μ) (s .sx) (omega arith)) refl (ap cast (s .units .X-two) ∙ cast-two);
-        Y-N = d.lead-eq 𝓥 (floor-top ρ (s .ly) (pny .law μ) (s .sy) (omega arith)) refl (ap cast (s .units .Y-one) ∙ ρ .cast-one);
+        numbers = record {
+          u = s .lu - 1;
+          x = s .lx - 1;
+          y = s .ly - 1;
+          U-lead = d.lead-eq 𝓥 (size-lead-at ρ (s .lu) (s .su) (omega arith)) refl (ap cast (s .units .U-one) ∙ ρ .cast-one);
+          X-M = d.lead-eq 𝓥 (floor-top ρ (s .lx) (pmx .law μ) (s .sx) (omega arith)) refl (ap cast (s .units .X-two) ∙ cast-two);
+          Y-N = d.lead-eq 𝓥 (floor-top ρ (s .ly) (pny .law μ) (s .sy) (omega arith)) refl (ap cast (s .units .Y-one) ∙ ρ .cast-one);
+          u≤y = omega arith;
+          X-N = d.lt-up 𝓥 (s .lx - 1) (floor-lt ρ (pnx .law μ) (s .sn)) (omega arith);
+          Y-M = d.lt-up 𝓥 (s .lu - 1) (floor-lt ρ (pmy .law μ) (s .sm)) (omega arith);
+          Z-M = d.lt-up 𝓥 (s .lu - 1) (floor-lt ρ fM (s .sa)) (omega arith);
+          Z-N = d.lt-up 𝓥 (s .lu - 1) (floor-lt ρ fN (s .sb)) (omega arith);
+        };
         u<x = omega arith;
-        u≤y = omega arith;
-        X-N = d.lt-up 𝓥 (s .lx - 1) (floor-lt ρ (pnx .law μ) (s .sn)) (omega arith);
-        Y-M = d.lt-up 𝓥 (s .lu - 1) (floor-lt ρ (pmy .law μ) (s .sm)) (omega arith);
-        Z-M = d.lt-up 𝓥 (s .lu - 1) (floor-lt ρ fM (s .sa)) (omega arith);
-        Z-N = d.lt-up 𝓥 (s .lu - 1) (floor-lt ρ fN (s .sb)) (omega arith);
         N-large = elim (o .N-large) [
           | inl h ↦ inl (omega (arith, h))
           | inr h ↦ inr (s .ln - 1, omega (arith, h), floor-has ρ (pnx .short .is-row) (pnx .law μ) (subst (Size nx) (let e : s .ln ≡ suc (s .ln - 1) = omega (arith, h) in e) (s .sn)))
@@ -135,15 +137,15 @@ module _ {F : Frame} (μ : Meaning F) {top : ℕ} {b : Seven} {mx my nx ny zm zn
       let (lm, sm) = sized my in
       let (a₁, sa) = sized zm in
       let (b₁, sb) = sized zn in
-      let (eu, cu) = at-lead (rowμ μ (b .u)) (b .u) lu (n .u) 1 (i .rows .u) (floor-self (b .u)) su (d.lead-eq 𝓥 (n .U-lead) refl (sym (ρ .cast-one))) one≢ (omega arith) in
-      let (ex, cx) = at-lead (X μ (pt μ (b .m1) (b .m2))) mx lx (n .x) 2 (pmx .short .is-row) (pmx .law μ) sx (d.lead-eq 𝓥 (n .X-M) refl (sym cast-two)) two≢ t in
-      let (ey, cy) = at-lead (Y μ (pt μ (b .n1) (b .n2))) ny ly (n .y) 1 (pny .short .is-row) (pny .law μ) sy (d.lead-eq 𝓥 (n .Y-N) refl (sym (ρ .cast-one))) one≢ (omega arith) in
-      let ux : n .u < n .x = n .u<x in
-      let uy : n .u ≤ n .y = n .u≤y in
-      let hn : ln ≤ n .x = floor-le ρ (n .x) (pnx .short .is-row) (pnx .law μ) sn (n .X-N) in
-      let hm : lm ≤ n .u = floor-le ρ (n .u) (pmy .short .is-row) (pmy .law μ) sm (n .Y-M) in
-      let ha : a₁ ≤ n .u = floor-le ρ (n .u) (cm .is-row) fM sa (n .Z-M) in
-      let hb : b₁ ≤ n .u = floor-le ρ (n .u) (cn .is-row) fN sb (n .Z-N) in
+      let (eu, cu) = at-lead (rowμ μ (b .u)) (b .u) lu (n .numbers .u) 1 (i .rows .u) (floor-self (b .u)) su (d.lead-eq 𝓥 (n .numbers .U-lead) refl (sym (ρ .cast-one))) one≢ (omega arith) in
+      let (ex, cx) = at-lead (X μ (pt μ (b .m1) (b .m2))) mx lx (n .numbers .x) 2 (pmx .short .is-row) (pmx .law μ) sx (d.lead-eq 𝓥 (n .numbers .X-M) refl (sym cast-two)) two≢ t in
+      let (ey, cy) = at-lead (Y μ (pt μ (b .n1) (b .n2))) ny ly (n .numbers .y) 1 (pny .short .is-row) (pny .law μ) sy (d.lead-eq 𝓥 (n .numbers .Y-N) refl (sym (ρ .cast-one))) one≢ (omega arith) in
+      let ux : n .numbers .u < n .numbers .x = n .u<x in
+      let uy : n .numbers .u ≤ n .numbers .y = n .numbers .u≤y in
+      let hn : ln ≤ n .numbers .x = floor-le ρ (n .numbers .x) (pnx .short .is-row) (pnx .law μ) sn (n .numbers .X-N) in
+      let hm : lm ≤ n .numbers .u = floor-le ρ (n .numbers .u) (pmy .short .is-row) (pmy .law μ) sm (n .numbers .Y-M) in
+      let ha : a₁ ≤ n .numbers .u = floor-le ρ (n .numbers .u) (cm .is-row) fM sa (n .numbers .Z-M) in
+      let hb : b₁ ≤ n .numbers .u = floor-le ρ (n .numbers .u) (cn .is-row) fN sb (n .numbers .Z-N) in
       record {
         lu = lu;
         lx = lx;
@@ -172,9 +174,9 @@ module _ {F : Frame} (μ : Meaning F) {top : ℕ} {b : Seven} {mx my nx ny zm zn
           ];
         };
         units = record {
-          U-one = ap (λ k. getD (b .u) (k - 1) 0) eu ∙ ap (λ k. getD (b .u) k 0) (less (n .u)) ∙ cu;
-          X-two = ap (λ k. getD mx (k - 1) 0) ex ∙ ap (λ k. getD mx k 0) (less (n .x)) ∙ cx;
-          Y-one = ap (λ k. getD ny (k - 1) 0) ey ∙ ap (λ k. getD ny k 0) (less (n .y)) ∙ cy;
+          U-one = ap (λ k. getD (b .u) (k - 1) 0) eu ∙ ap (λ k. getD (b .u) k 0) (less (n .numbers .u)) ∙ cu;
+          X-two = ap (λ k. getD mx (k - 1) 0) ex ∙ ap (λ k. getD mx k 0) (less (n .numbers .x)) ∙ cx;
+          Y-one = ap (λ k. getD ny (k - 1) 0) ey ∙ ap (λ k. getD ny k 0) (less (n .numbers .y)) ∙ cy;
         };
       }
     where

@@ -42,10 +42,10 @@ module _ {p : ℕ} {G H : List ℕ} (A : Accepted p G H) (c : Cubic) (h : Prefix
   holds : Holds p G H (A .degG) (A .degH) (c .field)
   holds = h .field (A .degG) (A .degH) (A .listG) (A .listH)
 
-  pub r-reads : Reads (reading p (A .prime)) (c .r) (setting A .dr) (setting A .r)
+  pub r-reads : Reads (reading p (A .prime)) (c .r) (setting A .roots .dr) (setting A .roots .r)
   r-reads = series-of-reads A (A .prime) (h .series) (h .size) .0
 
-  pub w-reads : Reads (reading p (A .prime)) (c .w) (setting A .dw) (setting A .w)
+  pub w-reads : Reads (reading p (A .prime)) (c .w) (setting A .roots .dw) (setting A .roots .w)
   w-reads = series-of-reads A (A .prime) (h .series) (h .size) .1
 
   pub r-row : Row p (c .r)
@@ -54,12 +54,12 @@ module _ {p : ℕ} {G H : List ℕ} (A : Accepted p G H) (c : Cubic) (h : Prefix
   pub w-row : Row p (c .w)
   w-row = record { size = h .series .even ∙ h .size; each = below-all (c .w) (length (c .r)) (let l : 5 ≤ p = A .low in omega arith) (h .series .even) (h .series .w-below) }
 
-  pub dr-is : setting A .dr ≡ c .field .dr
+  pub dr-is : setting A .roots .dr ≡ c .field .dr
   dr-is =
       let e : 3 * c .field .dr ≡ A .degG + 2 * A .degH = holds .degR in
       omega arith
 
-  pub dw-is : setting A .dw ≡ c .field .dw
+  pub dw-is : setting A .roots .dw ≡ c .field .dw
   dw-is =
       let e : 3 * c .field .dw ≡ 2 * A .degG + A .degH = holds .degW in
       omega arith

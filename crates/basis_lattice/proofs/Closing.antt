@@ -22,10 +22,9 @@ use Rattle.math_rows.proofs.Rows.{size-le}
 use Rattle.math_rows.proofs.Floors.{zero-row}
 use Rattle.poly_rows.proofs.Leaf.{size-one, zeros-row, zeros-size}
 use Rattle.math_ideals.specs.Setting.{P}
-use Rattle.math_ideals.specs.Ideal.{det}
-use Rattle.math_ideals.proofs.Check.{Coords}
+use Rattle.math_ideals.specs.Ideal.{det, Coords}
 use Rattle.math_ideals.proofs.Sizes.{O-path}
-use Rattle.math_ideals.proofs.Tests.{times-r, times-w}
+use Rattle.math_ideals.specs.Element.{times-r, times-w}
 use Rattle.field_open.specs.Refusal.{Accepted}
 use Rattle.basis_record.specs.Record.{setting, polyOf}
 use Rattle.basis_reduce.specs.Frame.{Short}

@@ -13,9 +13,8 @@ use Rattle.math_valued.proofs.Compare.{lt-mul-sharp}
 use Rattle.math_rows.specs.Made.{reading}
 use Rattle.math_rows.specs.Row.{Row, row}
 use Rattle.poly_rows.specs.Leaf.{MulIn, Product}
-use Rattle.math_ideals.specs.Element.{O}
-use Rattle.math_ideals.proofs.Check.{Coords}
-use Rattle.math_ideals.proofs.Tests.{times-r, times-w}
+use Rattle.math_ideals.specs.Element.{O, times-r, times-w}
+use Rattle.math_ideals.specs.Ideal.{Coords}
 use Rattle.field_open.specs.Refusal.{Accepted}
 use Rattle.basis_record.specs.Record.{setting}
 use Rattle.basis_reduce.specs.Frame.{Short}

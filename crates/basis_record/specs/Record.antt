@@ -1,7 +1,7 @@
 -- The basis record (document 01: "A basis is stored as M0, M1, M2, N0, N1, N2, U: seven rows of 17 coefficients each, 119 numbers in all,
 -- zeros above the degree").
 --   part i B           the i-th of the seven rows, i from 0 to 6
---   setting A          the field p, G, H with its two series, as the theory of ideals takes it
+--   setting A          the field p, G, H with its two series, as the theory of ideals takes it (specs/Setting.antt)
 --   polyOf A l         the polynomial of a list
 --   basisOf A B        the seven polynomials
 --   IsRecord p G H B   these 119 numbers are the scaled reduced basis of a reduced ideal of the field p, G, H: what refusal 9 is about
@@ -13,22 +13,19 @@ use lib.ListN.{length, getD}
 use Rattle.math_rows.specs.Row.{tab}
 use Rattle.poly_rows.specs.Factors.{polynomial}
 use Rattle.field_open.specs.Refusal.{Accepted}
-use Rattle.math_ideals.specs.Setting.{Setting, P}
+use Rattle.math_ideals.specs.Setting.{P}
 use Rattle.math_ideals.specs.Ideal.{Basis}
 use Rattle.math_ideals.specs.Basis.{Good}
-use Rattle.field_roots.proofs.Root as root
+pub use Rattle.basis_record.specs.Setting.{setting}
 
 abbrev pub part : ℕ → List ℕ → List ℕ
 part i B = tab 17 (λ j. getD B (17 * i + j) 0)
 
 module _ {p : ℕ} {G H : List ℕ} (A : Accepted p G H) where
-  abbrev pub setting : Setting
-  setting = root.setting A (A .prime)
-
-  abbrev pub polyOf : List ℕ → P setting
+  abbrev pub polyOf : List ℕ → P (setting A)
   polyOf l = polynomial p (A .prime) l
 
-  abbrev pub basisOf : List ℕ → Basis setting
+  abbrev pub basisOf : List ℕ → Basis (setting A)
   basisOf B = record {
     U = polyOf (part 6 B);
     M = record { a = polyOf (part 0 B); b = polyOf (part 1 B); c = polyOf (part 2 B) };

@@ -14,10 +14,10 @@ use Rattle.math_valued.specs.Val.{Valued}
 use Rattle.math_valued.specs.Degree.{Lt}
 use Rattle.math_valued.proofs.Degree.{lt-eq, above, has-mul, has-move}
 use Rattle.math_rows.specs.Reading.{Reading}
-use Rattle.math_rows.specs.Row.{Row, Size, shiftAt, tpow, row}
+use Rattle.math_rows.specs.Row.{Row, Size, shiftAt, tpow, row, comb}
 use Rattle.math_rows.proofs.Tab.{shift-low, shift-high}
 use Rattle.math_rows.proofs.Rows.{tpow-lead, size-has}
-use Rattle.math_rows.proofs.Turn.{comb, comb-drop}
+use Rattle.math_rows.proofs.Turn.{comb-drop}
 use Rattle.math_rows.proofs.Floors.{sized}
 use Rattle.math_turns.specs.Points.{Pt, Turned}
 use Rattle.math_turns.proofs.Turn.{turned-side, b-lt, c-lt}

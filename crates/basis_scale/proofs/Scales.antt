@@ -1,7 +1,7 @@
 -- One inversion for three: with i = 1/(abc), j = i c is 1/(ab), so j b = 1/a, 2 j a = 2/b and i ab = 1/c.
-use mathlib.Core.Path.{_≡_, refl, sym, ap, ap₂, _∙_}
+use mathlib.Core.Path.{_≡_, sym, ap, ap₂, _∙_}
 use mathlib.Core.List.{List, [], _∷_}
-use Prim.Native.Nat.{ℕ, zero, suc, _<_, _%_}
+use Prim.Native.Nat.{ℕ, _<_, _%_}
 use Prim.Native.Nat as N
 use native.Mathlib.Nat.{mod-lt}
 use native.Mathlib.Omega.{arith}
@@ -9,30 +9,13 @@ use Rattle.math_ring.specs.Ring.{Ops, CRing}
 use Rattle.math_ring.proofs.Solve.{var, one, _:+_, _:*_, solve}
 use Rattle.math_fp.specs.Fp.{Prime}
 use Rattle.math_valued.specs.Val.{Valued}
-use Rattle.math_valued.proofs.Degree.{k-domain}
 use Rattle.num_residue.specs.Residue.{Modulus, Nonzero, Inverse}
-use Rattle.math_rows.specs.Reading.{Reading}
 use Rattle.math_rows.specs.Made.{reading}
+use Rattle.math_rows.proofs.Numbers.{cast-product, product-some}
 use Rattle.basis_reduce.proofs.Leaves.{less-square}
 use Rattle.basis_scale.specs.Scales.{ScalesIn, Scaling}
 use Rattle.basis_scale.proofs.Two.{cast-two}
 use Rattle.basis_scale.specs.declared.Factors.{Factors}
-
-module _ {p : ℕ} (ρ : Reading p) where
-  -- the class of a product
-  pub cast-product : (x y : ℕ) → ρ .cast (N._*_ x y % p) ≡ ρ .𝓥 .K .ops .mul (ρ .cast x) (ρ .cast y)
-  cast-product x y = ρ .cast-mod (N._*_ x y) ∙ ρ .cast-mul x y
-
-  -- a product of numbers that are not 0 mod p is not
-  pub product-pos : (x y : ℕ) → 0 < x → x < p → 0 < y → y < p → 0 < N._*_ x y % p
-  product-pos x y hx lx hy ly = go (N._*_ x y % p) refl
-    where
-      not-zero : (a : ℕ) → 0 < a → a < p → ρ .cast a ≡ ρ .𝓥 .K .ops .𝟎 → ⊥
-      not-zero a h l e = let z : a ≡ 0 = ρ .cast-small a l e in absurd (omega arith)
-
-      go : (v : ℕ) → N._*_ x y % p ≡ v → 0 < v
-      go zero e = absurd (k-domain (ρ .𝓥) (ρ .cast x) (ρ .cast y) (not-zero x hx lx) (not-zero y hy ly) (sym (cast-product x y) ∙ ap (ρ .cast) e ∙ ρ .cast-zero))
-      go (suc v) e = omega arith
 
 module _ {p a b c : ℕ} (g : ScalesIn p a b c) where
   pos : 0 < p
@@ -42,7 +25,7 @@ module _ {p a b c : ℕ} (g : ScalesIn p a b c) where
   scales-in = record {
     modulus = g .modulus;
     prime = g .prime;
-    pos = let ρ = reading p (g .prime) in product-pos ρ (N._*_ a b % p) c (product-pos ρ a b (g .a-pos) (g .a-low) (g .b-pos) (g .b-low)) (mod-lt (N._*_ a b) pos) (g .c-pos) (g .c-low);
+    pos = let ρ = reading p (g .prime) in product-some ρ (N._*_ a b % p) c (product-some ρ a b (g .a-pos) (g .a-low) (g .b-pos) (g .b-low)) (mod-lt (N._*_ a b) pos) (g .c-pos) (g .c-low);
     below = mod-lt (N._*_ (N._*_ a b % p) c) pos;
   }
 

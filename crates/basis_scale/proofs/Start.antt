@@ -15,27 +15,22 @@ use Rattle.math_turns.specs.Points.{Moved}
 use Rattle.field_open.specs.Refusal.{Accepted}
 use Rattle.math_ideals.specs.Setting.{P}
 use Rattle.math_ideals.specs.Next.{Start}
-use Rattle.math_chain.proofs.Changed.{Pair, Changed}
+use Rattle.math_chain.proofs.Changed.{Changed, changed-of}
 use Rattle.math_chain.proofs.Frame.{pair}
-use Rattle.math_chain.proofs.Moved.{changed-of}
-use Rattle.math_chain.proofs.Correct.{Ends, order-correct}
+use Rattle.math_chain.proofs.Correct.{order-correct}
 use Rattle.basis_record.specs.Record.{part, setting, polyOf, basisOf}
 use Rattle.basis_reduce.specs.Frame.{Frame, frame, Meaning, pt}
-use Rattle.basis_reduce.specs.Clear as reduced
 use Rattle.basis_scale.specs.Based.{BasedAt, Based, Mpt, Npt, at}
 use Rattle.basis_scale.specs.First.{unit, nothing, units}
 use Rattle.basis_scale.proofs.First.{unit-is, nothing-is}
 
-module _ {p : ℕ} {G H : List ℕ} (A : Accepted p G H) (r w : List ℕ) (hr : Reads (reading p (A .prime)) r (setting A .dr) (setting A .r)) (hw : Reads (reading p (A .prime)) w (setting A .dw) (setting A .w)) where
+module _ {p : ℕ} {G H : List ℕ} (A : Accepted p G H) (r w : List ℕ) (hr : Reads (reading p (A .prime)) r (setting A .roots .dr) (setting A .roots .r)) (hw : Reads (reading p (A .prime)) w (setting A .roots .dw) (setting A .roots .w)) where
   abbrev pub fieldFrame : Frame
-  fieldFrame = frame p r w (setting A .dr) (setting A .dw)
+  fieldFrame = frame p r w (setting A .roots .dr) (setting A .roots .dw)
 
   -- the lists mean the series of the field
   abbrev pub meaning : Meaning fieldFrame
-  meaning = record { prime = A .prime; r = setting A .r; w = setting A .w; r-deg = setting A .r-deg; w-deg = setting A .w-deg; r-reads = hr; w-reads = hw; two = setting A .two≢ }
-
-  pub based-ends : {q : reduced.Pair} {d x1 y1 B : List ℕ} → BasedAt meaning q d x1 y1 B → Ends (setting A) (basisOf A B)
-  based-ends b = record { u = b .u; x = b .x; y = b .y; U-lead = b .U-lead; X-M = b .X-M; Y-N = b .Y-N; u≤y = b .u≤y; X-N = b .X-N; Y-M = b .Y-M; Z-M = b .Z-M; Z-N = b .Z-N }
+  meaning = record { prime = A .prime; r = setting A .roots .r; w = setting A .roots .w; r-deg = setting A .roots .r-deg; w-deg = setting A .roots .w-deg; r-reads = hr; w-reads = hw; two = setting A .roots .two≢ }
 
   module _ (B : List ℕ) (h : Based fieldFrame units unit nothing nothing B) where
     b : BasedAt meaning units unit nothing nothing B
@@ -49,8 +44,8 @@ module _ {p : ℕ} {G H : List ℕ} (A : Accepted p G H) (r w : List ℕ) (hr : 
     ν-one =
         let v = reading p (A .prime) .𝓥 in
         let hν : v .Lead (at meaning 6 B) 0 0 (b .ν) = lead-eq v (v .const-lead (b .ν)) (sym U-const) refl in
-        let e : b .u ≡ 0 = same v (v .K .ops .𝟏, v .one≢zero, b .U-lead) (b .ν, b .ν-unit, hν) in
-        v .lead-unique hν (v .lead-move 0 0 (b .U-lead) (omega arith))
+        let e : b .numbers .u ≡ 0 = same v (v .K .ops .𝟏, v .one≢zero, b .numbers .U-lead) (b .ν, b .ν-unit, hν) in
+        v .lead-unique hν (v .lead-move 0 0 (b .numbers .U-lead) (omega arith))
 
     U-one : polyOf A (part 6 B) ≡ polys (reading p (A .prime) .𝓥) .ops .𝟏
     U-one = P-path (reading p (A .prime) .𝓥) (U-const ∙ ap (reading p (A .prime) .𝓥 .const) ν-one ∙ reading p (A .prime) .const-one)
@@ -63,4 +58,4 @@ module _ {p : ℕ} {G H : List ℕ} (A : Accepted p G H) (r w : List ℕ) (hr : 
         (subst (λ z. Moved ρ z (pt meaning nothing unit) (Mpt meaning B) (Npt meaning B)) (ap₂ (λ x y. record { b = x; c = y }) (unit-is ρ) (nothing-is ρ)) (b .moved)))
 
     pub order-start : Start (setting A) (basisOf A B)
-    order-start = order-correct (setting A) (basisOf A B) U-one changed (based-ends b)
+    order-start = order-correct (setting A) (basisOf A B) U-one changed (b .numbers)

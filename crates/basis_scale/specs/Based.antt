@@ -3,7 +3,7 @@
 --                             of the lattice over b r + c w has the first coordinate −(b x1 + c y1) modulo d
 --   BasisBy, BasisOn          the same for code: with the lengths, what a quick remainder needs, and rows for the polynomial parts
 --   M, N, U of a record B     its rows, as series
---   BasedAt                   the inequalities of a reduced basis, in numbers; the scaling; M and N span what q does; row 0 is as above
+--   BasedAt                   a reduced basis in numbers (crate math_ideals), scaled; M and N span what q does; row 0 is as above
 --   Based                     the same at each meaning of the series
 --   FinishIn, Finished        from a pair o that the reduction made: Based for every q that it is the reduction of
 use mathlib.Core.Path.{_≡_}
@@ -12,13 +12,16 @@ use mathlib.Core.List.{List}
 use Prim.Native.Nat.{ℕ, suc, _%_, _<_, _≤_}
 use lib.ListN.{length, getD}
 use Rattle.math_ring.specs.Ring.{Ops, CRing}
+use Rattle.math_triple.specs.Tri.{Tri}
+use Rattle.math_triple.specs.Sizes.{sizeZ}
 use Rattle.math_valued.specs.Val.{Valued}
 use Rattle.math_rows.specs.Reading.{Reading}
 use Rattle.math_rows.specs.Row.{Size}
+use Rattle.math_ideals.specs.Tests.{InNumbers}
 use Rattle.math_turns.specs.Points.{Pt, Moved}
 use Rattle.poly_rows.specs.Terms.{Ready}
 use Rattle.basis_record.specs.Record.{part}
-use Rattle.basis_reduce.specs.Frame.{Frame, Meaning, Short, rd, Ser, rowμ, pt, X, Y, Ltμ}
+use Rattle.basis_reduce.specs.Frame.{Frame, Meaning, Short, rd, Ser, rowμ, pt}
 use Rattle.basis_reduce.specs.Clear.{Pair, Ends, ClearIn, Reduced}
 use Rattle.basis_scale.specs.Place.{off}
 
@@ -50,7 +53,7 @@ pub record BasisOn (F : Frame) (mul lim : ℕ) (q : Pair) (top : ℕ) (d : List 
 module _ {F : Frame} (μ : Meaning F) where
   -- 2a − b r − c w
   abbrev pub Z : Ser μ → Ser μ → Ser μ → Ser μ
-  Z a b c = let o = rd μ .𝓥 .L .ops in o .add (o .add (o .mul (o .add (o .𝟏) (o .𝟏)) a) (o .neg (o .mul b (μ .r)))) (o .neg (o .mul c (μ .w)))
+  Z = sizeZ (rd μ .𝓥 .L .ops) (μ .r) (μ .w)
 
   abbrev pub at : ℕ → List ℕ → Ser μ
   at i B = rowμ μ (part i B)
@@ -62,19 +65,15 @@ module _ {F : Frame} (μ : Meaning F) where
   abbrev pub Npt : List ℕ → Pt (Ser μ)
   Npt B = record { b = at 4 B; c = at 5 B }
 
+  -- all of M and of N
+  abbrev pub Mtri : List ℕ → Tri (Ser μ)
+  Mtri B = record { a = at 0 B; b = at 1 B; c = at 2 B }
+
+  abbrev pub Ntri : List ℕ → Tri (Ser μ)
+  Ntri B = record { a = at 3 B; b = at 4 B; c = at 5 B }
+
 pub record BasedAt {F : Frame} (μ : Meaning F) (q : Pair) (d x1 y1 B : List ℕ) : Type 0 where
-  -- u = deg U, x = deg X(M), y = deg Y(N)
-  pub u : ℕ
-  pub x : ℕ
-  pub y : ℕ
-  pub U-lead : rd μ .𝓥 .Lead (at μ 6 B) u 0 (rd μ .𝓥 .K .ops .𝟏)
-  pub X-M : rd μ .𝓥 .Lead (X μ (Mpt μ B)) x 0 (rd μ .𝓥 .K .ops .add (rd μ .𝓥 .K .ops .𝟏) (rd μ .𝓥 .K .ops .𝟏))
-  pub Y-N : rd μ .𝓥 .Lead (Y μ (Npt μ B)) y 0 (rd μ .𝓥 .K .ops .𝟏)
-  pub u≤y : u ≤ y
-  pub X-N : Ltμ μ (X μ (Npt μ B)) x
-  pub Y-M : Ltμ μ (Y μ (Mpt μ B)) u
-  pub Z-M : Ltμ μ (Z μ (at μ 0 B) (at μ 1 B) (at μ 2 B)) u
-  pub Z-N : Ltμ μ (Z μ (at μ 3 B) (at μ 4 B) (at μ 5 B)) u
+  pub numbers : InNumbers (rd μ .𝓥) (μ .r) (μ .w) (at μ 6 B) (Mtri μ B) (Ntri μ B)
   -- row 0
   pub kM : Ser μ
   pub kN : Ser μ

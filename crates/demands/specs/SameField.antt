@@ -17,7 +17,7 @@ use Rattle.field_open.specs.Refusal.{Accepted}
 use Rattle.pair_agree.specs.OneField.{OneField, Coefficients}
 use Rattle.pair_agree.specs.declared.Compared.{Compared}
 use Rattle.pair_agree.specs.Answer.{Compares}
-use Rattle.pair_theory.specs.Side.{side}
+use Rattle.basis_record.specs.Setting.{roots}
 use Rattle.pair_theory.specs.Shared.{Shared}
 use Rattle.door_transfer.specs.Transfer.{Transfers}
 use Rattle.pair_answers.specs.Alike.{Alike}
@@ -37,7 +37,7 @@ pub record SameField : Type 0 where
       OneField p G H G′ H′ → (a .refusal ≡ 0) × (a .same ≡ true)
   -- in the theory's words
   pub shared : {p : ℕ} {G H G′ H′ : List ℕ} (A : Accepted p G H) (A′ : Accepted p G′ H′) → OneField p G H G′ H′ →
-      (pr : Prime p) → Shared (reading p pr .𝓥) (side A pr) (side A′ pr)
+      (pr : Prime p) → Shared (reading p pr .𝓥) (roots A pr) (roots A′ pr)
   -- in the answers
   pub alike : Alike
   -- rows carried over and back are the same rows

@@ -101,13 +101,13 @@ module _ {F : Frame} {q : Pair} {d x1 y1 B B′ : List ℕ} (μ : Meaning F) (h 
   infixl 60 _⊕_
   infixl 70 _⊗_
   infix 80 ⊖_
-  d-has : Has 𝓥 (rowμ μ d) (h .u)
-  d-has = has-unscale 𝓥 (h .ν, h .ν-unit, 𝓥 .const-lead (h .ν)) (has-eq 𝓥 (K .ops .𝟏, 𝓥 .one≢zero, h .U-lead) (h .U-eq))
+  d-has : Has 𝓥 (rowμ μ d) (h .numbers .u)
+  d-has = has-unscale 𝓥 (h .ν, h .ν-unit, 𝓥 .const-lead (h .ν)) (has-eq 𝓥 (K .ops .𝟏, 𝓥 .one≢zero, h .numbers .U-lead) (h .U-eq))
 
-  d-has′ : Has 𝓥 (rowμ μ d) (h′ .u)
-  d-has′ = has-unscale 𝓥 (h′ .ν, h′ .ν-unit, 𝓥 .const-lead (h′ .ν)) (has-eq 𝓥 (K .ops .𝟏, 𝓥 .one≢zero, h′ .U-lead) (h′ .U-eq))
+  d-has′ : Has 𝓥 (rowμ μ d) (h′ .numbers .u)
+  d-has′ = has-unscale 𝓥 (h′ .ν, h′ .ν-unit, 𝓥 .const-lead (h′ .ν)) (has-eq 𝓥 (K .ops .𝟏, 𝓥 .one≢zero, h′ .numbers .U-lead) (h′ .U-eq))
 
-  u-same : h .u ≡ h′ .u
+  u-same : h .numbers .u ≡ h′ .numbers .u
   u-same = same 𝓥 d-has d-has′
 
   -- ν c = 1 = ν′ c, where d leads with c
@@ -115,20 +115,21 @@ module _ {F : Frame} {q : Pair} {d x1 y1 B B′ : List ℕ} (μ : Meaning F) (h 
   ν-same =
       k-cancel 𝓥 (d-has .0) (h .ν) (h′ .ν) (d-has .1)
       (K .laws .mul-comm (d-has .0) (h .ν)
-      ∙ 𝓥 .lead-unique (lead-scale (rd μ) (h .ν) (d-has .2)) (lead-eq 𝓥 (h .U-lead) (h .U-eq) refl)
-      ∙ sym (𝓥 .lead-unique (lead-scale (rd μ) (h′ .ν) (d-has .2)) (subst (λ n. 𝓥 .Lead (const (h′ .ν) ⊗ rowμ μ d) n 0 (K .ops .𝟏)) (sym u-same) (lead-eq 𝓥 (h′ .U-lead) (h′ .U-eq) refl)))
+      ∙ 𝓥 .lead-unique (lead-scale (rd μ) (h .ν) (d-has .2)) (lead-eq 𝓥 (h .numbers .U-lead) (h .U-eq) refl)
+      ∙ sym (𝓥 .lead-unique (lead-scale (rd μ) (h′ .ν) (d-has .2)) (subst (λ n. 𝓥 .Lead (const (h′ .ν) ⊗ rowμ μ d) n 0 (K .ops .𝟏)) (sym u-same) (lead-eq 𝓥 (h′ .numbers .U-lead) (h′ .U-eq) refl)))
       ∙ K .laws .mul-comm (h′ .ν) (d-has .0))
 
   U-same : at μ 6 B ≡ at μ 6 B′
   U-same = h .U-eq ∙ ap (λ z. const z ⊗ rowμ μ d) ν-same ∙ sym (h′ .U-eq)
 
-  U-has : Has 𝓥 (at μ 6 B) (h .u)
-  U-has = (K .ops .𝟏, 𝓥 .one≢zero, h .U-lead)
+  U-has : Has 𝓥 (at μ 6 B) (h .numbers .u)
+  U-has = (K .ops .𝟏, 𝓥 .one≢zero, h .numbers .U-lead)
 
   scaled : Scaled (rd μ) (Mpt μ B) (Npt μ B) (Mpt μ B′) (Npt μ B′)
   scaled = pairs-one (rd μ) (μ .r) (μ .w) (moved-then (rd μ) (moved-back (rd μ) (h .moved)) (h′ .moved))
-      (_, μ .two, h .X-M) (h .X-N) (h .Y-M) (K .ops .𝟏, 𝓥 .one≢zero, h .Y-N) (h .u≤y)
-      (_, μ .two, h′ .X-M) (h′ .X-N) (lt-up 𝓥 (h .u) (h′ .Y-M) (let e : h .u ≡ h′ .u = u-same in omega arith)) (K .ops .𝟏, 𝓥 .one≢zero, h′ .Y-N) (let e : h .u ≡ h′ .u = u-same in let l : h′ .u ≤ h′ .y = h′ .u≤y in omega arith)
+      (_, μ .two, h .numbers .X-M) (h .numbers .X-N) (h .numbers .Y-M) (K .ops .𝟏, 𝓥 .one≢zero, h .numbers .Y-N) (h .numbers .u≤y)
+      (_, μ .two, h′ .numbers .X-M) (h′ .numbers .X-N) (lt-up 𝓥 (h .numbers .u) (h′ .numbers .Y-M) (let e : h .numbers .u ≡ h′ .numbers .u = u-same in omega arith))
+      (K .ops .𝟏, 𝓥 .one≢zero, h′ .numbers .Y-N) (let e : h .numbers .u ≡ h′ .numbers .u = u-same in let l : h′ .numbers .u ≤ h′ .numbers .y = h′ .numbers .u≤y in omega arith)
 
   -- a leading coefficient that a constant keeps
   kept : (c v : K .El) (z z′ : L .El) (m n : ℕ) → c ≢ K .ops .𝟎 → v ≢ K .ops .𝟎 → 𝓥 .Lead z m 0 v → 𝓥 .Lead z′ n 0 v → z′ ≡ const c ⊗ z → const c ≡ 𝟏
@@ -138,10 +139,10 @@ module _ {F : Frame} {q : Pair} {d x1 y1 B B′ : List ℕ} (μ : Meaning F) (h 
       ∙ rd μ .const-one
 
   a-one : const (scaled .a) ≡ 𝟏
-  a-one = kept (scaled .a) _ (X μ (Mpt μ B)) (X μ (Mpt μ B′)) (h .x) (h′ .x) (scaled .a-unit) (μ .two) (h .X-M) (h′ .X-M) (times-X (rd μ) (μ .r) (μ .w) (const (scaled .a)) (Mpt μ B) (Mpt μ B′) (scaled .m-b) (scaled .m-c))
+  a-one = kept (scaled .a) _ (X μ (Mpt μ B)) (X μ (Mpt μ B′)) (h .numbers .x) (h′ .numbers .x) (scaled .a-unit) (μ .two) (h .numbers .X-M) (h′ .numbers .X-M) (times-X (rd μ) (μ .r) (μ .w) (const (scaled .a)) (Mpt μ B) (Mpt μ B′) (scaled .m-b) (scaled .m-c))
 
   d-one : const (scaled .d) ≡ 𝟏
-  d-one = kept (scaled .d) _ (Y μ (Npt μ B)) (Y μ (Npt μ B′)) (h .y) (h′ .y) (scaled .d-unit) (𝓥 .one≢zero) (h .Y-N) (h′ .Y-N) (times-Y (rd μ) (μ .r) (μ .w) (const (scaled .d)) (Npt μ B) (Npt μ B′) (scaled .n-b) (scaled .n-c))
+  d-one = kept (scaled .d) _ (Y μ (Npt μ B)) (Y μ (Npt μ B′)) (h .numbers .y) (h′ .numbers .y) (scaled .d-unit) (𝓥 .one≢zero) (h .numbers .Y-N) (h′ .numbers .Y-N) (times-Y (rd μ) (μ .r) (μ .w) (const (scaled .d)) (Npt μ B) (Npt μ B′) (scaled .n-b) (scaled .n-c))
 
   unscale : {z z′ c : L .El} → z′ ≡ c ⊗ z → c ≡ 𝟏 → z ≡ z′
   unscale {z} e f = sym (e ∙ ap (λ t. t ⊗ z) f ∙ rg.one-mul L z)
@@ -164,18 +165,18 @@ module _ {F : Frame} {q : Pair} {d x1 y1 B B′ : List ℕ} (μ : Meaning F) (h 
 
   first : (a b c a′ b′ c′ k k′ : L .El) → 𝓥 .IsPoly k → 𝓥 .IsPoly k′ → b ≡ b′ → c ≡ c′
       → a ⊕ (b ⊗ rowμ μ x1 ⊕ c ⊗ rowμ μ y1) ≡ at μ 6 B ⊗ k → a′ ⊕ (b′ ⊗ rowμ μ x1 ⊕ c′ ⊗ rowμ μ y1) ≡ at μ 6 B′ ⊗ k′
-      → Ltμ μ (Z μ a b c) (h .u) → Ltμ μ (Z μ a′ b′ c′) (h′ .u) → a ≡ a′
+      → Ltμ μ (Z μ a b c) (h .numbers .u) → Ltμ μ (Z μ a′ b′ c′) (h′ .numbers .u) → a ≡ a′
   first a b c a′ b′ c′ k k′ hk hk′ eb ec f f′ l l′ =
       row0 (rd μ) (at μ 6 B) a a′ (b ⊗ rowμ μ x1 ⊕ c ⊗ rowμ μ y1) (b ⊗ μ .r ⊕ c ⊗ μ .w) k k′ (μ .two) U-has hk hk′ f
       (ap₂ (λ s t. a′ ⊕ (s ⊗ rowμ μ x1 ⊕ t ⊗ rowμ μ y1)) eb ec ∙ f′ ∙ ap (λ t. t ⊗ k′) (sym U-same))
       (lt-eq 𝓥 l (regroup a b c))
-      (lt-eq 𝓥 (lt-up 𝓥 (h .u) l′ (let e : h .u ≡ h′ .u = u-same in omega arith)) (regroup a′ b′ c′ ∙ ap₂ (λ s t. (𝟏 ⊕ 𝟏) ⊗ a′ ⊕ ⊖ (s ⊗ μ .r ⊕ t ⊗ μ .w)) (sym eb) (sym ec)))
+      (lt-eq 𝓥 (lt-up 𝓥 (h .numbers .u) l′ (let e : h .numbers .u ≡ h′ .numbers .u = u-same in omega arith)) (regroup a′ b′ c′ ∙ ap₂ (λ s t. (𝟏 ⊕ 𝟏) ⊗ a′ ⊕ ⊖ (s ⊗ μ .r ⊕ t ⊗ μ .w)) (sym eb) (sym ec)))
 
   M-a : at μ 0 B ≡ at μ 0 B′
-  M-a = first (at μ 0 B) (at μ 1 B) (at μ 2 B) (at μ 0 B′) (at μ 1 B′) (at μ 2 B′) (h .kM) (h′ .kM) (h .kM-poly) (h′ .kM-poly) M-b M-c (h .M-a) (h′ .M-a) (h .Z-M) (h′ .Z-M)
+  M-a = first (at μ 0 B) (at μ 1 B) (at μ 2 B) (at μ 0 B′) (at μ 1 B′) (at μ 2 B′) (h .kM) (h′ .kM) (h .kM-poly) (h′ .kM-poly) M-b M-c (h .M-a) (h′ .M-a) (h .numbers .Z-M) (h′ .numbers .Z-M)
 
   N-a : at μ 3 B ≡ at μ 3 B′
-  N-a = first (at μ 3 B) (at μ 4 B) (at μ 5 B) (at μ 3 B′) (at μ 4 B′) (at μ 5 B′) (h .kN) (h′ .kN) (h .kN-poly) (h′ .kN-poly) N-b N-c (h .N-a) (h′ .N-a) (h .Z-N) (h′ .Z-N)
+  N-a = first (at μ 3 B) (at μ 4 B) (at μ 5 B) (at μ 3 B′) (at μ 4 B′) (at μ 5 B′) (h .kN) (h′ .kN) (h .kN-poly) (h′ .kN-poly) N-b N-c (h .N-a) (h′ .N-a) (h .numbers .Z-N) (h′ .numbers .Z-N)
 
   seven : (i : ℕ) → i < 7 → at μ i B ≡ at μ i B′
   seven zero l = M-a

@@ -21,7 +21,8 @@ use Rattle.math_rows.specs.Row.{Row, Size}
 use Rattle.math_rows.proofs.Rows.{size-lt, size-le}
 use Rattle.math_ideals.specs.Setting.{Setting, P}
 use Rattle.math_ideals.specs.Ideal.{Basis, Ideal}
-use Rattle.math_chain.proofs.Parts.{Parts, Cut, x0, x2, y0, y2, base, parts-unique, cut-greatest}
+use Rattle.math_chain.specs.Parts.{Parts, Cut, x0, x2, y0, y2, base}
+use Rattle.math_chain.proofs.Parts.{parts-unique, cut-greatest}
 use Rattle.basis_record.specs.Record.{setting}
 use Rattle.step_divide.specs.Rows.{Seven, rowsOf}
 use Rattle.step_divide.specs.Quotients.{Det}

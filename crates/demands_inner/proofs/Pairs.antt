@@ -14,7 +14,7 @@ use Rattle.math_valued.specs.Val.{Valued}
 use Rattle.math_valued.specs.Degree.{Has, Lt}
 use Rattle.math_valued.proofs.Degree.{has-mul, has-neg, has-lt, has-eq, has-not-zero, lt-eq, lt-add, lt-neg, lt-up, lt-has-mul, above, same}
 use Rattle.math_valued.proofs.Compare.{lt-scale, has-scale}
-use Rattle.math_valued.proofs.Polynomial.{view, const-path}
+use Rattle.math_valued.proofs.Polynomial.{view, const-path, unit-const}
 use Rattle.math_rows.specs.Reading.{Reading}
 use Rattle.math_turns.specs.Points as T
 use Rattle.math_turns.specs.Points.{Pt, Moved}
@@ -70,48 +70,52 @@ module _ {p : ℕ} (ρ : Reading p) where
     module _ {m n m′ n′ : Pt (L .El)} {u x y x′ y′ : ℕ} (h : Moved ρ m n m′ n′)
         (xm : Has 𝓥 (X m) x) (xn : Lt 𝓥 (X n) x) (ym : Lt 𝓥 (Y m) u) (yn : Has 𝓥 (Y n) y) (le : u ≤ y)
         (xm′ : Has 𝓥 (X m′) x′) (xn′ : Lt 𝓥 (X n′) x′) (ym′ : Lt 𝓥 (Y m′) u) (yn′ : Has 𝓥 (Y n′) y′) (le′ : u ≤ y′) where
-      X-m : X m′ ≡ h .α * X m + h .β * X n
-      X-m = mixed-X (h .α) (h .β) m n m′ (h .m-b) (h .m-c)
+      X-m : X m′ ≡ h .α .0 * X m + h .β .0 * X n
+      X-m = mixed-X (h .α .0) (h .β .0) m n m′ (h .m-b) (h .m-c)
 
-      X-n : X n′ ≡ h .γ * X m + h .δ * X n
-      X-n = mixed-X (h .γ) (h .δ) m n n′ (h .n-b) (h .n-c)
+      X-n : X n′ ≡ h .γ .0 * X m + h .δ .0 * X n
+      X-n = mixed-X (h .γ .0) (h .δ .0) m n n′ (h .n-b) (h .n-c)
 
-      Y-m : Y m′ ≡ h .α * Y m + h .β * Y n
-      Y-m = mixed-Y (h .α) (h .β) m n m′ (h .m-b) (h .m-c)
+      Y-m : Y m′ ≡ h .α .0 * Y m + h .β .0 * Y n
+      Y-m = mixed-Y (h .α .0) (h .β .0) m n m′ (h .m-b) (h .m-c)
 
-      Y-n : Y n′ ≡ h .γ * Y m + h .δ * Y n
-      Y-n = mixed-Y (h .γ) (h .δ) m n n′ (h .n-b) (h .n-c)
+      Y-n : Y n′ ≡ h .γ .0 * Y m + h .δ .0 * Y n
+      Y-n = mixed-Y (h .γ .0) (h .δ .0) m n n′ (h .n-b) (h .n-c)
 
-      κ-has : Has 𝓥 (const (h .κ)) 0
-      κ-has = (h .κ, h .unit, 𝓥 .const-lead (h .κ))
+      -- the determinant, a constant that is not 0
+      abbrev κ : L .El
+      κ = h .α .0 * h .δ .0 + - (h .β .0 * h .γ .0)
+
+      κ-has : Has 𝓥 (h .α .0 * h .δ .0 + - (h .β .0 * h .γ .0)) 0
+      κ-has = unit-const 𝓥 _ (h .unit)
 
       -- δ m′ − β n′ = κ m
-      back : (z₁ z₂ w₁ w₂ : L .El) → w₁ ≡ h .α * z₁ + h .β * z₂ → w₂ ≡ h .γ * z₁ + h .δ * z₂ → h .δ * w₁ + - h .β * w₂ ≡ const (h .κ) * z₁
-      back z₁ z₂ w₁ w₂ e f = solve-by L (var 3 :* var 6 :+ minus (var 1) :* var 7) (var 8 :* var 4)
-          (hyp (var 3) (var 6) (var 0 :* var 4 :+ var 1 :* var 5) ∷ hyp (minus (var 1)) (var 7) (var 2 :* var 4 :+ var 3 :* var 5) ∷ hyp (var 4) (var 0 :* var 3 :+ minus (var 1 :* var 2)) (var 8) ∷ []) tt
-          (h .α ∷ h .β ∷ h .γ ∷ h .δ ∷ z₁ ∷ z₂ ∷ w₁ ∷ w₂ ∷ const (h .κ) ∷ []) (e, (f, (h .det, tt)))
+      back : (z₁ z₂ w₁ w₂ : L .El) → w₁ ≡ h .α .0 * z₁ + h .β .0 * z₂ → w₂ ≡ h .γ .0 * z₁ + h .δ .0 * z₂ → h .δ .0 * w₁ + - h .β .0 * w₂ ≡ κ * z₁
+      back z₁ z₂ w₁ w₂ e f = solve-by L (var 3 :* var 6 :+ minus (var 1) :* var 7) ((var 0 :* var 3 :+ minus (var 1 :* var 2)) :* var 4)
+          (hyp (var 3) (var 6) (var 0 :* var 4 :+ var 1 :* var 5) ∷ hyp (minus (var 1)) (var 7) (var 2 :* var 4 :+ var 3 :* var 5) ∷ []) tt
+          (h .α .0 ∷ h .β .0 ∷ h .γ .0 ∷ h .δ .0 ∷ z₁ ∷ z₂ ∷ w₁ ∷ w₂ ∷ []) (e, (f, tt))
 
-      β-none : h .β ≡ 𝟎
-      β-none = go (view 𝓥 (h .β, h .β-poly))
+      β-none : h .β .0 ≡ 𝟎
+      β-none = go (view 𝓥 (h .β))
         where
-          go : (h .β ≡ 𝟎) ⊎ ((b : ℕ) × Has 𝓥 (h .β) b) → h .β ≡ 𝟎
+          go : (h .β .0 ≡ 𝟎) ⊎ ((b : ℕ) × Has 𝓥 (h .β .0) b) → h .β .0 ≡ 𝟎
           go (inl e) = e
           go (inr (b, hb)) =
-              let (a, l, s) = rises (h .α) (h .β) (X m) (X n) (Y m) (Y n) (h .α-poly) xm xn ym yn le hb (lt-eq 𝓥 ym′ Y-m) in
-              let (a′, l′, s′) = rises (h .δ) (- h .β) (X m′) (X n′) (Y m′) (Y n′) (h .δ-poly) xm′ xn′ ym′ yn′ le′ (has-neg 𝓥 hb) (lt-eq 𝓥 (lt-scale 𝓥 κ-has ym) (sym (back (Y m) (Y n) (Y m′) (Y n′) Y-m Y-n))) in
+              let (a, l, s) = rises (h .α .0) (h .β .0) (X m) (X n) (Y m) (Y n) (h .α .1) xm xn ym yn le hb (lt-eq 𝓥 ym′ Y-m) in
+              let (a′, l′, s′) = rises (h .δ .0) (- h .β .0) (X m′) (X n′) (Y m′) (Y n′) (h .δ .1) xm′ xn′ ym′ yn′ le′ (has-neg 𝓥 hb) (lt-eq 𝓥 (lt-scale 𝓥 κ-has ym) (sym (back (Y m) (Y n) (Y m′) (Y n′) Y-m Y-n))) in
               let e : N._+_ a x ≡ x′ = same 𝓥 (has-eq 𝓥 s (sym X-m)) xm′ in
               let e′ : N._+_ a′ x′ ≡ x = same 𝓥 (has-eq 𝓥 s′ (back (X m) (X n) (X m′) (X n′) X-m X-n)) (has-scale 𝓥 κ-has xm) in
               absurd (omega arith)
 
-      αδ : h .α * h .δ ≡ const (h .κ)
-      αδ = solve-by L (var 0 :* var 3) (var 4) (hyp one (var 0 :* var 3 :+ minus (var 1 :* var 2)) (var 4) ∷ hyp (var 2) (var 1) zer ∷ []) tt (h .α ∷ h .β ∷ h .γ ∷ h .δ ∷ const (h .κ) ∷ []) (h .det, (β-none, tt))
+      αδ : h .α .0 * h .δ .0 ≡ κ
+      αδ = solve-by L (var 0 :* var 3) (var 0 :* var 3 :+ minus (var 1 :* var 2)) (hyp (var 2) (var 1) zer ∷ []) tt (h .α .0 ∷ h .β .0 ∷ h .γ .0 ∷ h .δ .0 ∷ []) (β-none, tt)
 
-      units : (Has 𝓥 (h .α) 0) × (Has 𝓥 (h .δ) 0)
-      units = go (view 𝓥 (h .α, h .α-poly)) (view 𝓥 (h .δ, h .δ-poly))
+      units : (Has 𝓥 (h .α .0) 0) × (Has 𝓥 (h .δ .0) 0)
+      units = go (view 𝓥 (h .α)) (view 𝓥 (h .δ))
         where
-          go : (h .α ≡ 𝟎) ⊎ ((a : ℕ) × Has 𝓥 (h .α) a) → (h .δ ≡ 𝟎) ⊎ ((d : ℕ) × Has 𝓥 (h .δ) d) → (Has 𝓥 (h .α) 0) × (Has 𝓥 (h .δ) 0)
-          go (inl e) s = absurd (has-not-zero 𝓥 (has-eq 𝓥 κ-has (sym αδ ∙ ap (λ z. z * h .δ) e ∙ rg.zero-mul′ L (h .δ))))
-          go (inr s) (inl e) = absurd (has-not-zero 𝓥 (has-eq 𝓥 κ-has (sym αδ ∙ ap (λ z. h .α * z) e ∙ rg.mul-zero L (h .α))))
+          go : (h .α .0 ≡ 𝟎) ⊎ ((a : ℕ) × Has 𝓥 (h .α .0) a) → (h .δ .0 ≡ 𝟎) ⊎ ((d : ℕ) × Has 𝓥 (h .δ .0) d) → (Has 𝓥 (h .α .0) 0) × (Has 𝓥 (h .δ .0) 0)
+          go (inl e) s = absurd (has-not-zero 𝓥 (has-eq 𝓥 κ-has (sym αδ ∙ ap (λ z. z * h .δ .0) e ∙ rg.zero-mul′ L (h .δ .0))))
+          go (inr s) (inl e) = absurd (has-not-zero 𝓥 (has-eq 𝓥 κ-has (sym αδ ∙ ap (λ z. h .α .0 * z) e ∙ rg.mul-zero L (h .α .0))))
           go (inr (a, s)) (inr (d, t)) =
               let e : N._+_ a d ≡ 0 = same 𝓥 (has-eq 𝓥 (has-mul 𝓥 s t) αδ) κ-has in
               let i : a ≡ 0 = omega arith in
@@ -121,16 +125,16 @@ module _ {p : ℕ} (ρ : Reading p) where
               subst′ : {z : L .El} {k l : ℕ} → k ≡ l → Has 𝓥 z k → Has 𝓥 z l
               subst′ {z} e s = (s .0, s .1, 𝓥 .lead-move _ 0 (s .2) (ap (λ n. N._+_ n 0) e))
 
-      γ-none : h .γ ≡ 𝟎
-      γ-none = go (view 𝓥 (h .γ, h .γ-poly))
+      γ-none : h .γ .0 ≡ 𝟎
+      γ-none = go (view 𝓥 (h .γ))
         where
           xx : x ≡ x′
-          xx = same 𝓥 (has-scale 𝓥 (units .0) xm) (has-eq 𝓥 xm′ (X-m ∙ ap (λ z. h .α * X m + z * X n) β-none ∙ solve L (var 0 :+ zer :* var 1) (var 0) tt (h .α * X m ∷ X n ∷ [])))
+          xx = same 𝓥 (has-scale 𝓥 (units .0) xm) (has-eq 𝓥 xm′ (X-m ∙ ap (λ z. h .α .0 * X m + z * X n) β-none ∙ solve L (var 0 :+ zer :* var 1) (var 0) tt (h .α .0 * X m ∷ X n ∷ [])))
 
-          go : (h .γ ≡ 𝟎) ⊎ ((c : ℕ) × Has 𝓥 (h .γ) c) → h .γ ≡ 𝟎
+          go : (h .γ .0 ≡ 𝟎) ⊎ ((c : ℕ) × Has 𝓥 (h .γ .0) c) → h .γ .0 ≡ 𝟎
           go (inl e) = e
           go (inr (c, s)) =
-              let t : Has 𝓥 (h .γ * X m + h .δ * X n) (N._+_ c x) = has-lt 𝓥 (has-mul 𝓥 s xm) (lt-up 𝓥 (N._+_ c x) (lt-scale 𝓥 (units .1) xn) (omega arith)) in
+              let t : Has 𝓥 (h .γ .0 * X m + h .δ .0 * X n) (N._+_ c x) = has-lt 𝓥 (has-mul 𝓥 s xm) (lt-up 𝓥 (N._+_ c x) (lt-scale 𝓥 (units .1) xn) (omega arith)) in
               let l : N._+_ c x < x′ = above 𝓥 t (lt-eq 𝓥 xn′ X-n) in
               let e : x ≡ x′ = xx in
               absurd (omega arith)
@@ -139,17 +143,17 @@ module _ {p : ℕ} (ρ : Reading p) where
       constant : (z : L .El) → IsPoly z → (s : Has 𝓥 z 0) → z ≡ const (s .0)
       constant z hz s = ap (λ w. w .0) (const-path 𝓥 {a = (z, hz)} {b = (const (s .0), 𝓥 .const-poly (s .0))} (s .2) (𝓥 .const-lead (s .0)))
 
-      α-is : h .α ≡ const (units .0 .0)
-      α-is = constant (h .α) (h .α-poly) (units .0)
+      α-is : h .α .0 ≡ const (units .0 .0)
+      α-is = constant (h .α .0) (h .α .1) (units .0)
 
-      δ-is : h .δ ≡ const (units .1 .0)
-      δ-is = constant (h .δ) (h .δ-poly) (units .1)
+      δ-is : h .δ .0 ≡ const (units .1 .0)
+      δ-is = constant (h .δ .0) (h .δ .1) (units .1)
 
-      left : (z w v : L .El) → v ≡ h .α * z + h .β * w → v ≡ const (units .0 .0) * z
-      left z w v e = solve-by L (var 0) (var 5 :* var 1) (hyp one (var 0) (var 3 :* var 1 :+ var 4 :* var 2) ∷ hyp (var 2) (var 4) zer ∷ hyp (var 1) (var 3) (var 5) ∷ []) tt (v ∷ z ∷ w ∷ h .α ∷ h .β ∷ const (units .0 .0) ∷ []) (e, (β-none, (α-is, tt)))
+      left : (z w v : L .El) → v ≡ h .α .0 * z + h .β .0 * w → v ≡ const (units .0 .0) * z
+      left z w v e = solve-by L (var 0) (var 5 :* var 1) (hyp one (var 0) (var 3 :* var 1 :+ var 4 :* var 2) ∷ hyp (var 2) (var 4) zer ∷ hyp (var 1) (var 3) (var 5) ∷ []) tt (v ∷ z ∷ w ∷ h .α .0 ∷ h .β .0 ∷ const (units .0 .0) ∷ []) (e, (β-none, (α-is, tt)))
 
-      right : (z w v : L .El) → v ≡ h .γ * z + h .δ * w → v ≡ const (units .1 .0) * w
-      right z w v e = solve-by L (var 0) (var 5 :* var 2) (hyp one (var 0) (var 4 :* var 1 :+ var 3 :* var 2) ∷ hyp (var 1) (var 4) zer ∷ hyp (var 2) (var 3) (var 5) ∷ []) tt (v ∷ z ∷ w ∷ h .δ ∷ h .γ ∷ const (units .1 .0) ∷ []) (e, (γ-none, (δ-is, tt)))
+      right : (z w v : L .El) → v ≡ h .γ .0 * z + h .δ .0 * w → v ≡ const (units .1 .0) * w
+      right z w v e = solve-by L (var 0) (var 5 :* var 2) (hyp one (var 0) (var 4 :* var 1 :+ var 3 :* var 2) ∷ hyp (var 1) (var 4) zer ∷ hyp (var 2) (var 3) (var 5) ∷ []) tt (v ∷ z ∷ w ∷ h .δ .0 ∷ h .γ .0 ∷ const (units .1 .0) ∷ []) (e, (γ-none, (δ-is, tt)))
 
       pub pairs-one : Scaled ρ m n m′ n′
       pairs-one = record {

@@ -32,8 +32,8 @@ module _ {p : ℕ} {G H : List ℕ} (c : Cubic) (h : Prefix p G H c) where
       n-is = degrees A′ c h;
       dr-is = sym (dr-is A′ c h);
       dw-is = sym (dw-is A′ c h);
-      r-reads = subst (λ d. Reads (reading p (A′ .prime)) (c .r) d (setting A′ .r)) (dr-is A′ c h) (r-reads A′ c h);
-      w-reads = subst (λ d. Reads (reading p (A′ .prime)) (c .w) d (setting A′ .w)) (dw-is A′ c h) (w-reads A′ c h);
+      r-reads = subst (λ d. Reads (reading p (A′ .prime)) (c .r) d (setting A′ .roots .r)) (dr-is A′ c h) (r-reads A′ c h);
+      w-reads = subst (λ d. Reads (reading p (A′ .prime)) (c .w) d (setting A′ .roots .w)) (dw-is A′ c h) (w-reads A′ c h);
     };
   }
 

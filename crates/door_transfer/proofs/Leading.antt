@@ -3,7 +3,6 @@
 --   lead-times                          the product of two leading coefficients, mod p, has an inverse too
 --   factors-law                         what the functions hand out are the factors
 use mathlib.Core.Path.{_≡_, sym, ap, _∙_, subst}
-use mathlib.Core.Logic.{_≢_}
 use mathlib.Core.List.{[], _∷_}
 use Prim.Native.Nat.{ℕ, _%_, _<_}
 use Prim.Native.Nat as N
@@ -13,9 +12,9 @@ use Rattle.math_ring.specs.Ring.{Ops}
 use Rattle.math_ring.proofs.Solve.{var, one, _:*_, hyp, solve-by}
 use Rattle.math_fp.specs.Fp.{Prime}
 use Rattle.math_valued.specs.Val.{Valued}
-use Rattle.math_valued.proofs.Degree.{k-domain}
 use Rattle.math_rows.specs.Reading.{Reading}
 use Rattle.math_rows.specs.Made.{reading}
+use Rattle.math_rows.proofs.Numbers.{cast-product, product-some}
 use Rattle.num_residue.specs.Residue.{Modulus, Two, Nonzero, Rooted, Inverse, CubeRoot}
 use Rattle.pair_agree.specs.Rows.{Law}
 use Rattle.door_transfer.specs.Code.{Kind, Lead}
@@ -48,12 +47,9 @@ module _ (p : ℕ) (k : Kind p) where
   pub inverse-asks : {a : ℕ} → Lead p a → Nonzero p a
   inverse-asks l = record { modulus = modulus; prime = pr; pos = l .some; below = l .below }
 
-  lead-not : {a : ℕ} → Lead p a → cast a ≢ 0ᵏ
-  lead-not {a} l z = let e : a ≡ 0 = ρ .cast-small a (l .below) z in omega (arith, l .some)
-
   -- a remainder has the class of the product
   rest-cast : (r a b : ℕ) → r ≡ (N._*_ a b) % p → cast r ≡ cast a * cast b
-  rest-cast r a b e = ap cast e ∙ ρ .cast-mod (N._*_ a b) ∙ ρ .cast-mul a b
+  rest-cast r a b e = ap cast e ∙ cast-product ρ a b
 
   inverse-cast : (a q : ℕ) → Inverse p a q → cast a * cast q ≡ 1ᵏ
   inverse-cast a q i = sym (rest-cast 1 a q (sym (i .law))) ∙ ρ .cast-one
@@ -61,9 +57,7 @@ module _ (p : ℕ) (k : Kind p) where
   -- p is prime: a product of two such numbers is not 0
   pub lead-times : (r a b : ℕ) → r ≡ (N._*_ a b) % p → Lead p a → Lead p b → Lead p r
   lead-times r a b e l m = record {
-    some =
-        let not : r ≢ 0 = λ z. k-domain 𝓥 (cast a) (cast b) (lead-not l) (lead-not m) (sym (rest-cast r a b e) ∙ ap cast z ∙ ρ .cast-zero) in
-        omega arith;
+    some = subst (λ z. 0 < z) (sym e) (product-some ρ a b (l .some) (l .below) (m .some) (m .below));
     below = rest-below r (N._*_ a b) e;
   }
 

@@ -34,10 +34,10 @@ use Rattle.math_ideals.specs.Next.{Start}
 use Rattle.math_ideals.proofs.Sizes.{sc-a, sc-b, sc-c, ev-sc}
 use Rattle.math_ideals.proofs.Lattice.{sc-mul}
 use Rattle.math_chain.specs.Chain.{Closing, Product}
-use Rattle.math_chain.specs.Unit.{UnitOf}
+use Rattle.math_chain.specs.Unit.{UnitOf, Fit}
 use Rattle.math_chain.proofs.Walk.{same-products}
 use Rattle.math_chain.proofs.Passed.{passed, product-unique}
-use Rattle.math_chain.proofs.Rows.{Fit, product-rows, unit-rows}
+use Rattle.math_chain.proofs.Rows.{product-rows, unit-rows}
 use Rattle.math_chain.proofs.Unit.{norm-unit, inverse-cof, half, closing-unit, closing-pos, unit-made}
 use Rattle.basis_record.specs.Record.{setting, basisOf}
 use Rattle.poly_long.proofs.Low.{scale-law}

@@ -26,7 +26,8 @@ use Rattle.math_ideals.specs.Next.{Next, Start}
 use Rattle.math_chain.specs.Chain.{Degree, Chain, here, then, tops, bottoms, Product}
 use Rattle.math_chain.proofs.Walk.{same-chain, prefix}
 use Rattle.math_chain.proofs.Passed.{Passed, passed, over-step, next-product, product-unique}
-use Rattle.math_chain.proofs.Rows.{Fit, product-rows}
+use Rattle.math_chain.specs.Unit.{Fit}
+use Rattle.math_chain.proofs.Rows.{product-rows}
 use Rattle.basis_record.specs.Record.{setting, basisOf}
 use Rattle.basis_record.proofs.Unique.{basis-unique}
 use Rattle.door_basis.specs.Answer.{IsFirst}

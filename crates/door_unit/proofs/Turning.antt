@@ -124,13 +124,13 @@ module _ (f : Cubic) (c n : ℕ) (b rows s g h gh : List ℕ) (eg : g ≡ f .fie
         let E = row ρ (cut 0 c rows) in
         let (x, y, z) = t′ .law (A .prime) (E′ .a .0) (E′ .b .0) (E′ .c .0) (E′ .a .1) (E′ .b .1) (E′ .c .1) (fit .a-lt) (fit .b-lt) (fit .c-lt)
         (sym (sc-a S (basisOf A b .U) E′) ∙ ap (λ v. v .a .0) (sym e)
-        ∙ ap₂ (λ u v. o .add (o .mul E (M .a .0)) (o .mul (o .add (o .mul u (M .c .0)) (o .mul v (M .b .0))) (o .mul (S .G .0) (S .H .0)))) y₁ y₂
+        ∙ ap₂ (λ u v. o .add (o .mul E (M .a .0)) (o .mul (o .add (o .mul u (M .c .0)) (o .mul v (M .b .0))) (o .mul (S .roots .G .0) (S .roots .H .0)))) y₁ y₂
         ∙ ap (λ v. o .add (o .mul E (M .a .0)) (o .mul (o .add (o .mul (row ρ (cut c c rows)) (M .c .0)) (o .mul (row ρ (cut (c + c) c rows)) (M .b .0))) v)) (sym (ap (row ρ) egh ∙ k .gh-is)))
         (sym (sc-b S (basisOf A b .U) E′) ∙ ap (λ v. v .b .0) (sym e)
-        ∙ ap₂ (λ u v. o .add (o .add (o .mul E (M .b .0)) (o .mul u (M .a .0))) (o .mul (o .mul v (M .c .0)) (S .G .0))) y₁ y₂
+        ∙ ap₂ (λ u v. o .add (o .add (o .mul E (M .b .0)) (o .mul u (M .a .0))) (o .mul (o .mul v (M .c .0)) (S .roots .G .0))) y₁ y₂
         ∙ ap (λ v. o .add (o .add (o .mul E (M .b .0)) (o .mul (row ρ (cut c c rows)) (M .a .0))) (o .mul (o .mul (row ρ (cut (c + c) c rows)) (M .c .0)) v)) (sym (ap (row ρ) eg ∙ k .g-is)))
         (sym (sc-c S (basisOf A b .U) E′) ∙ ap (λ v. v .c .0) (sym e)
-        ∙ ap₂ (λ u v. o .add (o .add (o .mul E (M .c .0)) (o .mul v (M .a .0))) (o .mul (o .mul u (M .b .0)) (S .H .0))) y₁ y₂
+        ∙ ap₂ (λ u v. o .add (o .add (o .mul E (M .c .0)) (o .mul v (M .a .0))) (o .mul (o .mul u (M .b .0)) (S .roots .H .0))) y₁ y₂
         ∙ ap (λ v. o .add (o .add (o .mul E (M .c .0)) (o .mul (row ρ (cut (c + c) c rows)) (M .a .0))) (o .mul (o .mul (row ρ (cut c c rows)) (M .b .0)) v)) (sym (ap (row ρ) eh ∙ k .h-is))) in
         six-path A c 0 rows′ E′ x (ap (λ k. row ρ (cut k c rows′)) (let q : 0 + c ≡ c = omega arith in q) ∙ y) (ap (λ k. row ρ (cut k c rows′)) (let q : 0 + c + c ≡ c + c = omega arith in q) ∙ z);
   }

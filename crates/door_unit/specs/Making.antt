@@ -21,7 +21,7 @@ use Rattle.field_open.specs.Refusal.{Accepted}
 use Rattle.math_ideals.specs.Setting.{Setting, P}
 use Rattle.math_ideals.specs.Element.{O, sc, norm, cof}
 use Rattle.math_chain.specs.Chain.{Chain, Product}
-use Rattle.math_chain.proofs.Rows.{Fit}
+use Rattle.math_chain.specs.Unit.{Fit}
 use Rattle.basis_record.specs.Record.{setting, basisOf, IsRecord}
 use Rattle.field_series.specs.Answer.{Prefix}
 use Rattle.field_series.specs.declared.Cubic.{Cubic}

@@ -8,7 +8,8 @@ use Prim.Native.Nat.{ℕ, zero, suc, _%_, _<_, _≤_}
 use native.Mathlib.Omega.{arith}
 use lib.Dec.{T, eqb, ltb, leb, eqb→eq, ltb→lt, leb→le}
 use lib.ListN.{length, getD}
-use Rattle.math_fp.proofs.Trial.{primeb, primeb-sound}
+use Rattle.math_fp.specs.Trial.{primeb}
+use Rattle.math_fp.proofs.Trial.{primeb-sound}
 use Rattle.num_prime.specs.Table.{largest}
 use Rattle.field_open.specs.Refusal.{Fault1, Refusal, Accepted}
 use Rattle.field_open.specs.Opening.{Opens, nothing}

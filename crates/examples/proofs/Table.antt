@@ -2,7 +2,7 @@
 --   hints         what the tests are helped with: the series of each of the three fields, and the bases passed
 --   table-holds   every line of the table holds: by one computation
 use mathlib.Core.List.{List, [], _∷_}
-use Rattle.math_fp.proofs.Trial.{primeb}
+use Rattle.math_fp.specs.Trial.{primeb}
 use Rattle.math_rows.specs.Row.{tab, fallAt}
 use Rattle.math_rows.specs.Sum.{sumTo}
 use Rattle.field_roots.specs.First.{conv}

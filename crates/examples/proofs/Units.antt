@@ -26,7 +26,8 @@ use Rattle.door_unit.specs.Unit.{six, Lent, Finds, Makes, Goes}
 use Rattle.door_unit.specs.declared.Made.{Made}
 use Rattle.door_unit.proofs.Once.{Same, makes-one}
 use Rattle.examples_lists.specs.Lists.{lists, alike}
-use Rattle.examples_lists.proofs.Meaning.{hom-eval, poly-hom, poly-alike, el, el-alike}
+use Rattle.math_ring.proofs.Hom.{hom-eval}
+use Rattle.examples_lists.proofs.Meaning.{poly-hom, poly-alike, el, el-alike}
 use Rattle.examples_tests.specs.Rows.{Rows}
 use Rattle.examples_tests.specs.Tests.{every}
 use Rattle.examples_tests.specs.Walks.{total, unclosed, walks, isUnit}

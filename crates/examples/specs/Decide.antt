@@ -9,7 +9,7 @@ use Prim.Native.Nat.{ℕ, zero, suc, _+_, _*_, _/_, _%_}
 use lib.Dec.{eqb, ltb, leb}
 use lib.ListN.{length}
 use Rattle.math_triple.specs.Tri.{Tri, normT}
-use Rattle.math_fp.proofs.Trial.{primeb}
+use Rattle.math_fp.specs.Trial.{primeb}
 use Rattle.num_prime.specs.Table.{largest}
 use Rattle.field_series.specs.Answer.{longest}
 use Rattle.walk_chain.specs.Walk.{most}

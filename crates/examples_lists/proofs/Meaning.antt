@@ -1,17 +1,16 @@
 -- What computes on lists holds of polynomials, and of the triples of a cubic order.
---   Hom, hom-eval              a map that keeps the operations keeps every expression
 --   poly-hom                   lists as polynomials
 --   el, el-hom                 triples of lists as triples of polynomials
 --   poly-alike, el-alike       the tests
 --   coprime-list, squarefree-list   u a + v b = 1, u a + v a′ = 1
-use mathlib.Core.Path.{_≡_, refl, sym, ap, ap₂, _∙_, subst}
+use mathlib.Core.Path.{_≡_, sym, ap₂, _∙_, subst}
 use mathlib.Core.Bool.{_&&_}
-use mathlib.Core.List.{List, [], _∷_, map}
-use Prim.Native.Nat.{ℕ, zero, suc}
+use mathlib.Core.List.{List, [], _∷_}
+use Prim.Native.Nat.{ℕ}
 use lib.Dec.{T}
 use Rattle.math_ring.proofs.Laws as r
-use Rattle.math_ring.specs.Ring.{Ops, CRing, nat}
-use Rattle.math_ring.proofs.Solve.{Expr, var, lit, zer, one, plus as plusE, times as timesE, minus as minusE, hd, tl, nth, eval}
+use Rattle.math_ring.specs.Ring.{CRing, Hom}
+use Rattle.math_ring.proofs.Hom.{hom-eval}
 use Rattle.math_triple.specs.Tri.{Tri, M, X, Y}
 use Rattle.math_triple.specs.Order.{triops}
 use Rattle.math_fp.specs.Fp.{Prime}
@@ -26,41 +25,6 @@ use Rattle.math_rows.proofs.Square.{∂, squarefree-unit}
 use Rattle.poly_rows.specs.Factors.{polynomial}
 use Rattle.examples_lists.specs.Lists.{cut, plus, slope, lists, alike, alikeT}
 use Rattle.examples_lists.proofs.Lists.{row-nil, row-one, row-plus, row-times, row-minus, row-cut, row-slope, alike-sound}
-
--- ---- maps that keep the operations
-pub record Hom {A B : Type 0} (o : Ops A) (q : Ops B) (f : A → B) : Type 0 where
-  pub add : (x y : A) → f (o .add x y) ≡ q .add (f x) (f y)
-  pub mul : (x y : A) → f (o .mul x y) ≡ q .mul (f x) (f y)
-  pub neg : (x : A) → f (o .neg x) ≡ q .neg (f x)
-  pub 𝟎 : f (o .𝟎) ≡ q .𝟎
-  pub 𝟏 : f (o .𝟏) ≡ q .𝟏
-
-module _ {A B : Type 0} {o : Ops A} {q : Ops B} (f : A → B) (h : Hom o q f) where
-  hd-map : (e : List A) → f (hd o e) ≡ hd q (map f e)
-  hd-map [] = h .𝟎
-  hd-map (x ∷ e) = refl
-
-  tl-map : (e : List A) → map f (tl o e) ≡ tl q (map f e)
-  tl-map [] = refl
-  tl-map (x ∷ e) = refl
-
-  nth-map : (i : ℕ) (e : List A) → f (nth o e i) ≡ nth q (map f e) i
-  nth-map zero e = hd-map e
-  nth-map (suc i) e = nth-map i (tl o e) ∙ ap (λ l. nth q l i) (tl-map e)
-
-  nat-map : (n : ℕ) → f (nat o n) ≡ nat q n
-  unfolding nat
-  nat-map zero = h .𝟎
-  nat-map (suc n) = h .add (o .𝟏) (nat o n) ∙ ap₂ (q .add) (h .𝟏) (nat-map n)
-
-  pub hom-eval : (x : Expr) (e : List A) → f (eval o x e) ≡ eval q x (map f e)
-  hom-eval (var i) e = nth-map i e
-  hom-eval (lit n) e = nat-map n
-  hom-eval zer e = h .𝟎
-  hom-eval one e = h .𝟏
-  hom-eval (plusE x y) e = h .add (eval o x e) (eval o y e) ∙ ap₂ (q .add) (hom-eval x e) (hom-eval y e)
-  hom-eval (timesE x y) e = h .mul (eval o x e) (eval o y e) ∙ ap₂ (q .mul) (hom-eval x e) (hom-eval y e)
-  hom-eval (minusE x) e = h .neg (eval o x e) ∙ ap (q .neg) (hom-eval x e)
 
 -- ---- lists as polynomials
 module _ (p : ℕ) (pr : Prime p) where

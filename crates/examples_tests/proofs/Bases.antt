@@ -22,22 +22,24 @@ use Rattle.math_rows.specs.Row.{Floor}
 use Rattle.field_open.specs.Refusal.{Accepted}
 use Rattle.field_roots.specs.SeriesOf.{SeriesOf}
 use Rattle.field_roots.specs.Prefix.{enough, plusPart, minusPart}
-use Rattle.field_roots.proofs.Root.{degR, degW}
+use Rattle.field_roots.specs.Pair.{degR, degW}
 use Rattle.field_roots.proofs.Prefix.{prefix-is-enough}
 use Rattle.math_ideals.specs.Setting.{Setting}
-use Rattle.math_ideals.specs.Element.{O, sc, el-r, el-w, X, Y, Z}
-use Rattle.math_ideals.specs.Ideal.{Basis, In, det}
+use Rattle.math_ideals.specs.Element.{O, sc, el-r, el-w, X, Y, Z, times-r, times-w}
+use Rattle.math_ideals.specs.Ideal.{Basis, In, det, Coords}
 use Rattle.math_ideals.specs.Basis.{Good}
 use Rattle.math_ideals.proofs.Sizes.{O-path}
 use Rattle.math_ideals.proofs.Lattice.{lin-a, lin-b, lin-c, by-r, by-w, by-r-poly, by-w-poly}
-use Rattle.math_ideals.proofs.Check.{Coords, coords-of}
-use Rattle.math_ideals.proofs.Tests.{Tests, good-of, times-r, times-w}
+use Rattle.math_ideals.proofs.Check.{coords-of}
+use Rattle.math_ideals.specs.Tests.{Tests}
+use Rattle.math_ideals.proofs.Tests.{good-of}
 use Rattle.basis_record.specs.Record.{setting, polyOf}
 use Rattle.examples_lists.specs.Lists.{ends}
 use Rattle.examples_lists.specs.Quotients.{bezout}
 use Rattle.examples_lists.specs.Lists as L
 use Rattle.examples_lists.proofs.Lists.{ends-sound, lead-list}
-use Rattle.examples_lists.proofs.Meaning.{hom-eval, poly-hom, el, el-hom, el-alike, coprime-list}
+use Rattle.math_ring.proofs.Hom.{hom-eval}
+use Rattle.examples_lists.proofs.Meaning.{poly-hom, el, el-hom, el-alike, coprime-list}
 use Rattle.examples_tests.specs.Rows.{Rows}
 use Rattle.examples_tests.specs.Tests.{every, last, some, αOf, βOf, γOf, lies, linL, detL, pure, rootR, rootW, by, shapedAt, double, hasTop, xPart, yPart, short, sizes, apart, good}
 use Rattle.examples_tests.proofs.Fields.{every-at, series-of}
@@ -148,36 +150,42 @@ module _ {p : ℕ} {G H : List ℕ} (A : Accepted p G H) where
         let (fnx, fny) = parts (b .N) n in
         let uy : u ≤ y = leb→le u y (at 7) in
         record {
-          u = u;
-          x = x;
-          y = y;
-          U-lead = d.lead-eq (ρ .𝓥) (lead-list ρ (b .U) u (at 0)) refl (ap (ρ .cast) (eqb→eq (getD (b .U) u 0) 1 (at 1)) ∙ ρ .cast-one);
-          X-M = d.lead-eq (ρ .𝓥) (lead-floor ρ (X S (el p (A .prime) (b .M))) mx x fmx (at 2)) refl (ap (ρ .cast) (eqb→eq (getD mx x 0) 2 (at 3)) ∙ cast-two ρ);
-          Y-N = d.lead-eq (ρ .𝓥) (lead-floor ρ (Y S (el p (A .prime) (b .N))) ny y fny (at 4)) refl (ap (ρ .cast) (eqb→eq (getD ny y 0) 1 (at 5)) ∙ ρ .cast-one);
-          u<x = ltb→lt u x (at 6);
-          u≤y = uy;
-          X-N = lt-floor ρ (X S (el p (A .prime) (b .N))) nx x fnx (at 8);
-          Y-M = lt-floor ρ (Y S (el p (A .prime) (b .M))) my u fmy (at 9);
-          Z-M = lt-floor ρ (Z S (el p (A .prime) (b .M))) (double p (b .M .a) mx) u (floor-double ρ (b .M .a) mx _ _ fmx) (at 10);
-          Z-N = lt-floor ρ (Z S (el p (A .prime) (b .N))) (double p (b .N .a) nx) u (floor-double ρ (b .N .a) nx _ _ fnx) (at 11);
-          N-large = elim (or-cases (ltb u y) (ltb u (last nx) && (ends nx (suc (last nx)) && some p (getD nx (last nx) 0))) (at 12)) [
-            | inl k ↦ inl (ltb→lt u y k)
-            | inr k ↦ let i : ℕ = last nx in
-                let e : T (ends nx (suc i) && some p (getD nx i 0)) = and-r (ltb u i) (ends nx (suc i) && some p (getD nx i 0)) k in
-                inr (
-                  i,
-                  ltb→lt u i (and-l (ltb u i) (ends nx (suc i) && some p (getD nx i 0)) k),
-                  has-floor ρ (X S (el p (A .prime) (b .N))) nx i fnx (and-l (ends nx (suc i)) (some p (getD nx i 0)) e) (and-r (ends nx (suc i)) (some p (getD nx i 0)) e),
-                )
-          ];
-          rank = λ e. d.has-not-zero (ρ .𝓥) (d.has-eq (ρ .𝓥) (has-top ρ (detL p b) top) (ap (λ z. z .0) (det-is b) ∙ e));
+          sizes = record {
+            numbers = record {
+              u = u;
+              x = x;
+              y = y;
+              U-lead = d.lead-eq (ρ .𝓥) (lead-list ρ (b .U) u (at 0)) refl (ap (ρ .cast) (eqb→eq (getD (b .U) u 0) 1 (at 1)) ∙ ρ .cast-one);
+              X-M = d.lead-eq (ρ .𝓥) (lead-floor ρ (X S (el p (A .prime) (b .M))) mx x fmx (at 2)) refl (ap (ρ .cast) (eqb→eq (getD mx x 0) 2 (at 3)) ∙ cast-two ρ);
+              Y-N = d.lead-eq (ρ .𝓥) (lead-floor ρ (Y S (el p (A .prime) (b .N))) ny y fny (at 4)) refl (ap (ρ .cast) (eqb→eq (getD ny y 0) 1 (at 5)) ∙ ρ .cast-one);
+              u≤y = uy;
+              X-N = lt-floor ρ (X S (el p (A .prime) (b .N))) nx x fnx (at 8);
+              Y-M = lt-floor ρ (Y S (el p (A .prime) (b .M))) my u fmy (at 9);
+              Z-M = lt-floor ρ (Z S (el p (A .prime) (b .M))) (double p (b .M .a) mx) u (floor-double ρ (b .M .a) mx _ _ fmx) (at 10);
+              Z-N = lt-floor ρ (Z S (el p (A .prime) (b .N))) (double p (b .N .a) nx) u (floor-double ρ (b .N .a) nx _ _ fnx) (at 11);
+            };
+            u<x = ltb→lt u x (at 6);
+            N-large = elim (or-cases (ltb u y) (ltb u (last nx) && (ends nx (suc (last nx)) && some p (getD nx (last nx) 0))) (at 12)) [
+              | inl k ↦ inl (ltb→lt u y k)
+              | inr k ↦ let i : ℕ = last nx in
+                  let e : T (ends nx (suc i) && some p (getD nx i 0)) = and-r (ltb u i) (ends nx (suc i) && some p (getD nx i 0)) k in
+                  inr (
+                    i,
+                    ltb→lt u i (and-l (ltb u i) (ends nx (suc i) && some p (getD nx i 0)) k),
+                    has-floor ρ (X S (el p (A .prime) (b .N))) nx i fnx (and-l (ends nx (suc i)) (some p (getD nx i 0)) e) (and-r (ends nx (suc i)) (some p (getD nx i 0)) e),
+                  )
+            ];
+          };
           seven = λ k ku ka kb kc la lb lc. coprime-list p (A .prime) (bezout p (b .U) (b .M .c) .0) (bezout p (b .U) (b .M .c) .1) (b .U) (b .M .c) one k ku kc;
-          r-one = one-r b (b .U) ru;
-          w-one = one-w b (b .U) wu;
-          r-M = coords-r b (b .M) rm;
-          w-M = coords-w b (b .M) wm;
-          r-N = coords-r b (b .N) rn;
-          w-N = coords-w b (b .N) wn;
+          closed = record {
+            rank = λ e. d.has-not-zero (ρ .𝓥) (d.has-eq (ρ .𝓥) (has-top ρ (detL p b) top) (ap (λ z. z .0) (det-is b) ∙ e));
+            r-one = one-r b (b .U) ru;
+            w-one = one-w b (b .U) wu;
+            r-M = coords-r b (b .M) rm;
+            w-M = coords-w b (b .M) wm;
+            r-N = coords-r b (b .N) rn;
+            w-N = coords-w b (b .N) wn;
+          };
         }
 
   pub good-rows : (r w : List ℕ) (b : Rows) → T (every (good p G H r w b)) → Good (setting A) (basisL b)

@@ -18,12 +18,12 @@ use lib.ListN.{length, getD}
 use Rattle.math_ring.specs.Ring.{Ops}
 use Rattle.math_triple.specs.Tri.{Tri, cofT, normT}
 use Rattle.math_triple.specs.Order.{triops}
-use Rattle.math_fp.proofs.Trial.{primeb}
+use Rattle.math_fp.specs.Trial.{primeb}
 use Rattle.num_prime.specs.Table.{largest}
 use Rattle.field_open.specs.Refusal.{longest, highest}
 use Rattle.field_roots.specs.SeriesOf.{top, entry, prod}
 use Rattle.field_roots.specs.Prefix.{enough, plusPart, minusPart}
-use Rattle.field_roots.proofs.Root.{degR, degW}
+use Rattle.field_roots.specs.Pair.{degR, degW}
 use Rattle.basis_record.specs.Record.{part}
 use Rattle.examples_lists.specs.Lists.{cut, plus, scale, minus, slope, lists, alike, alikeT, ends}
 use Rattle.examples_lists.specs.Quotients.{quotient, bezout}

@@ -1,8 +1,8 @@
 -- The number is 0 exactly for the accepted fields.
 --   accepted                            number 0: accepted
 --   accepted-none                       accepted: number 0
---   degree-size, degree-lead, degree-has   of a list of coefficients: its trimmed length, its leading coefficient, which is not 0, and the
---                                       degree of its polynomial
+--   degree-size, degree-lead, degree-has, degree-leads   of a list of coefficients: its trimmed length, its leading coefficient, which is not 0,
+--                                       the degree of its polynomial, and what it leads with
 --   stop-p, stop-lists, pass-lists      the rows put together
 --   with-prime                          an accepted field at another proof that p is prime
 --   shaped                              what rows 1 to 6 leave to rows 7 and 8
@@ -17,7 +17,7 @@ use native.Mathlib.Decide.{decLe, ℕ-discrete}
 use lib.ListN.{length, getD, List·getD-eq-default}
 use Rattle.math_fp.specs.Fp.{Prime}
 use Rattle.math_valued.specs.Val.{Valued}
-use Rattle.math_valued.specs.Degree.{Has}
+use Rattle.math_valued.specs.Degree.{Has, Leads}
 use Rattle.math_valued.proofs.Factor.{free-no-square, no-square-free, apart-no-common, no-common-apart}
 use Rattle.math_rows.specs.Reading.{Reading}
 use Rattle.math_rows.specs.Made.{reading}
@@ -90,6 +90,9 @@ degree-lead {p} {d} {l} pr s z = let e : length l ≡ suc d = s .whole in s .las
 
 pub degree-has : {p d : ℕ} {l : List ℕ} (pr : Prime p) → Degree p l d → Has (reading p pr .𝓥) (row (reading p pr) l) d
 degree-has {p} {d} {l} pr s = let ρ = reading p pr in (ρ .cast (getD l d 0), degree-lead pr s, size-lead ρ (degree-size s))
+
+pub degree-leads : {p d : ℕ} {l : List ℕ} (pr : Prime p) → Degree p l d → Leads (reading p pr .𝓥) (row (reading p pr) l) (reading p pr .cast (getD l d 0))
+degree-leads {p} {d} {l} pr s = (d, 0, degree-lead pr s, size-lead (reading p pr) (degree-size s))
 
 -- ---- the rows put together: a row's number stops the table, 0 hands it on
 module _ (p : ℕ) (G H : List ℕ) where

@@ -7,7 +7,7 @@
 --   begins-row                a row begins with its coefficients, read from the top
 --   begins-cut, begins-floor  fewer coefficients; the polynomial parts of t^k z
 --   stand-in                  a series that begins so
---   cast-conv                 the coefficients of a product of numbers, in the field; cast-cube: the cube of a number
+--   cast-conv                 the coefficients of a product of numbers, in the field
 use mathlib.Core.Path.{_≡_, refl, sym, ap, ap₂, _∙_, subst}
 use mathlib.Core.List.{List, [], _∷_}
 use Prim.Native.Nat.{ℕ, zero, suc, _≤_, _<_}
@@ -26,7 +26,7 @@ use Rattle.math_rows.specs.Reading.{Reading}
 use Rattle.math_rows.specs.Row.{tab, tpow, psum, coefs, row, fallAt, Floor}
 use Rattle.math_rows.proofs.Rows.{tpow-add, tpow-lead, psum-cut, row-tab}
 use Rattle.math_rows.proofs.Floors.{fall-in, fall-out}
-use Rattle.math_rows.proofs.Turn.{lt-mul-sharp}
+use Rattle.math_valued.proofs.Compare.{lt-mul-sharp}
 use Rattle.field_roots.specs.First.{conv, fall, Begins}
 use Rattle.field_roots.proofs.First.{convᵏ, fall-ext, fall-poly, fall-lt, fall-lead, fall-split, fall-zero, fall-psum, fall-inj, fall-mul}
 
@@ -88,9 +88,9 @@ module _ {p : ℕ} (ρ : Reading p) where
       let ab : A * B ≡ t * P = sym (tpow-add ρ (suc d) (suc e)) ∙ ap T (let q : N._+_ (suc d) (suc e) ≡ suc (suc (N._+_ d e)) = omega arith in q) in
       let k : ℕ = N._+_ (suc n) (suc (N._+_ d e)) in
       let x-lt : Lt 𝓥 (A * (B * x)) k = lt-up 𝓥 k (t-lt (suc d) (t-lt (suc e) hx)) (omega arith) in
-      let y-lt : Lt 𝓥 (A * (F * (t * T n * y + - (B * G)))) k = lt-up 𝓥 k (t-lt (suc d) (lt-mul-sharp ρ (fall-lt ρ (suc n) f) hy)) (omega arith) in
-      let z-lt : Lt 𝓥 (B * (G * (t * T n * z + - (A * F)))) k = lt-up 𝓥 k (t-lt (suc e) (lt-mul-sharp ρ (fall-lt ρ (suc n) g) hz)) (omega arith) in
-      let w-lt : Lt 𝓥 ((t * T n * z + - (A * F)) * (t * T n * y + - (B * G))) k = lt-up 𝓥 k (lt-mul-sharp ρ hz hy) (omega arith) in
+      let y-lt : Lt 𝓥 (A * (F * (t * T n * y + - (B * G)))) k = lt-up 𝓥 k (t-lt (suc d) (lt-mul-sharp 𝓥 (fall-lt ρ (suc n) f) hy)) (omega arith) in
+      let z-lt : Lt 𝓥 (B * (G * (t * T n * z + - (A * F)))) k = lt-up 𝓥 k (t-lt (suc e) (lt-mul-sharp 𝓥 (fall-lt ρ (suc n) g) hz)) (omega arith) in
+      let w-lt : Lt 𝓥 ((t * T n * z + - (A * F)) * (t * T n * y + - (B * G))) k = lt-up 𝓥 k (lt-mul-sharp 𝓥 hz hy) (omega arith) in
       lt-cancel 𝓥 (suc (N._+_ d e)) (t-has (suc n))
       (lt-eq 𝓥 (lt-add 𝓥 (lt-add 𝓥 x-lt y-lt) (lt-add 𝓥 z-lt w-lt))
       (solve-by L
@@ -189,6 +189,3 @@ module _ {p : ℕ} (ρ : Reading p) where
   unfolding conv
   cast-conv zero f g = ρ .cast-mul (f 0) (g 0)
   cast-conv (suc n) f g = ρ .cast-add (N._*_ (f 0) (g (suc n))) _ ∙ ap₂ _+ᵏ_ (ρ .cast-mul (f 0) (g (suc n))) (cast-conv n (λ i. f (suc i)) g)
-
-  pub cast-cube : (a : ℕ) → cast (N._*_ (N._*_ a a) a) ≡ cast a *ᵏ cast a *ᵏ cast a
-  cast-cube a = ρ .cast-mul (N._*_ a a) a ∙ ap (λ x. x *ᵏ cast a) (ρ .cast-mul a a)

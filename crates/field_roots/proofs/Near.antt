@@ -18,7 +18,7 @@ use Rattle.math_valued.specs.Degree.{Has, Lt}
 use Rattle.math_valued.proofs.Degree.{lead-eq, lt-eq, lt-add, lt-neg, lt-up, lt-cancel, has-up}
 use Rattle.math_rows.specs.Reading.{Reading}
 use Rattle.math_rows.specs.Row.{tpow}
-use Rattle.math_rows.proofs.Turn.{lt-mul-sharp}
+use Rattle.math_valued.proofs.Compare.{lt-mul-sharp}
 use Rattle.field_roots.specs.Pair.{RootPair}
 use Rattle.field_roots.specs.First.{Begins}
 use Rattle.field_roots.proofs.Pair.{three, trio, trio-has, r-cube, w-has}
@@ -52,8 +52,8 @@ module _ {p : ℕ} (ρ : Reading p) where
         let a : L .El = x * x + - (H * y) in
         let b : L .El = x * y + - (G * H) in
         let x-lt : Lt 𝓥 x (suc dr) = 𝓥 .lead-up (suc dr) 0 hx (omega arith) in
-        let xa : Lt 𝓥 (x * (T * a)) D = lt-up 𝓥 D (lt-mul-sharp ρ x-lt e₁) (omega arith) in
-        let hb : Lt 𝓥 (H * (T * b)) D = lt-up 𝓥 D (lt-mul-sharp ρ (has-up 𝓥 (suc dH) hH (omega arith)) e₂) (omega (arith, s .r-size, s .w-size)) in
+        let xa : Lt 𝓥 (x * (T * a)) D = lt-up 𝓥 D (lt-mul-sharp 𝓥 x-lt e₁) (omega arith) in
+        let hb : Lt 𝓥 (H * (T * b)) D = lt-up 𝓥 D (lt-mul-sharp 𝓥 (has-up 𝓥 (suc dH) hH (omega arith)) e₂) (omega (arith, s .r-size, s .w-size)) in
         let r-near : Lt 𝓥 (T * (r + - x)) (suc dr) =
         lt-cancel 𝓥 (suc dr) (trio-has 𝓥 hc h3 (pair .lead) hx)
         (lt-up 𝓥 (N._+_ (N._+_ dr dr) (suc dr))
@@ -62,7 +62,7 @@ module _ {p : ℕ} (ρ : Reading p) where
         ((var 5 :* var 5 :+ var 5 :* var 0 :+ var 0 :* var 0) :* (var 1 :* (var 5 :+ minus (var 0))))
         (hyp (minus (var 1)) (var 5 :* var 5 :* var 5) (var 4 :* (var 2 :* var 2)) ∷ []) tt (x ∷ T ∷ H ∷ y ∷ G ∷ r ∷ []) (r-cube 𝓥 pair, tt))) (omega arith)) in
         let k : ℕ = N._+_ dr (suc dw) in
-        let xy : Lt 𝓥 (y * (T * (r + - x))) k = lt-up 𝓥 k (lt-mul-sharp ρ hy r-near) (omega arith) in (
+        let xy : Lt 𝓥 (y * (T * (r + - x))) k = lt-up 𝓥 k (lt-mul-sharp 𝓥 hy r-near) (omega arith) in (
           r-near,
           lt-cancel 𝓥 (suc dw) (c, hc, pair .lead)
               (lt-eq 𝓥 (lt-neg 𝓥 (lt-add 𝓥 (lt-up 𝓥 k e₂ (omega arith)) xy))

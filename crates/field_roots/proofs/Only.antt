@@ -16,14 +16,16 @@ use Rattle.math_rows.specs.Reading.{Reading}
 use Rattle.math_rows.specs.Made.{reading}
 use Rattle.math_rows.specs.Row.{fallAt, Reads}
 use Rattle.math_rows.proofs.Unique.{cast-inj, same-cast}
+use Rattle.math_rows.proofs.Numbers.{cast-cube}
 use Rattle.field_open.specs.Refusal.{Degree, Accepted}
 use Rattle.field_roots.specs.First.{conv, Begins}
 use Rattle.field_roots.specs.SeriesOf.{top, entry, prod, SeriesOf}
 use Rattle.field_roots.proofs.First.{convᵏ}
-use Rattle.field_roots.proofs.Begin.{begins-row, begins-only, begins-floor, cast-conv, cast-cube}
+use Rattle.field_roots.proofs.Begin.{begins-row, begins-only, begins-floor, cast-conv}
 use Rattle.field_roots.proofs.Near.{pair-begins}
 use Rattle.math_rows.proofs.Constants.{three≢, cube-inj}
-use Rattle.field_roots.proofs.Root.{degR, degW, sizes, leadR, leadR-cube, leadR-not, H-has, root-r, root-w, root-pair}
+use Rattle.field_roots.specs.Pair.{degR, degW}
+use Rattle.field_roots.proofs.Root.{sizes, leadR, leadR-cube, leadR-not, H-has, root-r, root-w, root-pair}
 
 -- a list of coefficients, read from its leading one
 pub top-is : {p d : ℕ} {l : List ℕ} → Degree p l d → (i : ℕ) → fallAt l d i ≡ top l i

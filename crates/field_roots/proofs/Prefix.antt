@@ -20,7 +20,7 @@ use Rattle.math_rows.specs.Reading.{Reading}
 use Rattle.math_rows.specs.Made.{reading}
 use Rattle.math_rows.specs.Row.{tab, fallAt, tpow, psum, coefs, row, Floor}
 use Rattle.math_rows.specs.Sum.{sumTo}
-use Rattle.math_rows.proofs.Rows.{const-zero, const-neg, cast-sub, psum-ext, row-tab, row-upto}
+use Rattle.math_rows.proofs.Rows.{const-zero, const-neg, cast-sub, psum-ext, psum-plus, row-tab, row-upto}
 use Rattle.math_rows.proofs.Product.{sum-more}
 use Rattle.math_rows.proofs.Floors.{floor-add, floor-sub}
 use Rattle.math_rows.proofs.Turn.{lt-scale}
@@ -29,7 +29,8 @@ use Rattle.field_roots.specs.First.{Begins}
 use Rattle.field_roots.specs.SeriesOf.{entry, SeriesOf}
 use Rattle.field_roots.specs.Prefix.{enough, partAt, plusPart, minusPart}
 use Rattle.field_roots.proofs.Begin.{begins-floor}
-use Rattle.field_roots.proofs.Root.{degR, degW, root-r, root-w}
+use Rattle.field_roots.specs.Pair.{degR, degW}
+use Rattle.field_roots.proofs.Root.{root-r, root-w}
 use Rattle.field_roots.proofs.Only.{small-degrees, series-of-begins}
 
 module _ {p : ℕ} (ρ : Reading p) where
@@ -41,19 +42,12 @@ module _ {p : ℕ} (ρ : Reading p) where
   infixl 60 _+_ _+ᵏ_
   infixl 70 _*_ _*ᵏ_
   infix 80 -_ -ᵏ_
-  psum-plus : (n : ℕ) (a : K .El) (f g : ℕ → K .El) → psum ρ n (λ i. f i +ᵏ a *ᵏ g i) ≡ psum ρ n f + const a * psum ρ n g
-  unfolding psum
-  psum-plus zero a f g = solve L zer (zer :+ var 0 :* zer) tt (const a ∷ [])
-  psum-plus (suc n) a f g =
-      ap₂ (λ x y. x + y * tpow ρ n) (psum-plus n a f g) (ρ .const-add (f n) (a *ᵏ g n) ∙ ap (λ x. const (f n) + x) (ρ .const-mul a (g n)))
-      ∙ solve L (var 0 :+ var 1 :* var 2 :+ (var 3 :+ var 1 :* var 4) :* var 5) (var 0 :+ var 3 :* var 5 :+ var 1 :* (var 2 :+ var 4 :* var 5)) tt (psum ρ n f ∷ const a ∷ psum ρ n g ∷ const (f n) ∷ const (g n) ∷ tpow ρ n ∷ [])
-
   -- a row is linear in its numbers, and asks only for their remainders
   row-plus : (n a : ℕ) (x y : ℕ → ℕ) → row ρ (tab n (λ j. N._+_ (x j) (N._*_ a (y j)))) ≡ row ρ (tab n x) + const (cast a) * row ρ (tab n y)
   row-plus n a x y =
       row-tab ρ n (λ j. N._+_ (x j) (N._*_ a (y j)))
       ∙ psum-ext ρ n _ _ (λ j l. ρ .cast-add (x j) (N._*_ a (y j)) ∙ ap (λ z. cast (x j) +ᵏ z) (ρ .cast-mul a (y j)))
-      ∙ psum-plus n (cast a) (λ j. cast (x j)) (λ j. cast (y j))
+      ∙ psum-plus ρ n (cast a) (λ j. cast (x j)) (λ j. cast (y j))
       ∙ sym (ap₂ (λ u v. u + const (cast a) * v) (row-tab ρ n x) (row-tab ρ n y))
 
   row-mod : (n : ℕ) (x : ℕ → ℕ) → row ρ (tab n (λ j. x j % p)) ≡ row ρ (tab n x)
@@ -90,7 +84,7 @@ module _ {p : ℕ} (ρ : Reading p) where
       row-mod n (λ j. N._+_ (x j) (y j))
       ∙ row-tab ρ n (λ j. N._+_ (x j) (y j))
       ∙ psum-ext ρ n _ _ (λ j l. ρ .cast-add (x j) (y j) ∙ ap (λ z. cast (x j) +ᵏ z) (sym (r₀.one-mul K (cast (y j)))))
-      ∙ psum-plus n (K .ops .𝟏) (λ j. cast (x j)) (λ j. cast (y j))
+      ∙ psum-plus ρ n (K .ops .𝟏) (λ j. cast (x j)) (λ j. cast (y j))
       ∙ ap₂ (λ u v. u + v) (sym (row-tab ρ n x)) (ap₂ _*_ (ρ .const-one) (sym (row-tab ρ n y)) ∙ r₀.one-mul L (row ρ (tab n y)))
 
   minus-row : (n : ℕ) (x y : ℕ → ℕ) → row ρ (tab n (λ j. N._+_ (x j) (p - y j % p) % p)) ≡ row ρ (tab n x) + - row ρ (tab n y)
@@ -98,7 +92,7 @@ module _ {p : ℕ} (ρ : Reading p) where
       row-mod n (λ j. N._+_ (x j) (p - y j % p))
       ∙ row-tab ρ n (λ j. N._+_ (x j) (p - y j % p))
       ∙ psum-ext ρ n _ _ (λ j l. ρ .cast-add (x j) (p - y j % p) ∙ ap (λ z. cast (x j) +ᵏ z) (gone (y j)))
-      ∙ psum-plus n (-ᵏ K .ops .𝟏) (λ j. cast (x j)) (λ j. cast (y j))
+      ∙ psum-plus ρ n (-ᵏ K .ops .𝟏) (λ j. cast (x j)) (λ j. cast (y j))
       ∙ ap₂ (λ u v. u + v) (sym (row-tab ρ n x))
       (ap₂ _*_ (const-neg ρ (K .ops .𝟏) ∙ ap (λ z. - z) (ρ .const-one)) (sym (row-tab ρ n y)) ∙ solve L (minus one :* var 0) (minus (var 0)) tt (row ρ (tab n y) ∷ []))
     where

@@ -1,14 +1,13 @@
 -- Each accepted field has its pair r, w.
---   degR, degW          (deg G + 2 deg H)/3 and (2 deg G + deg H)/3
 --   leadR               the cube root of the leading coefficient of D = G H²
 --   root-r, root-w      the two series; they stay shut
 --   root-pair           r² = H w, r w = G H, and r has degree degR and leads with leadR
---   root-only           no other two series obey the two laws
---   setting             the field as the theory of ideals takes it
+--   G-has .. w-degree   the four degrees
+-- That no other two series obey the two laws is `roots-only` of crate basis_record.
 use mathlib.Core.Path.{_≡_, refl, sym, ap, ap₂, _∙_}
 use mathlib.Core.Logic.{_≢_}
 use mathlib.Core.List.{List, [], _∷_}
-use Prim.Native.Nat.{ℕ, suc, _+_, _*_, _/_, _%_, _<_, _≤_}
+use Prim.Native.Nat.{ℕ, suc, _+_, _*_, _%_, _<_}
 use native.Mathlib.Nat.{mod-lt}
 use native.Mathlib.Omega.{arith}
 use lib.ListN.{length, getD}
@@ -23,24 +22,15 @@ use Rattle.math_rows.specs.Reading.{Reading}
 use Rattle.math_rows.specs.Made.{reading, cube-roots}
 use Rattle.math_rows.specs.Roots.{CubeRoots}
 use Rattle.math_rows.specs.Row.{row}
-use Rattle.poly_rows.specs.Factors.{polynomial}
 use Rattle.field_open.specs.Refusal.{Accepted}
 use Rattle.field_open.proofs.Accept.{degree-size, degree-lead, degree-has}
 use Rattle.math_rows.proofs.Rows.{size-lead}
 use Rattle.math_rows.proofs.Unique.{same-cast}
-use Rattle.math_ideals.specs.Setting.{Setting}
-use Rattle.math_ideals.proofs.Roots.{roots-unique}
-use Rattle.field_roots.specs.Pair.{RootPair}
+use Rattle.math_rows.proofs.Numbers.{cast-square, cast-cube}
+use Rattle.field_roots.specs.Pair.{degR, degW, RootPair}
 use Rattle.field_roots.proofs.Pair.{three, w-has, pair-from}
 use Rattle.field_roots.proofs.Near.{Sizes}
-use Rattle.field_roots.proofs.Begin.{cast-cube}
-use Rattle.math_rows.proofs.Constants.{two≢, three≢, form}
-
-abbrev pub degR : ℕ → ℕ → ℕ
-degR d e = (d + 2 * e) / 3
-
-abbrev pub degW : ℕ → ℕ → ℕ
-degW d e = (2 * d + e) / 3
+use Rattle.math_rows.proofs.Constants.{three≢}
 
 module _ {p : ℕ} {G H : List ℕ} (A : Accepted p G H) (pr : Prime p) where
   abbrev ρ : Reading p
@@ -76,12 +66,11 @@ module _ {p : ℕ} {G H : List ℕ} (A : Accepted p G H) (pr : Prime p) where
       let r : ℕ = powMod p top-D (third p) in
       sym (cast-cube ρ r)
       ∙ same-cast ρ (r * r * r) (lg * (lh * lh)) (root-value p pr top-D (mod-lt (lg * (lh * lh)) (ρ .pos)) (A .kind) r refl)
-      ∙ ρ .cast-mul lg (lh * lh)
-      ∙ ap (λ x. cast lg *ᵏ x) (ρ .cast-mul lh lh)
+      ∙ cast-square ρ lg lh
 
   -- r leads with the cube root of D's leading coefficient
   pub leadR-cube : leadR *ᵏ leadR *ᵏ leadR ≡ cast (lg * (lh * lh))
-  leadR-cube = cube-is ∙ sym (ρ .cast-mul lg (lh * lh) ∙ ap (λ x. cast lg *ᵏ x) (ρ .cast-mul lh lh))
+  leadR-cube = cube-is ∙ sym (cast-square ρ lg lh)
 
   pub leadR-not : leadR ≢ 0ᵏ
   leadR-not e =
@@ -127,32 +116,3 @@ module _ {p : ℕ} {G H : List ℕ} (A : Accepted p G H) (pr : Prime p) where
 
   pub w-degree : Has 𝓥 root-w dw
   w-degree = let s = sizes in w-has 𝓥 dw leadR-not H-has (omega (arith, s .r-size, s .w-size)) root-pair
-
-  abbrev pub setting : Setting
-  setting = record {
-    𝓥 = reading p pr .𝓥;
-    two≢ = two≢ (reading p pr) pr (A .kind) (let l : 5 ≤ p = A .low in omega arith);
-    form = form (reading p pr) pr (A .kind);
-    G = polynomial p pr G;
-    H = polynomial p pr H;
-    G-free = A .freeG pr;
-    H-free = A .freeH pr;
-    coprime = A .apart pr;
-    dG = A .degG;
-    dH = A .degH;
-    G-deg = G-has;
-    H-deg = H-has;
-    not-const = A .some;
-    r = root-r;
-    w = root-w;
-    dr = degR (A .degG) (A .degH);
-    dw = degW (A .degG) (A .degH);
-    r-deg = r-has;
-    w-deg = w-degree;
-    r-r = root-pair .r-r;
-    r-w = root-pair .r-w;
-  }
-
-  -- there is no other pair: any two series with a degree that obey the two laws are these
-  pub root-only : (n : ℕ) (r w : L .El) → Has 𝓥 r n → r *ˡ r ≡ row ρ H *ˡ w → r *ˡ w ≡ row ρ G *ˡ row ρ H → (r ≡ root-r) × (w ≡ root-w)
-  root-only n r w = roots-unique setting {n = n} r w

@@ -1,5 +1,5 @@
 -- The step put together: what the reduction ends with is the scaled reduced basis of the next ideal, or of the order.
---   Ends Finished   the inequalities and leading coefficients at the end, in numbers and without
+--   Finished        the inequalities and leading coefficients at the end, without numbers; with them they are `NumbersOf`
 --   step-correct    the seven polynomials made from the divided pairs of a good basis are the good basis of its next ideal
 --   order-correct   those made from (1, 0), (0, 1) and U = 1 are the basis of the order
 --   step-finished order-finished   the same from `Finished`
@@ -15,27 +15,31 @@ use Rattle.math_valued.specs.Val.{Valued}
 use Rattle.math_valued.specs.Degree.{Has, Lt, Leads}
 use Rattle.math_valued.specs.Polynomial.{polys, Divides}
 use Rattle.math_valued.proofs.Degree as d
-use Rattle.math_valued.proofs.Compare.{lt-≺, has-≼, lt-unscale}
+use Rattle.math_valued.proofs.Compare.{lt-unscale}
 use Rattle.math_valued.proofs.Polynomial.{view, not-zero}
-use Rattle.math_ideals.specs.Setting.{Setting, P}
-use Rattle.math_ideals.specs.Element.{O, el-r, el-w, X, Y, Z}
+use Rattle.math_ideals.specs.Setting.{Roots, Setting, P}
+use Rattle.math_ideals.specs.Element.{O, el-r, el-w, X, Y}
 use Rattle.math_ideals.specs.Ideal.{Basis, In, det}
 use Rattle.math_ideals.specs.Basis.{ReducedBasis, Scaled, NoFactor, Good}
 use Rattle.math_ideals.specs.Next.{Next, Start}
+use Rattle.math_ideals.specs.Tests.{NumbersOf}
 use Rattle.math_ideals.proofs.Sizes.{O-path, two-b, two-c}
 use Rattle.math_ideals.proofs.Values.{dr-pos, dw-pos}
 use Rattle.math_ideals.proofs.Form.{has-two}
 use Rattle.math_ideals.proofs.Lattice.{in-U, in-scale, lin-a, lin-b, lin-c}
 use Rattle.math_ideals.proofs.Check.{only-of-rank}
+use Rattle.math_ideals.proofs.Tests.{numbers-basis}
 use Rattle.math_ideals.proofs.Reduced.{OnlyPolys, reduced-of}
 use Rattle.math_ideals.proofs.Divided.{next-ideal, next-reduced, next-unique}
-use Rattle.math_chain.proofs.Parts.{Parts, Cut, x1, y1, pt, base, base-next}
+use Rattle.math_chain.specs.Parts.{Parts, Cut, x1, y1, pt, base}
+use Rattle.math_chain.proofs.Parts.{base-next}
 use Rattle.math_chain.proofs.Room.{Room, room}
 use Rattle.math_chain.proofs.Changed.{Changed, Alone}
 use Rattle.math_chain.proofs.Frame.{pair, off, Framed, Rebased, rebased-to, rebased-U, rebased-rank, rebased-alone, rebased-over}
 
 module _ (S : Setting) where
-  open Setting S using (𝓥, r, w)
+  open Setting S using (𝓥)
+  open Roots (S .roots) using (r, w)
   open Valued 𝓥 using (K, L, Lead)
   open Ops (L .ops) using (add as _+_, mul as _*_, neg as -_, 𝟎, 𝟏)
   open Ops (K .ops) using (add as _+ᵏ_, 𝟎 as 0ᵏ, 𝟏 as 1ᵏ)
@@ -48,38 +52,15 @@ module _ (S : Setting) where
   abbrev Rg : CRing
   Rg = polys 𝓥
 
-  pub record Ends (B : Basis S) : Type 0 where
-    -- u = deg U, x = deg X(M), y = deg Y(N)
-    pub u : ℕ
-    pub x : ℕ
-    pub y : ℕ
-    pub U-lead : Lead (B .U .0) u 0 1ᵏ
-    pub X-M : Lead (X S (B .M)) x 0 (1ᵏ +ᵏ 1ᵏ)
-    pub Y-N : Lead (Y S (B .N)) y 0 1ᵏ
-    pub u≤y : u ≤ y
-    pub X-N : Lt 𝓥 (X S (B .N)) x
-    pub Y-M : Lt 𝓥 (Y S (B .M)) u
-    pub Z-M : Lt 𝓥 (Z S (B .M)) u
-    pub Z-N : Lt 𝓥 (Z S (B .N)) u
-
-  -- the same without numbers
+  -- the inequalities and leading coefficients at the end, without numbers
   pub record Finished (B : Basis S) : Type 0 where
     pub basis : ReducedBasis S B
     pub X-M : Leads 𝓥 (X S (B .M)) (1ᵏ +ᵏ 1ᵏ)
     pub Y-N : Leads 𝓥 (Y S (B .N)) 1ᵏ
     pub monic : Leads 𝓥 (B .U .0) 1ᵏ
 
-  pub ends : (B : Basis S) → Ends B → Finished B
-  ends B e =
-      let hU : Has 𝓥 (B .U .0) (e .u) = (1ᵏ, 𝓥 .one≢zero, e .U-lead) in
-      let hX : Has 𝓥 (X S (B .M)) (e .x) = (1ᵏ +ᵏ 1ᵏ, S .two≢, e .X-M) in
-      let hY : Has 𝓥 (Y S (B .N)) (e .y) = (1ᵏ, 𝓥 .one≢zero, e .Y-N) in
-      record {
-        basis = record { X-N = lt-≺ 𝓥 (e .X-N) hX; Y-M = lt-≺ 𝓥 (e .Y-M) hU; Y-N = has-≼ 𝓥 hU hY (e .u≤y); Z-M = lt-≺ 𝓥 (e .Z-M) hU; Z-N = lt-≺ 𝓥 (e .Z-N) hU };
-        X-M = (e .x, 0, S .two≢, e .X-M);
-        Y-N = (e .y, 0, 𝓥 .one≢zero, e .Y-N);
-        monic = (e .u, 0, 𝓥 .one≢zero, e .U-lead);
-      }
+  finished : (B : Basis S) → NumbersOf S B → Finished B
+  finished B n = record { basis = numbers-basis S B n; X-M = (n .x, 0, S .roots .two≢, n .X-M); Y-N = (n .y, 0, 𝓥 .one≢zero, n .Y-N); monic = (n .u, 0, 𝓥 .one≢zero, n .U-lead) }
 
   finished-scaled : (B : Basis S) → Finished B → NoFactor S B → Scaled S B
   finished-scaled B e seven = record { X-M = e .X-M; Y-N = e .Y-N; monic = e .monic; seven = seven }
@@ -113,8 +94,8 @@ module _ (S : Setting) where
         next,
       )
 
-  pub step-correct : (B : Basis S) → Good S B → (k : Parts S B) (c : Cut S B k) (B′ : Basis S) → Rebased S (x1 S B k) (y1 S B k) (base S B k c) B′ → Ends B′ → Good S B′ × Next S B B′
-  step-correct B good k c B′ h e = step-finished B good k c B′ h (ends B′ e)
+  pub step-correct : (B : Basis S) → Good S B → (k : Parts S B) (c : Cut S B k) (B′ : Basis S) → Rebased S (x1 S B k) (y1 S B k) (base S B k c) B′ → NumbersOf S B′ → Good S B′ × Next S B B′
+  step-correct B good k c B′ h e = step-finished B good k c B′ h (finished B′ e)
 
   -- whatever was made so, it is the same
   pub step-unique : (B B′ B″ : Basis S) → Good S B → Good S B′ × Next S B B′ → Good S B″ × Next S B B″ → B′ ≡ B″
@@ -138,8 +119,8 @@ module _ (S : Setting) where
   -- an element of the order with X and Y of degree at most 0 is a polynomial, for r and w have degree at least 1
   pub order-poly : (v : O S .El) → Lt 𝓥 (X S v) 1 → Lt 𝓥 (Y S v) 1 → (v .b .0 ≡ 𝟎) × (v .c .0 ≡ 𝟎)
   order-poly v hX hY = (
-    zero-of (v .b) (S .r-deg) (dr-pos S) (lt-unscale 𝓥 (has-two S) (d.lt-eq 𝓥 (d.lt-add 𝓥 hX hY) (two-b S v))),
-    zero-of (v .c) (S .w-deg) (dw-pos S) (lt-unscale 𝓥 (has-two S) (d.lt-eq 𝓥 (d.lt-add 𝓥 hX (d.lt-neg 𝓥 hY)) (two-c S v))),
+    zero-of (v .b) (S .roots .r-deg) (dr-pos S) (lt-unscale 𝓥 (has-two S) (d.lt-eq 𝓥 (d.lt-add 𝓥 hX hY) (two-b S v))),
+    zero-of (v .c) (S .roots .w-deg) (dw-pos S) (lt-unscale 𝓥 (has-two S) (d.lt-eq 𝓥 (d.lt-add 𝓥 hX (d.lt-neg 𝓥 hY)) (two-c S v))),
   )
     where
       zero-of : {x : L .El} {n : ℕ} (a : P S) → Has 𝓥 x n → 1 ≤ n → Lt 𝓥 (a .0 * x) 1 → a .0 ≡ 𝟎
@@ -188,5 +169,5 @@ module _ (S : Setting) where
           let z : u ≡ 0 = d.same 𝓥 hU (d.has-eq 𝓥 (d.has-one 𝓥) (sym (ap (λ t. t .0) U-one))) in
           order-poly v (d.lt-up 𝓥 1 (b .X-lt) (omega arith)) (d.lt-up 𝓥 1 (b .Y-lt) (omega arith))
 
-  pub order-correct : (B : Basis S) → B .U ≡ 1ₚ → Changed 𝓥 (record { b = 1ₚ; c = 0ₚ }) (record { b = 0ₚ; c = 1ₚ }) (pair S (B .M)) (pair S (B .N)) → Ends B → Start S B
-  order-correct B U-one change e = order-finished B U-one change (ends B e)
+  pub order-correct : (B : Basis S) → B .U ≡ 1ₚ → Changed 𝓥 (record { b = 1ₚ; c = 0ₚ }) (record { b = 0ₚ; c = 1ₚ }) (pair S (B .M)) (pair S (B .N)) → NumbersOf S B → Start S B
+  order-correct B U-one change e = order-finished B U-one change (finished B e)

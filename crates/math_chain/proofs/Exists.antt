@@ -17,13 +17,14 @@ use Rattle.math_valued.specs.Polynomial.{polys, IsUnit}
 use Rattle.math_valued.proofs.Degree as d
 use Rattle.math_valued.proofs.Compare.{lt-≺, has-≼, leads-one}
 use Rattle.math_valued.proofs.Polynomial.{not-zero, unit-of, one-of, unit-const}
-use Rattle.math_ideals.specs.Setting.{Setting, P}
+use Rattle.math_ideals.specs.Setting.{Roots, Setting, P}
 use Rattle.math_ideals.specs.Element.{O, X, Y}
 use Rattle.math_ideals.specs.Ideal.{Basis, det}
 use Rattle.math_ideals.specs.Basis.{Good}
 use Rattle.math_ideals.specs.Next.{Next, Start}
 use Rattle.math_chain.specs.Chain.{Chain, here, then}
-use Rattle.math_chain.proofs.Parts.{Parts, Cut, parts, cut, x1, y1, base}
+use Rattle.math_chain.specs.Parts.{Parts, Cut, x1, y1, base}
+use Rattle.math_chain.proofs.Parts.{parts, cut}
 use Rattle.math_chain.proofs.Room.{Room, room, d-not-zero}
 use Rattle.math_chain.proofs.Changed.{Pair, Changed, changed-then, changed-scale}
 use Rattle.math_chain.proofs.Frame.{pair, Framed, Rebased}
@@ -33,7 +34,8 @@ use Rattle.math_chain.proofs.Correct.{Finished, base-framed, step-finis
 use Rattle.math_chain.proofs.Walk.{degree-of, chain-good}
 
 module _ (S : Setting) where
-  open Setting S using (𝓥, r, w)
+  open Setting S using (𝓥)
+  open Roots (S .roots) using (r, w)
   open Valued 𝓥 using (K, L, Lead)
   open Ops (L .ops) using (add as _+_, mul as _*_, neg as -_, 𝟎, 𝟏)
   open Ops (K .ops) using (add as _+ᵏ_, mul as _*ᵏ_, 𝟎 as 0ᵏ, 𝟏 as 1ᵏ)
@@ -76,7 +78,7 @@ module _ (S : Setting) where
     where
       go : HasDeg 𝓥 (X S (el S m)) (sh .p) (sh .q) → Has 𝓥 (Y S (el S n)) (sh .y) → (B′ : Basis S) × Rebased S x y B₀ B′ × Finished S B′
       go (cx, hx, lx) (cy, hy, ly) =
-          let α : Made (1ᵏ +ᵏ 1ᵏ) cx = made (1ᵏ +ᵏ 1ᵏ) cx (S .two≢) hx in
+          let α : Made (1ᵏ +ᵏ 1ᵏ) cx = made (1ᵏ +ᵏ 1ᵏ) cx (S .roots .two≢) hx in
           let β : Made 1ᵏ cy = made 1ᵏ cy (𝓥 .one≢zero) hy in
           let υ : Made 1ᵏ cu = made 1ᵏ cu (𝓥 .one≢zero) hu in
           let U′ : P S = υ .s ⊠ B₀ .U in
@@ -99,13 +101,13 @@ module _ (S : Setting) where
             },
             record {
               basis = record {
-                X-N = (sh .p, sh .q, (1ᵏ +ᵏ 1ᵏ, S .two≢, lX), zero-times β (sh .X-n) (X-times (β .s) aN n));
+                X-N = (sh .p, sh .q, (1ᵏ +ᵏ 1ᵏ, S .roots .two≢, lX), zero-times β (sh .X-n) (X-times (β .s) aN n));
                 Y-M = lt-≺ 𝓥 (zero-times α (sh .Y-m) (Y-times (α .s) aM m)) hU;
                 Y-N = has-≼ 𝓥 hU (1ᵏ, 𝓥 .one≢zero, lY) (sh .u≤y);
                 Z-M = lt-≺ 𝓥 zM hU;
                 Z-N = lt-≺ 𝓥 zN hU;
               };
-              X-M = (sh .p, sh .q, S .two≢, lX);
+              X-M = (sh .p, sh .q, S .roots .two≢, lX);
               Y-N = (sh .y, 0, 𝓥 .one≢zero, lY);
               monic = (u, 0, 𝓥 .one≢zero, lU);
             },

@@ -4,7 +4,7 @@
 --   Rebased B B′    both framed, U′ = U times a unit, and the pairs of B′ are those of B changed
 --   rebased-to rebased-from   then their lattices are one
 --   rebased-over rebased-rank rebased-alone   and what B is over, its rank and its lack of a common factor pass to B′
-use mathlib.Core.Path.{_≡_, sym, ap, ap₂, _∙_, subst}
+use mathlib.Core.Path.{_≡_, sym, ap, _∙_, subst}
 use mathlib.Core.List.{[], _∷_}
 use mathlib.Core.Logic.{_≢_}
 use Rattle.math_ring.proofs.Laws as rg
@@ -20,7 +20,7 @@ use Rattle.math_ideals.specs.Basis.{NoFactor}
 use Rattle.math_ideals.specs.Next.{Over}
 use Rattle.math_ideals.proofs.Sizes.{O-path}
 use Rattle.math_ideals.proofs.Lattice.{in-U, in-scale, in-lin, lin-a, lin-b, lin-c, sc-mul}
-use Rattle.math_chain.proofs.Changed.{Pair, Changed, Alone, changed-back, changed-alone}
+use Rattle.math_chain.proofs.Changed.{Pair, Changed, Alone, changed-back, changed-det, changed-alone}
 
 module _ (S : Setting) where
   open Setting S using (𝓥)
@@ -97,10 +97,7 @@ module _ (S : Setting) where
 
     -- e′ is e times the determinant of the change
     pub rebased-det : det S B′ ≡ (h .change .α ⊠ h .change .δ ⊞ ⊟ (h .change .β ⊠ h .change .γ)) ⊠ det S B
-    rebased-det =
-        ap₂ (λ s t. s ⊠ B′ .N .c ⊞ ⊟ (t ⊠ B′ .N .b)) (h .change .m-b) (h .change .m-c) ∙ ap₂ (λ s t. (h .change .α ⊠ B .M .b ⊞ h .change .β ⊠ B .N .b) ⊠ s ⊞ ⊟ ((h .change .α ⊠ B .M .c ⊞ h .change .β ⊠ B .N .c) ⊠ t)) (h .change .n-c) (h .change .n-b)
-        ∙ solve R ((var 0 :* var 4 :+ var 1 :* var 6) :* (var 2 :* var 5 :+ var 3 :* var 7) :+ minus ((var 0 :* var 5 :+ var 1 :* var 7) :* (var 2 :* var 4 :+ var 3 :* var 6)))
-        ((var 0 :* var 3 :+ minus (var 1 :* var 2)) :* (var 4 :* var 7 :+ minus (var 5 :* var 6))) tt (h .change .α ∷ h .change .β ∷ h .change .γ ∷ h .change .δ ∷ B .M .b ∷ B .M .c ∷ B .N .b ∷ B .N .c ∷ [])
+    rebased-det = changed-det 𝓥 (h .change)
 
     -- the pairs have no common factor, so the seven have none
     pub rebased-alone : Alone 𝓥 (pair (B .M)) (pair (B .N)) → NoFactor S B′

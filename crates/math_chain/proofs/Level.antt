@@ -18,14 +18,15 @@ use Rattle.math_valued.specs.Polynomial.{polys, Divides, IsUnit}
 use Rattle.math_valued.proofs.Degree as d
 use Rattle.math_valued.proofs.Compare.{lt-unscale, has-scale}
 use Rattle.math_valued.proofs.Polynomial.{P-path, view, const-unit, divide}
-use Rattle.math_ideals.specs.Setting.{Setting, P}
+use Rattle.math_ideals.specs.Setting.{Roots, Setting, P}
 use Rattle.math_ideals.specs.Element.{O, X, Z}
 use Rattle.math_ideals.proofs.Form.{has-two}
 use Rattle.math_ideals.proofs.Norm.{YZ-lt}
 use Rattle.math_chain.proofs.Frame.{off}
 
 module _ (S : Setting) where
-  open Setting S using (𝓥, r, w)
+  open Setting S using (𝓥)
+  open Roots (S .roots) using (r, w)
   open Valued 𝓥 using (K, L, Lead)
   open Ops (L .ops) using (add as _+_, mul as _*_, neg as -_, 𝟎, 𝟏)
   open Ops (polys 𝓥 .ops) using (add as _⊞_, mul as _⊠_, neg as ⊟_, 𝟎 as 0ₚ, 𝟏 as 1ₚ)

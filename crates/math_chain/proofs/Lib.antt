@@ -1,7 +1,6 @@
 pub mod Parts
 pub mod Room
 pub mod Changed
-pub mod Moved
 pub mod Frame
 pub mod Level
 pub mod Correct

@@ -21,7 +21,7 @@ use Rattle.math_valued.specs.Polynomial.{polys, IsUnit}
 use Rattle.math_valued.proofs.Degree as d
 use Rattle.math_valued.proofs.Compare.{lt-unscale, lt-mul-sharp}
 use Rattle.math_valued.proofs.Polynomial.{degree}
-use Rattle.math_ideals.specs.Setting.{Setting, P}
+use Rattle.math_ideals.specs.Setting.{Roots, Setting, P}
 use Rattle.math_ideals.specs.Element.{O, sc, el-r, el-w, ev}
 use Rattle.math_ideals.specs.Ideal.{Basis}
 use Rattle.math_ideals.specs.Basis.{Good}
@@ -43,7 +43,8 @@ abbrev tripleE : Tri Expr
 tripleE = scE (var 2) :⊗ triE (var 5) (var 6) (var 7) :⊕ scE (var 3) :⊗ triE (var 8) (var 9) (var 10) :⊕ scE (var 4) :⊗ triE (var 11) (var 12) (var 13)
 
 module _ (S : Setting) where
-  open Setting S using (𝓥, G, H, r, w)
+  open Setting S using (𝓥)
+  open Roots (S .roots) using (G, H, r, w)
   open Valued 𝓥 using (K, L, Lead)
   open Ops (polys 𝓥 .ops) using (add as _⊞_, mul as _⊠_, neg as ⊟_, 𝟎 as 0ₚ, 𝟏 as 1ₚ)
   open Ops (O S .ops) using (add as _⊕_, mul as _⊗_, 𝟏 as 1ₒ)

@@ -5,11 +5,12 @@
 --   reduce        there is a change to pairs of that shape
 -- First deg Y(m) is brought below u, then deg X(m) is lowered until deg Y(n) is at least u. While it is not, deg X(m) exceeds the degree
 -- of the determinant less u, so this ends.
-use mathlib.Core.Path.{_≡_, refl, sym, ap, _∙_}
+use mathlib.Core.Path.{_≡_, refl, sym, ap}
 use mathlib.Core.List.{[], _∷_}
 use mathlib.Core.Logic.{_≢_, _⊎_, inl, inr}
 use Prim.Native.Nat.{ℕ, zero, suc, _≤_, _<_, _+_ as _+ⁿ_}
 use native.Mathlib.Omega.{arith}
+use Rattle.math_ring.proofs.Laws as rg
 use Rattle.math_ring.specs.Ring.{Ops, CRing}
 use Rattle.math_ring.proofs.Solve.{var, one, zer, minus, _:+_, _:*_, _:=_, solve, ring₁}
 use Rattle.math_valued.specs.Val.{Valued}
@@ -18,17 +19,18 @@ use Rattle.math_valued.specs.Polynomial.{polys}
 use Rattle.math_valued.proofs.Degree as d
 use Rattle.math_valued.proofs.Compare.{has-scale}
 use Rattle.math_valued.proofs.Polynomial.{degree, divide, not-zero, unit-const}
-use Rattle.math_ideals.specs.Setting.{Setting, P, dGH}
+use Rattle.math_ideals.specs.Setting.{Roots, Setting, P, dGH}
 use Rattle.math_ideals.specs.Element.{O, X, Y}
 use Rattle.math_ideals.specs.Ideal.{Basis, det}
 use Rattle.math_ideals.proofs.Sizes.{X-Y-det}
 use Rattle.math_ideals.proofs.Form.{has-two}
 use Rattle.math_ideals.proofs.Bound.{X-deg}
 use Rattle.math_ideals.proofs.Norm.{X-lt, YZ-lt, M-not}
-use Rattle.math_chain.proofs.Changed.{Pair, Changed, changed-start, changed-then}
+use Rattle.math_chain.proofs.Changed.{Pair, Changed, changed-start, changed-swap, changed-mix, changed-then, changed-det}
 
 module _ (S : Setting) where
-  open Setting S using (𝓥, G, H, r, w)
+  open Setting S using (𝓥)
+  open Roots (S .roots) using (G, H, r, w)
   open Valued 𝓥 using (K, L, Lead)
   open Ops (L .ops) using (add as _+_, mul as _*_, neg as -_, 𝟎, 𝟏)
   open Ops (K .ops) using (𝟎 as 0ᵏ)
@@ -52,45 +54,16 @@ module _ (S : Setting) where
 
   -- ---- moves
   swap : (m n : Pair 𝓥) → Changed 𝓥 m n n m
-  swap m n = record {
-    α = 0ₚ;
-    β = 1ₚ;
-    γ = 1ₚ;
-    δ = 0ₚ;
-    unit = (⊟ 1ₚ, solve R one ((zer :* zer :+ minus (one :* one)) :* minus one) tt []);
-    m-b = second (m .b) (n .b);
-    m-c = second (m .c) (n .c);
-    n-b = first (m .b) (n .b);
-    n-c = first (m .c) (n .c);
-  }
-    where
-      first : (x y : P S) → x ≡ 1ₚ ⊠ x ⊞ 0ₚ ⊠ y
-      first x y = solve R (var 0) (one :* var 0 :+ zer :* var 1) tt (x ∷ y ∷ [])
-
-      second : (x y : P S) → y ≡ 0ₚ ⊠ x ⊞ 1ₚ ⊠ y
-      second x y = solve R (var 1) (zer :* var 0 :+ one :* var 1) tt (x ∷ y ∷ [])
+  swap m n = changed-swap 𝓥 (changed-start 𝓥 m n)
 
   abbrev plus : P S → Pair 𝓥 → Pair 𝓥 → Pair 𝓥
   plus c m n = record { b = n .b ⊞ c ⊠ m .b; c = n .c ⊞ c ⊠ m .c }
 
   shear : (c : P S) (m n : Pair 𝓥) → Changed 𝓥 m n m (plus c m n)
-  shear c m n = record {
-    α = 1ₚ;
-    β = 0ₚ;
-    γ = c;
-    δ = 1ₚ;
-    unit = (1ₚ, solve R one ((one :* one :+ minus (zer :* var 0)) :* one) tt (c ∷ []));
-    m-b = first (m .b) (n .b);
-    m-c = first (m .c) (n .c);
-    n-b = second (m .b) (n .b);
-    n-c = second (m .c) (n .c);
-  }
+  shear c m n = changed-swap 𝓥 (changed-then 𝓥 (swap m n) (changed-mix 𝓥 1ₚ c (1ₚ, sym (R .laws .mul-one 1ₚ)) {m = n} {n = m} {m′ = plus c m n} (one-more (m .b) (n .b)) (one-more (m .c) (n .c))))
     where
-      first : (x y : P S) → x ≡ 1ₚ ⊠ x ⊞ 0ₚ ⊠ y
-      first x y = solve R (var 0) (one :* var 0 :+ zer :* var 1) tt (x ∷ y ∷ [])
-
-      second : (x y : P S) → y ⊞ c ⊠ x ≡ c ⊠ x ⊞ 1ₚ ⊠ y
-      second x y = solve R (var 1 :+ var 2 :* var 0) (var 2 :* var 0 :+ one :* var 1) tt (x ∷ y ∷ c ∷ [])
+      one-more : (x y : P S) → y ⊞ c ⊠ x ≡ 1ₚ ⊠ y ⊞ c ⊠ x
+      one-more x y = ap (λ z. z ⊞ c ⊠ x) (sym (rg.one-mul R y))
 
   X-plus : (c : P S) (m n : Pair 𝓥) → X S (el (plus c m n)) ≡ X S (el n) + c .0 * X S (el m)
   X-plus c m n = solve L ((var 1 :+ var 4 :* var 0) :* var 5 :+ (var 3 :+ var 4 :* var 2) :* var 6) (var 1 :* var 5 :+ var 3 :* var 6 :+ var 4 :* (var 0 :* var 5 :+ var 2 :* var 6)) tt
@@ -101,17 +74,8 @@ module _ (S : Setting) where
       (m .b .0 ∷ n .b .0 ∷ m .c .0 ∷ n .c .0 ∷ c .0 ∷ r ∷ w ∷ [])
 
   -- a change keeps the degree of the determinant
-  changed-det : {ε : ℕ} {m n m′ n′ : Pair 𝓥} → Changed 𝓥 m n m′ n′ → Has 𝓥 (det₂ m n .0) ε → Has 𝓥 (det₂ m′ n′ .0) ε
-  changed-det {m = m} {n} {m′} {n′} h g = d.has-eq 𝓥 (has-scale 𝓥 (unit-const 𝓥 _ (h .unit)) g) (ap (λ z. z .0) (sym (
-      ap (λ z. z .b ⊠ n′ .c ⊞ ⊟ (z .c ⊠ n′ .b)) mm ∙ ap (λ z. (h .α ⊠ m .b ⊞ h .β ⊠ n .b) ⊠ z .c ⊞ ⊟ ((h .α ⊠ m .c ⊞ h .β ⊠ n .c) ⊠ z .b)) nn
-      ∙ solve R ((var 0 :* var 4 :+ var 1 :* var 6) :* (var 2 :* var 5 :+ var 3 :* var 7) :+ minus ((var 0 :* var 5 :+ var 1 :* var 7) :* (var 2 :* var 4 :+ var 3 :* var 6)))
-      ((var 0 :* var 3 :+ minus (var 1 :* var 2)) :* (var 4 :* var 7 :+ minus (var 5 :* var 6))) tt (h .α ∷ h .β ∷ h .γ ∷ h .δ ∷ m .b ∷ m .c ∷ n .b ∷ n .c ∷ []))))
-    where
-      mm : m′ ≡ record { b = h .α ⊠ m .b ⊞ h .β ⊠ n .b; c = h .α ⊠ m .c ⊞ h .β ⊠ n .c }
-      mm = λ i. record { b = h .m-b i; c = h .m-c i }
-
-      nn : n′ ≡ record { b = h .γ ⊠ m .b ⊞ h .δ ⊠ n .b; c = h .γ ⊠ m .c ⊞ h .δ ⊠ n .c }
-      nn = λ i. record { b = h .n-b i; c = h .n-c i }
+  det-kept : {ε : ℕ} {m n m′ n′ : Pair 𝓥} → Changed 𝓥 m n m′ n′ → Has 𝓥 (det₂ m n .0) ε → Has 𝓥 (det₂ m′ n′ .0) ε
+  det-kept h g = d.has-eq 𝓥 (has-scale 𝓥 (unit-const 𝓥 _ (h .unit)) g) (ap (λ z. z .0) (sym (changed-det 𝓥 h)))
 
   -- ---- first: deg Y(m) below u
   low : (u k : ℕ) (m n : Pair 𝓥) → Lt 𝓥 (Y S (el m)) (k +ⁿ u) → (m′ n′ : Pair 𝓥) × Changed 𝓥 m n m′ n′ × Lt 𝓥 (Y S (el m′)) u
@@ -145,7 +109,7 @@ module _ (S : Setting) where
   -- m and n with both Y below u and X(n) below X(m): the determinant has degree below deg X(m) + u
   both-low : {u ε p q : ℕ} {a : K .El} (m n : Pair 𝓥) → Has 𝓥 (det₂ m n .0) ε → Lt 𝓥 (Y S (el m)) u → Lt 𝓥 (Y S (el n)) u → Lead (X S (el m)) p q a → Lead (X S (el n)) p q 0ᵏ → ε +ⁿ dGH S +ⁿ q < p +ⁿ u
   both-low {u} {ε} {p} {q} {a} m n hε hm hn hX hX′ =
-      let D : HasDeg 𝓥 (- ((𝟏 + 𝟏) * (det₂ m n .0 * (G .0 * H .0)))) (ε +ⁿ dGH S) 0 = d.has-neg 𝓥 (has-scale 𝓥 (has-two S) (d.has-mul 𝓥 hε (d.has-mul 𝓥 (S .G-deg) (S .H-deg)))) in
+      let D : HasDeg 𝓥 (- ((𝟏 + 𝟏) * (det₂ m n .0 * (G .0 * H .0)))) (ε +ⁿ dGH S) 0 = d.has-neg 𝓥 (has-scale 𝓥 (has-two S) (d.has-mul 𝓥 hε (d.has-mul 𝓥 (S .roots .G-deg) (S .roots .H-deg)))) in
       let D′ : Lead (- ((𝟏 + 𝟏) * (det₂ m n .0 * (G .0 * H .0)))) (p +ⁿ u) (q +ⁿ 0) 0ᵏ =
       d.lead-eq 𝓥 (𝓥 .lead-add (𝓥 .lead-mul hX hn) (𝓥 .lead-neg (𝓥 .lead-mul hX′ hm))) (X-Y-det S (flat m n)) (ring₁ K (λ a. a :* zer :+ minus (zer :* zer) := zer) tt a) in
       omega (arith, d.has-above 𝓥 D D′)
@@ -167,16 +131,16 @@ module _ (S : Setting) where
       go i c hX′ (inr h) =
           let n′ : Pair 𝓥 = plus c m n in
           let turned : Changed 𝓥 m n n′ m = changed-then 𝓥 (shear c m n) (swap m n′) in
-          let hε′ : Has 𝓥 (det₂ n′ m .0) ε = changed-det turned hε in
+          let hε′ : Has 𝓥 (det₂ n′ m .0) ε = det-kept turned hε in
           let (p″, q″, hX″) = X-deg S (el n′) (M-not S (flat n′ m) (not-zero 𝓥 hε′)) in
-          inr (n′, m, turned, h, p″, q″, hX″, d.has-above 𝓥 hX″ hX′, both-low m n′ (changed-det (shear c m n) hε) hY h (hX .2) hX′)
+          inr (n′, m, turned, h, p″, q″, hX″, d.has-above 𝓥 hX″ hX′, both-low m n′ (det-kept (shear c m n) hε) hY h (hX .2) hX′)
 
   fall : {u ε p q : ℕ} (k : ℕ) (m n : Pair 𝓥) → Has 𝓥 (det₂ m n .0) ε → Lt 𝓥 (Y S (el m)) u → HasDeg 𝓥 (X S (el m)) p q → p +ⁿ u ≤ ε +ⁿ dGH S +ⁿ q +ⁿ k → (m′ n′ : Pair 𝓥) × Changed 𝓥 m n m′ n′ × Shape u m′ n′
   fall zero m n hε hY hX room = elim (one-turn m n hε hY hX) [ inl done ↦ done | inr (m′, n′, c, hY′, p″, q″, hX′, less, over) ↦ absurd (omega arith) ]
   fall (suc k) m n hε hY hX room = elim (one-turn m n hε hY hX) [
     | inl done ↦ done
     | inr (m′, n′, c, hY′, p″, q″, hX′, less, over) ↦
-        let (m″, n″, c′, sh) = fall k m′ n′ (changed-det c hε) hY′ hX′ (omega arith) in
+        let (m″, n″, c′, sh) = fall k m′ n′ (det-kept c hε) hY′ hX′ (omega arith) in
         (m″, n″, changed-then 𝓥 c c′, sh)
   ]
 
@@ -185,7 +149,7 @@ module _ (S : Setting) where
       let (ε, hε) = degree 𝓥 (det₂ m n) rank in
       let (j, hy, hz) = YZ-lt S (el m) in
       let (m₁, n₁, c₁, hY) = low u j m n (d.lt-up 𝓥 (j +ⁿ u) hy (omega arith)) in
-      let hε₁ : Has 𝓥 (det₂ m₁ n₁ .0) ε = changed-det c₁ hε in
+      let hε₁ : Has 𝓥 (det₂ m₁ n₁ .0) ε = det-kept c₁ hε in
       let (p, q, hX) = X-deg S (el m₁) (M-not S (flat m₁ n₁) (not-zero 𝓥 hε₁)) in
       let (m₂, n₂, c₂, sh) = fall (p +ⁿ u) m₁ n₁ hε₁ hY hX (omega arith) in
       (m₂, n₂, changed-then 𝓥 c₁ c₂, sh)

@@ -17,7 +17,7 @@ use Rattle.math_valued.specs.Polynomial.{polys}
 use Rattle.math_valued.proofs.Degree as d
 use Rattle.math_valued.proofs.Compare.{has-scale, lt-scale, lt-unscale}
 use Rattle.math_valued.proofs.Polynomial.{degree, factor, not-zero}
-use Rattle.math_ideals.specs.Setting.{Setting, P, dGH}
+use Rattle.math_ideals.specs.Setting.{Roots, Setting, P, dGH}
 use Rattle.math_ideals.specs.Element.{O, sc, ev, X, Y, norm}
 use Rattle.math_ideals.specs.Ideal.{Basis, det}
 use Rattle.math_ideals.specs.Basis.{Good}
@@ -27,10 +27,12 @@ use Rattle.math_ideals.proofs.Form.{form-has, form-below, has-two, has-three}
 use Rattle.math_ideals.proofs.Norm.{F, F-deg, F-mul, Q-deg, M-not, Below, below-of}
 use Rattle.math_ideals.proofs.Degrees.{Small, small}
 use Rattle.math_ideals.proofs.Divided.{ev-M}
-use Rattle.math_chain.proofs.Parts.{Parts, Cut, dd, base, d-norm, base-d, base-det, base-M, base-N}
+use Rattle.math_chain.specs.Parts.{Parts, Cut, dd, base}
+use Rattle.math_chain.proofs.Parts.{d-norm, base-d, base-det, base-M, base-N}
 
 module _ (S : Setting) where
-  open Setting S using (𝓥, G, H, r, w)
+  open Setting S using (𝓥)
+  open Roots (S .roots) using (G, H, r, w)
   open Valued 𝓥 using (K, L, Lead)
   open Ops (L .ops) using (add as _+_, mul as _*_, neg as -_, 𝟎, 𝟏)
   open Ops (polys 𝓥 .ops) using (mul as _⊠_)
@@ -131,5 +133,5 @@ module _ (S : Setting) where
             P-below = below-of S (B₀ .M) (suc a) (𝓥 .lead-up (suc a +ⁿ suc a) 0 (FP .2) (omega arith)) (𝓥 .lead-up (suc a) 0 (evP .2) (omega arith));
             Q-below = below-of S (B₀ .N) (suc b) (𝓥 .lead-up (suc b +ⁿ suc b) 0 (FQ .2) (omega arith)) (d.lt-up 𝓥 (suc b) evQ (omega arith));
             rank = rank₀;
-            det-has = d.has-move 𝓥 _ 0 (d.has-eq 𝓥 (d.has-neg 𝓥 (has-scale 𝓥 (has-two S) (d.has-mul 𝓥 hε (d.has-mul 𝓥 (S .G-deg) (S .H-deg))))) (sym (X-Y-det S B₀))) (omega arith);
+            det-has = d.has-move 𝓥 _ 0 (d.has-eq 𝓥 (d.has-neg 𝓥 (has-scale 𝓥 (has-two S) (d.has-mul 𝓥 hε (d.has-mul 𝓥 (S .roots .G-deg) (S .roots .H-deg))))) (sym (X-Y-det S B₀))) (omega arith);
           }

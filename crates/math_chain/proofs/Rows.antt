@@ -1,5 +1,4 @@
 -- How long the rows of the unit, of its inverse, and of the products on the way are.
---   Fit c v        the three rows of v fit c coefficients
 --   unit-rows      deg E = n = 2h: rows of E have degree at most n, rows of F at most h
 --   unit-fits      so c coefficients hold all six rows exactly where c ≥ n + 1
 --   product-rows   the product of the m passed: rows of degree at most its degree n, and E0 of degree n
@@ -21,7 +20,7 @@ use Rattle.math_valued.specs.Polynomial.{polys}
 use Rattle.math_valued.proofs.Degree as d
 use Rattle.math_valued.proofs.Compare.{lt-unscale, has-unscale}
 use Rattle.math_valued.proofs.Polynomial.{degree, unit-const, not-zero}
-use Rattle.math_ideals.specs.Setting.{Setting}
+use Rattle.math_ideals.specs.Setting.{Roots, Setting}
 use Rattle.math_ideals.specs.Element.{O, sc, ev, norm}
 use Rattle.math_ideals.specs.Ideal.{Basis, det}
 use Rattle.math_ideals.specs.Next.{Start}
@@ -32,13 +31,14 @@ use Rattle.math_ideals.proofs.Lattice.{in-M, in-N}
 use Rattle.math_ideals.proofs.Norm.{F, F-deg, YZ-of, Below, below-of}
 use Rattle.math_ideals.proofs.Degrees.{Small, small, lt-off}
 use Rattle.math_chain.specs.Chain.{Chain}
-use Rattle.math_chain.specs.Unit.{UnitOf}
+use Rattle.math_chain.specs.Unit.{Fit, UnitOf}
 use Rattle.math_chain.proofs.Walk.{chain-good}
 use Rattle.math_chain.proofs.Passed.{Passed, passed, rows, spans}
 use Rattle.math_chain.proofs.Unit.{large, Q-F, inverse-has, closing-pos, unit-degree}
 
 module _ (S : Setting) where
-  open Setting S using (𝓥, G, H, r, w)
+  open Setting S using (𝓥)
+  open Roots (S .roots) using (G, H, r, w)
   open Valued 𝓥 using (K, L, Lead)
   open Ops (L .ops) using (add as _+_, mul as _*_, neg as -_, 𝟎, 𝟏)
   open Ops (polys 𝓥 .ops) using (mul as _⊠_)
@@ -50,29 +50,24 @@ module _ (S : Setting) where
   abbrev R : CRing
   R = polys 𝓥
 
-  pub record Fit (c : ℕ) (v : O S .El) : Type 0 where
-    pub a-lt : Lt 𝓥 (v .a .0) c
-    pub b-lt : Lt 𝓥 (v .b .0) c
-    pub c-lt : Lt 𝓥 (v .c .0) c
-
-  pub fit-below : (v : O S .El) (m : ℕ) → Below S v m → Fit m v
+  pub fit-below : (v : O S .El) (m : ℕ) → Below S v m → Fit S m v
   fit-below v m b = record {
     a-lt = lt-unscale 𝓥 (has-two S) (d.lt-eq 𝓥 (d.lt-add 𝓥 (b .X-lt) (b .Z-lt)) (two-a S v));
-    b-lt = lt-off S (S .r-deg) (lt-unscale 𝓥 (has-two S) (d.lt-eq 𝓥 (d.lt-add 𝓥 (b .X-lt) (b .Y-lt)) (two-b S v)));
-    c-lt = lt-off S (S .w-deg) (lt-unscale 𝓥 (has-two S) (d.lt-eq 𝓥 (d.lt-add 𝓥 (b .X-lt) (d.lt-neg 𝓥 (b .Y-lt))) (two-c S v)));
+    b-lt = lt-off S (S .roots .r-deg) (lt-unscale 𝓥 (has-two S) (d.lt-eq 𝓥 (d.lt-add 𝓥 (b .X-lt) (b .Y-lt)) (two-b S v)));
+    c-lt = lt-off S (S .roots .w-deg) (lt-unscale 𝓥 (has-two S) (d.lt-eq 𝓥 (d.lt-add 𝓥 (b .X-lt) (d.lt-neg 𝓥 (b .Y-lt))) (two-c S v)));
   }
 
-  pub fit-up : {m : ℕ} (n : ℕ) (v : O S .El) → m ≤ n → Fit m v → Fit n v
+  pub fit-up : {m : ℕ} (n : ℕ) (v : O S .El) → m ≤ n → Fit S m v → Fit S n v
   fit-up n v l f = record { a-lt = d.lt-up 𝓥 n (f .a-lt) l; b-lt = d.lt-up 𝓥 n (f .b-lt) l; c-lt = d.lt-up 𝓥 n (f .c-lt) l }
 
-  pub unit-rows : (E F : O S .El) (n h : ℕ) → E ⊗ F ≡ 1ₒ → Has 𝓥 (ev S E) n → 1 ≤ n → n ≡ h +ⁿ h → Fit (suc n) E × Fit (suc h) F
+  pub unit-rows : (E F : O S .El) (n h : ℕ) → E ⊗ F ≡ 1ₒ → Has 𝓥 (ev S E) n → 1 ≤ n → n ≡ h +ⁿ h → Fit S (suc n) E × Fit S (suc h) F
   unit-rows E F′ n h inverse hE l e =
       let (y, z, a) = large S E F′ inverse hE l in (
         fit-below E (suc n) (below-of S E (suc n) (d.lt-up 𝓥 (suc n +ⁿ suc n) (form-below S y z) (omega arith)) (d.has-up 𝓥 (suc n) hE (omega arith))),
         fit-below F′ (suc h) (below-of S F′ (suc h) (𝓥 .lead-up (suc h +ⁿ suc h) 0 (F-deg S F′ (Q-F S E F′ inverse hE) .2) (omega arith)) (𝓥 .lead-up (suc h) 0 (inverse-has S E F′ inverse hE .2) (omega arith))),
       )
 
-  pub unit-fits : (B₀ : Basis S) → Start S B₀ → {l n : ℕ} {E F : O S .El} → UnitOf S B₀ l n E F → (c : ℕ) → (n < c → Fit c E × Fit c F) × (Fit c E → n < c)
+  pub unit-fits : (B₀ : Basis S) → Start S B₀ → {l n : ℕ} {E F : O S .El} → UnitOf S B₀ l n E F → (c : ℕ) → (n < c → Fit S c E × Fit S c F) × (Fit S c E → n < c)
   unit-fits B₀ st {n = n} {E = E} {F = F′} u c =
       let (hE, hA, h, e) = unit-degree S B₀ st u in
       let (fE, fF) = unit-rows E F′ n h (u .inverse) hE (closing-pos S B₀ st (u .closing)) e in (
@@ -81,7 +76,7 @@ module _ (S : Setting) where
       )
 
   -- ---- the products on the way
-  pub product-rows : (B₀ : Basis S) (st : Start S B₀) {s n : ℕ} {B : Basis S} (c : Chain S B₀ s n B) → Fit (suc n) (passed S B₀ st c .E) × (1 ≤ s → Has 𝓥 (passed S B₀ st c .E .a .0) n)
+  pub product-rows : (B₀ : Basis S) (st : Start S B₀) {s n : ℕ} {B : Basis S} (c : Chain S B₀ s n B) → Fit S (suc n) (passed S B₀ st c .E) × (1 ≤ s → Has 𝓥 (passed S B₀ st c .E .a .0) n)
   product-rows B₀ st {n = n} c =
       let p : Passed S c = passed S B₀ st c in (
         fit-below (p .E) (suc n) (below-of S (p .E) (suc n) (d.lt-up 𝓥 (suc n +ⁿ suc n) (p .low) (omega arith)) (d.has-up 𝓥 (suc n) (p .E-deg) (omega arith))),

@@ -22,7 +22,7 @@ use Rattle.math_valued.specs.Polynomial.{polys, IsUnit}
 use Rattle.math_valued.proofs.Degree as d
 use Rattle.math_valued.proofs.Compare.{has-scale, has-unscale, leads-mul, leads-unique}
 use Rattle.math_valued.proofs.Polynomial.{view, unit-of, unit-const, const-path, not-zero}
-use Rattle.math_ideals.specs.Setting.{Setting, P}
+use Rattle.math_ideals.specs.Setting.{Roots, Setting, P}
 use Rattle.math_ideals.specs.Element.{O, sc, ev, Y, Z, norm, cof}
 use Rattle.math_ideals.specs.Ideal.{Basis}
 use Rattle.math_ideals.specs.Next.{Start}
@@ -37,7 +37,8 @@ use Rattle.math_chain.proofs.Walk.{same-products, closing-unique, chain
 use Rattle.math_chain.proofs.Passed.{Passed, passed, bottoms-deg, product-unique, product-scaled}
 
 module _ (S : Setting) where
-  open Setting S using (𝓥, G, H, r, w)
+  open Setting S using (𝓥)
+  open Roots (S .roots) using (G, H, r, w)
   open Valued 𝓥 using (K, L, Lead)
   open Ops (L .ops) using (add as _+_, mul as _*_, neg as -_, 𝟎, 𝟏)
   open Ops (K .ops) using (mul as _*ᵏ_, 𝟎 as 0ᵏ, 𝟏 as 1ᵏ)

@@ -1,4 +1,5 @@
 -- The unit (document 01: "Unit").
+--   Fit c v             the three rows of v fit c coefficients
 --   Invertible η        η is a unit of the order: it has an inverse in the order
 --   UnitOf B₀ l d E F   B₀ is the basis of the order, from which the chain closes after l steps with degree sum d; E is the product of the
 --                       m passed, scaled so that E0 is monic, and F its inverse
@@ -7,7 +8,7 @@
 use mathlib.Core.Path.{_≡_}
 use Prim.Native.Nat.{ℕ}
 use Rattle.math_ring.specs.Ring.{Ops}
-use Rattle.math_valued.specs.Degree.{Leads}
+use Rattle.math_valued.specs.Degree.{Leads, Lt}
 use Rattle.math_valued.specs.Polynomial.{IsUnit}
 use Rattle.math_ideals.specs.Setting.{Setting, P}
 use Rattle.math_ideals.specs.Element.{O, sc}
@@ -20,6 +21,11 @@ module _ (S : Setting) where
   open Ops (O S .ops) using (mul as _⊗_, 𝟏 as 1ₒ)
 
   infixl 70 _⊗_
+  pub record Fit (c : ℕ) (v : O S .El) : Type 0 where
+    pub a-lt : Lt 𝓥 (v .a .0) c
+    pub b-lt : Lt 𝓥 (v .b .0) c
+    pub c-lt : Lt 𝓥 (v .c .0) c
+
   abbrev pub Invertible : O S .El → Type 0
   Invertible η = (θ : O S .El) × (η ⊗ θ ≡ 1ₒ)
 

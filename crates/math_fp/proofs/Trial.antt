@@ -1,6 +1,6 @@
 -- Primality by trial division.
 --   prime           p is prime where the computed test `isPrime p s` says so: no d from 2 to s + 1 divides p, and p < (s + 2)²
---   primeb          the definition of `Prime` as a test: `primeb-sound`, `primeb-make`
+--   primeb-sound, primeb-make   so it is where, and only where, the definition as a test says so
 --   only-step       what is below (s + 2)² and has a divisor has one below s + 2
 --   prime-divisor   every number above 1 has a prime divisor
 use mathlib.Core.Path.{_≡_, sym, ap, _∙_, subst}
@@ -12,13 +12,7 @@ use native.Mathlib.Omega.{arith}
 use native.Mathlib.Decide.{decLt, ℕ-discrete}
 use lib.Dec.{T, eqb, ltb, ltb→lt, lt→ltb, eqb→eq, eqb-refl, T-not, not-T}
 use Rattle.math_fp.specs.Fp.{Prime}
-
-abbrev pub noDiv : ℕ → ℕ → Bool
-noDiv p zero = true
-noDiv p (suc k) = not (eqb (p % (k + 2)) 0) && noDiv p k
-
-abbrev pub isPrime : ℕ → ℕ → Bool
-isPrime p s = ltb 1 p && ltb p ((s + 2) * (s + 2)) && noDiv p s
+use Rattle.math_fp.specs.Trial.{noDiv, primeb, isPrime}
 
 pub and-l : (a b : Bool) → T (a && b) → T a
 and-l true b t = tt
@@ -77,10 +71,6 @@ prime p s t = record {
       (λ e i j k. noDiv-sound p s (and-r (ltb 1 p && ltb p ((s + 2) * (s + 2))) (noDiv p s) t) e i j)
       d h l z (decLt d (s + 2)) (decLt (p / d) (s + 2));
 }
-
--- ---- the definition as a test
-unfoldable pub primeb : ℕ → Bool
-primeb p = ltb 1 p && noDiv p (p - 2)
 
 and-make : (a b : Bool) → T a → T b → T (a && b)
 and-make true b s t = t

@@ -7,7 +7,7 @@
 --   third p    (2 p − 1)/3, the exponent of the cube root where p mod 3 = 2
 -- In proofs/: Ring (`ring p`, the laws of a commutative ring for every p > 0), Field (`Fld p` and `field p` at a prime: inverses,
 -- no zero divisors), Fermat (x^p = x, and x^(p − 1) = 1 for x ≠ 0), Cube (cubing is a bijection where p mod 3 = 2, 2 and 3 have inverses,
--- z² + z + 1 ≠ 0, the two forms that are 0 only at 0), Value (all of it read at numbers), Trial (a computed test of primality).
+-- z² + z + 1 ≠ 0, the two forms that are 0 only at 0), Value (all of it read at numbers), Trial (computed tests of primality, specs/Trial).
 use mathlib.Core.Logic.{_≢_}
 use Prim.Native.Nat.{ℕ, _+_, _*_, _-_, _/_, _%_, _^_, _<_}
 use native.Mathlib.Nat.{mod-lt}

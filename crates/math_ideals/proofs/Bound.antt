@@ -21,13 +21,14 @@ use Rattle.math_valued.specs.Degree.{HasDeg, Has}
 use Rattle.math_valued.specs.Polynomial.{polys, Divides, Squarefree}
 use Rattle.math_valued.proofs.Polynomial.{P-path, view, degree, factor}
 use Rattle.math_valued.proofs.Divide.{Bez, bez-sym, coprime-bez, euclid, cube-divides, p-cancel}
-use Rattle.math_ideals.specs.Setting.{Setting, P, dGH}
+use Rattle.math_ideals.specs.Setting.{Roots, Setting, P, dGH}
 use Rattle.math_ideals.specs.Element.{O, X, Y}
 use Rattle.math_ideals.proofs.Values.{X-form}
 use Rattle.math_ideals.proofs.Form.{form′-has}
 
 module _ (S : Setting) where
-  open Setting S using (𝓥, G, H, r, w)
+  open Setting S using (𝓥)
+  open Roots (S .roots) using (G, H, r, w)
   open Valued 𝓥 using (K, L, Lead)
   open Ops (L .ops) using (add as _+_, mul as _*_, neg as -_, 𝟎, 𝟏)
   open Ops (K .ops) using (add as _+ᵏ_, mul as _*ᵏ_, neg as -ᵏ_, 𝟎 as 0ᵏ, 𝟏 as 1ᵏ)
@@ -44,7 +45,7 @@ module _ (S : Setting) where
 
   -- ---- b³ H + c³ G is not 0, by descent
   bez : Bez 𝓥 G H
-  bez = coprime-bez 𝓥 G H (S .coprime)
+  bez = coprime-bez 𝓥 G H (S .roots .coprime)
 
   -- s x³ + t y³ = 0 with g | t and s made of factors h prime to g: g | x
   take : {n : ℕ} (g h x z : P S) → Has 𝓥 (g .0) n → Squarefree 𝓥 g → Bez 𝓥 g h → cube x ⊠ h ⊞ g ⊠ z ≡ 0ₚ → Divides 𝓥 g x
@@ -61,7 +62,7 @@ module _ (S : Setting) where
   GH = G ⊠ H
 
   GH-deg : Has 𝓥 (GH .0) (dGH S)
-  GH-deg = d.has-mul 𝓥 (S .G-deg) (S .H-deg)
+  GH-deg = d.has-mul 𝓥 (S .roots .G-deg) (S .roots .H-deg)
 
   abbrev cubeE : Expr → Expr
   cubeE x = x :* x :* x
@@ -69,8 +70,8 @@ module _ (S : Setting) where
   -- One descent: b = G H b″ and c = G H c″ with the same equation.
   down : (b c : P S) → cube b ⊠ H ⊞ cube c ⊠ G ≡ 0ₚ → (b″ c″ : P S) × (b ≡ GH ⊠ b″) × (cube b″ ⊠ H ⊞ cube c″ ⊠ G ≡ 0ₚ)
   down b c e = first
-      (take G H b (cube c) (S .G-deg) (S .G-free) bez (ring₄ R (λ x h y g. x :* h :+ g :* y := x :* h :+ y :* g) tt (cube b) H (cube c) G ∙ e))
-      (take H G c (cube b) (S .H-deg) (S .H-free) (bez-sym 𝓥 G H bez) (ring₄ R (λ x h y g. y :* g :+ h :* x := x :* h :+ y :* g) tt (cube b) H (cube c) G ∙ e))
+      (take G H b (cube c) (S .roots .G-deg) (S .roots .G-free) bez (ring₄ R (λ x h y g. x :* h :+ g :* y := x :* h :+ y :* g) tt (cube b) H (cube c) G ∙ e))
+      (take H G c (cube b) (S .roots .H-deg) (S .roots .H-free) (bez-sym 𝓥 G H bez) (ring₄ R (λ x h y g. y :* g :+ h :* x := x :* h :+ y :* g) tt (cube b) H (cube c) G ∙ e))
     where
       second : (b′ c′ : P S) → b ≡ G ⊠ b′ → cube b′ ⊠ (G ⊠ G) ⊞ cube c′ ⊠ (H ⊠ H) ≡ 0ₚ → Divides 𝓥 H b′ → Divides 𝓥 G c′ → (b″ c″ : P S) × (b ≡ GH ⊠ b″) × (cube b″ ⊠ H ⊞ cube c″ ⊠ G ≡ 0ₚ)
       second b′ c′ eb e′ (b″, fb) (c″, fc) = (
@@ -85,8 +86,8 @@ module _ (S : Setting) where
       first : Divides 𝓥 G b → Divides 𝓥 H c → (b″ c″ : P S) × (b ≡ GH ⊠ b″) × (cube b″ ⊠ H ⊞ cube c″ ⊠ G ≡ 0ₚ)
       first (b′, eb) (c′, ec) =
           second b′ c′ eb e′
-          (take₂ H G b′ (H ⊠ cube c′) (S .H-deg) (S .H-free) (bez-sym 𝓥 G H bez) (ring₄ R (λ x g y h. x :* (g :* g) :+ h :* (h :* y) := x :* (g :* g) :+ y :* (h :* h)) tt (cube b′) G (cube c′) H ∙ e′))
-          (take₂ G H c′ (G ⊠ cube b′) (S .G-deg) (S .G-free) bez (ring₄ R (λ x g y h. y :* (h :* h) :+ g :* (g :* x) := x :* (g :* g) :+ y :* (h :* h)) tt (cube b′) G (cube c′) H ∙ e′))
+          (take₂ H G b′ (H ⊠ cube c′) (S .roots .H-deg) (S .roots .H-free) (bez-sym 𝓥 G H bez) (ring₄ R (λ x g y h. x :* (g :* g) :+ h :* (h :* y) := x :* (g :* g) :+ y :* (h :* h)) tt (cube b′) G (cube c′) H ∙ e′))
+          (take₂ G H c′ (G ⊠ cube b′) (S .roots .G-deg) (S .roots .G-free) bez (ring₄ R (λ x g y h. y :* (h :* h) :+ g :* (g :* x) := x :* (g :* g) :+ y :* (h :* h)) tt (cube b′) G (cube c′) H ∙ e′))
         where
           e′ : cube b′ ⊠ (G ⊠ G) ⊞ cube c′ ⊠ (H ⊠ H) ≡ 0ₚ
           e′ = p-cancel 𝓥 GH _ 0ₚ GH-deg
@@ -98,7 +99,7 @@ module _ (S : Setting) where
   descent (suc k) m b c h l e =
       let (b″, c″, eb, e″) = down b c e in
       let (m″, h″, f) = factor 𝓥 GH b″ b GH-deg h eb in
-      let big : 1 ≤ dGH S = S .not-const in
+      let big : 1 ≤ dGH S = S .roots .not-const in
       descent k m″ b″ c″ h″ (omega arith) e″
 
   pub cubes : (b c : P S) → (b .0 ≢ 𝟎) ⊎ (c .0 ≢ 𝟎) → (cube b ⊠ H ⊞ cube c ⊠ G) .0 ≢ 𝟎
@@ -109,7 +110,7 @@ module _ (S : Setting) where
       go (inl k) (inl z) = k z
       go (inr k) (inl z) =
           let (m, h) = degree 𝓥 c k in
-          d.has-not-zero 𝓥 (d.has-eq 𝓥 (d.has-mul 𝓥 (d.has-mul 𝓥 (d.has-mul 𝓥 h h) h) (S .G-deg))
+          d.has-not-zero 𝓥 (d.has-eq 𝓥 (d.has-mul 𝓥 (d.has-mul 𝓥 (d.has-mul 𝓥 h h) h) (S .roots .G-deg))
           (ring₂ L (λ x y. x := zer :* zer :* zer :* y :+ x) tt ((cube c ⊠ G) .0) (H .0) ∙ ap (λ t. t * t * t * H .0 + (cube c ⊠ G) .0) (sym z) ∙ e))
 
   -- ---- the larger of deg br and deg cw
@@ -128,12 +129,12 @@ module _ (S : Setting) where
       go (inl x) (inl y) (inl k) = absurd (k x)
       go (inl x) (inl y) (inr k) = absurd (k y)
       go (inl x) (inr (n, h)) k =
-          let (γ, hγ, l) = d.has-mul 𝓥 h (S .w-deg) in
-          record { d = n +ⁿ S .dw; β = 0ᵏ; γ = γ; b-lead = d.lead-eq 𝓥 (𝓥 .lead-zero (n +ⁿ S .dw) 0) (sym (ap (λ z. z * r) x ∙ rg.zero-mul′ L r)) refl; c-lead = l; some = inr hγ }
+          let (γ, hγ, l) = d.has-mul 𝓥 h (S .roots .w-deg) in
+          record { d = n +ⁿ S .roots .dw; β = 0ᵏ; γ = γ; b-lead = d.lead-eq 𝓥 (𝓥 .lead-zero (n +ⁿ S .roots .dw) 0) (sym (ap (λ z. z * r) x ∙ rg.zero-mul′ L r)) refl; c-lead = l; some = inr hγ }
       go (inr (n, h)) (inl y) k =
-          let (β, hβ, l) = d.has-mul 𝓥 h (S .r-deg) in
-          record { d = n +ⁿ S .dr; β = β; γ = 0ᵏ; b-lead = l; c-lead = d.lead-eq 𝓥 (𝓥 .lead-zero (n +ⁿ S .dr) 0) (sym (ap (λ z. z * w) y ∙ rg.zero-mul′ L w)) refl; some = inl hβ }
-      go (inr (n, h)) (inr (m, g)) k = both (d.has-mul 𝓥 h (S .r-deg)) (d.has-mul 𝓥 g (S .w-deg)) (decLe (n +ⁿ S .dr) (m +ⁿ S .dw)) (decLe (m +ⁿ S .dw) (n +ⁿ S .dr))
+          let (β, hβ, l) = d.has-mul 𝓥 h (S .roots .r-deg) in
+          record { d = n +ⁿ S .roots .dr; β = β; γ = 0ᵏ; b-lead = l; c-lead = d.lead-eq 𝓥 (𝓥 .lead-zero (n +ⁿ S .roots .dr) 0) (sym (ap (λ z. z * w) y ∙ rg.zero-mul′ L w)) refl; some = inl hβ }
+      go (inr (n, h)) (inr (m, g)) k = both (d.has-mul 𝓥 h (S .roots .r-deg)) (d.has-mul 𝓥 g (S .roots .w-deg)) (decLe (n +ⁿ S .roots .dr) (m +ⁿ S .roots .dw)) (decLe (m +ⁿ S .roots .dw) (n +ⁿ S .roots .dr))
         where
           both : {i j : ℕ} → Has 𝓥 (b .0 * r) i → Has 𝓥 (c .0 * w) j → Dec (i ≤ j) → Dec (j ≤ i) → Top b c
           both {i} {j} (β, hβ, l) (γ, hγ, l′) (yes e) (yes f) = record { d = i; β = β; γ = γ; b-lead = l; c-lead = 𝓥 .lead-move i 0 l′ (omega arith); some = inl hβ }
@@ -202,7 +203,7 @@ module _ (S : Setting) where
 
   -- The theorem on the length of series: with r̃, w̃ that agree with r, w down to T places from the top and 3d ≤ n + T, the leading term of
   -- b r̃ + c w̃ is that of b r + c w. (Where d ≤ n, T = 2n is enough, that is 2n + 1 terms.)
-  pub prefix : (b c : P S) (nz : (b .0 ≢ 𝟎) ⊎ (c .0 ≢ 𝟎)) (t : Top b c) (r̃ w̃ : L .El) (T : ℕ) → Lead (r̃ + - r) (S .dr) T 0ᵏ → Lead (w̃ + - w) (S .dw) T 0ᵏ → t .d +ⁿ (t .d +ⁿ t .d) ≤ dGH S +ⁿ T →
+  pub prefix : (b c : P S) (nz : (b .0 ≢ 𝟎) ⊎ (c .0 ≢ 𝟎)) (t : Top b c) (r̃ w̃ : L .El) (T : ℕ) → Lead (r̃ + - r) (S .roots .dr) T 0ᵏ → Lead (w̃ + - w) (S .roots .dw) T 0ᵏ → t .d +ⁿ (t .d +ⁿ t .d) ≤ dGH S +ⁿ T →
       let (m, h, l) = bound b c nz t in Lead (b .0 * r̃ + c .0 * w̃) (dGH S +ⁿ m) (t .d +ⁿ t .d) (h .0)
   prefix b c nz t r̃ w̃ T hr hw l =
       let (m, (k, hk, h), l′) = bound b c nz t in
@@ -221,4 +222,4 @@ module _ (S : Setting) where
       ]
 
       rest : (m : ℕ) → Lead (b .0 * (r̃ + - r) + c .0 * (w̃ + - w)) (dGH S +ⁿ m) (t .d +ⁿ t .d) 0ᵏ
-      rest m = d.lead-eq 𝓥 (𝓥 .lead-add (part b (r̃ + - r) m (S .r-deg) (t .b-lead) hr) (part c (w̃ + - w) m (S .w-deg) (t .c-lead) hw)) refl (K .laws .add-zero 0ᵏ)
+      rest m = d.lead-eq 𝓥 (𝓥 .lead-add (part b (r̃ + - r) m (S .roots .r-deg) (t .b-lead) hr) (part c (w̃ + - w) m (S .roots .w-deg) (t .c-lead) hw)) refl (K .laws .add-zero 0ᵏ)

@@ -1,5 +1,6 @@
 -- Membership: v lies in Λ exactly where three divisions are exact, two by e (Cramer's rule) and one by U.
---   Coords            the three exact divisions; `coords-of` and `in-of` say that they are the same as `In`
+--   coords-of in-of   the three exact divisions of `Coords` are the same as `In`
+--   coords-unique     and there is one choice
 --   only-of-rank      "of the fractions of polynomials, only the polynomials" follows from the rank
 --   ideal-of          an ideal is U ≠ 0, e ≠ 0 and six memberships; `by-r`, `by-w` of Lattice write out their elements
 use mathlib.Core.Path.{_≡_, sym, ap, ap₂, _∙_, subst}
@@ -16,7 +17,7 @@ use Rattle.math_valued.proofs.Polynomial.{P-path, degree}
 use Rattle.math_valued.proofs.Divide.{p-cancel}
 use Rattle.math_ideals.specs.Setting.{Setting, P}
 use Rattle.math_ideals.specs.Element.{O, sc, el-r, el-w}
-use Rattle.math_ideals.specs.Ideal.{Basis, lin, In, det, Holds, Ideal}
+use Rattle.math_ideals.specs.Ideal.{Basis, lin, In, det, Coords, Holds, Ideal}
 use Rattle.math_ideals.proofs.Sizes.{O-path, sc-a, sc-b, sc-c}
 use Rattle.math_ideals.proofs.Lattice.{in-U, in-add, in-scale, lin-a, lin-b, lin-c}
 
@@ -64,16 +65,7 @@ module _ (S : Setting) (B : Basis S) where
       (p-cancel 𝓥 (det S B) (v .c) (β ⊠ B .M .c ⊞ γ ⊠ B .N .c) h
       (solve-by R (eE :* var 1) (eE :* cE) (hyp (var 3) (var 0 :* var 5 :+ minus (var 1 :* var 4)) (eE :* var 6) ∷ hyp (var 5) (var 1 :* var 2 :+ minus (var 0 :* var 3)) (eE :* var 7) ∷ []) tt (env v β γ) (eβ, (eγ, tt))) ∙ sym (lin-c S B α β γ))
 
-  -- the coordinates of v as exact quotients
-  pub record Coords (v : O S .El) : Type 0 where
-    pub α : P S
-    pub β : P S
-    pub γ : P S
-    pub e-β : v .b ⊠ B .N .c ⊞ ⊟ (v .c ⊠ B .N .b) ≡ det S B ⊠ β
-    pub e-γ : v .c ⊠ B .M .b ⊞ ⊟ (v .b ⊠ B .M .c) ≡ det S B ⊠ γ
-    pub U-α : v .a ⊞ ⊟ (β ⊠ B .M .a ⊞ γ ⊠ B .N .a) ≡ B .U ⊠ α
-
-  pub coords-of : (v : O S .El) → In S B v → Coords v
+  pub coords-of : (v : O S .El) → In S B v → Coords S B v
   coords-of v i = record {
     α = i .α;
     β = i .β;
@@ -84,14 +76,14 @@ module _ (S : Setting) (B : Basis S) where
         ring₄ R (λ α u m n. α :* u :+ m :+ n :+ minus (m :+ n) := u :* α) tt (i .α) (B .U) (i .β ⊠ B .M .a) (i .γ ⊠ B .N .a);
   }
 
-  pub coords-eq : det S B .0 ≢ L .ops .𝟎 → (v : O S .El) (k : Coords v) → v ≡ lin S B (k .α) (k .β) (k .γ)
+  pub coords-eq : det S B .0 ≢ L .ops .𝟎 → (v : O S .El) (k : Coords S B v) → v ≡ lin S B (k .α) (k .β) (k .γ)
   coords-eq rank v k = cramer-eq (degree 𝓥 (det S B) rank .1) v (k .α) (k .β) (k .γ) (k .e-β) (k .e-γ) (k .U-α)
 
-  pub in-of : det S B .0 ≢ L .ops .𝟎 → (v : O S .El) → Coords v → In S B v
+  pub in-of : det S B .0 ≢ L .ops .𝟎 → (v : O S .El) → Coords S B v → In S B v
   in-of rank v k = record { α = k .α; β = k .β; γ = k .γ; eq = coords-eq rank v k }
 
   -- exact quotients by e and U are settled
-  pub coords-unique : B .U .0 ≢ L .ops .𝟎 → det S B .0 ≢ L .ops .𝟎 → (v : O S .El) (k l : Coords v) → (k .α ≡ l .α) × (k .β ≡ l .β) × (k .γ ≡ l .γ)
+  pub coords-unique : B .U .0 ≢ L .ops .𝟎 → det S B .0 ≢ L .ops .𝟎 → (v : O S .El) (k l : Coords S B v) → (k .α ≡ l .α) × (k .β ≡ l .β) × (k .γ ≡ l .γ)
   coords-unique nz rank v k l =
       let (n, h) = degree 𝓥 (det S B) rank in
       let (m, g) = degree 𝓥 (B .U) nz in

@@ -14,7 +14,7 @@ use Rattle.math_valued.specs.Val.{Valued}
 use Rattle.math_valued.specs.Degree.{Has, Lt}
 use Rattle.math_valued.proofs.Compare.{has-unscale, leads-at, ≺-has, has-scale, lt-unscale, k-zero}
 use Rattle.math_valued.proofs.Polynomial.{degree, factor}
-use Rattle.math_ideals.specs.Setting.{Setting, dGH}
+use Rattle.math_ideals.specs.Setting.{Roots, Setting, dGH}
 use Rattle.math_ideals.specs.Ideal.{Basis, det, Ideal}
 use Rattle.math_ideals.specs.Element.{X, Y, Z}
 use Rattle.math_ideals.specs.Basis.{Good}
@@ -24,7 +24,8 @@ use Rattle.math_ideals.proofs.Minimum.{Sized, sized}
 use Rattle.math_ideals.proofs.Determinant.{det-divides}
 
 module _ (S : Setting) where
-  open Setting S using (𝓥, G, H, r, w, dG, dH)
+  open Setting S using (𝓥)
+  open Roots (S .roots) using (G, H, r, w, dG, dH)
   open Valued 𝓥 using (K, L, Lead)
   open Ops (L .ops) using (add as _+_, mul as _*_, neg as -_, 𝟎, 𝟏)
   open Ops (K .ops) using (add as _+ᵏ_, mul as _*ᵏ_, neg as -ᵏ_, 𝟎 as 0ᵏ, 𝟏 as 1ᵏ)
@@ -117,7 +118,7 @@ module _ (S : Setting) where
           sum : x +ⁿ s .y ≡ ε +ⁿ n
           sum =
               let l : Has 𝓥 (X S (B .M) * Y S (B .N) + - (X S (B .N) * Y S (B .M))) (x +ⁿ s .y) = d.has-lt 𝓥 (d.has-mul 𝓥 X-M (s .Y-N)) (d.lt-neg 𝓥 (d.lt-up 𝓥 (x +ⁿ s .y) (d.lt-mul 𝓥 X-N (s .Y-M)) (omega arith))) in
-              let k : Has 𝓥 (- ((𝟏 + 𝟏) * (det S B .0 * (G .0 * H .0)))) (ε +ⁿ n) = d.has-neg 𝓥 (has-scale 𝓥 (has-two S) (d.has-mul 𝓥 hε (d.has-mul 𝓥 (S .G-deg) (S .H-deg)))) in
+              let k : Has 𝓥 (- ((𝟏 + 𝟏) * (det S B .0 * (G .0 * H .0)))) (ε +ⁿ n) = d.has-neg 𝓥 (has-scale 𝓥 (has-two S) (d.has-mul 𝓥 hε (d.has-mul 𝓥 (S .roots .G-deg) (S .roots .H-deg)))) in
               d.same 𝓥 (d.has-eq 𝓥 l (X-Y-det S B)) k
 
           M0 : Has 𝓥 (B .M .a .0) x
@@ -128,7 +129,7 @@ module _ (S : Setting) where
               let l′ : Lead (X S (B .M)) x 0 (1ᵏ +ᵏ 1ᵏ) = leads-at 𝓥 (good .scaled .X-M) X-M in
               let e : (1ᵏ +ᵏ 1ᵏ) *ᵏ M0 .0 ≡ 1ᵏ +ᵏ 1ᵏ +ᵏ 0ᵏ =
               𝓥 .lead-unique (𝓥 .lead-move x 0 (𝓥 .lead-mul (𝓥 .lead-add (𝓥 .lead-one) (𝓥 .lead-one)) (M0 .2)) (omega arith)) (d.lead-eq 𝓥 (𝓥 .lead-add l′ (d.lt-up 𝓥 x (s .Z-M) (omega arith))) (two-a S (B .M)) refl) in
-              rg.eq-of-sub K (M0 .0) 1ᵏ (k-zero 𝓥 (1ᵏ +ᵏ 1ᵏ) (M0 .0 +ᵏ -ᵏ 1ᵏ) (S .two≢) (ring₁ K (λ c. (one :+ one) :* (c :+ minus one) := (one :+ one) :* c :+ minus (one :+ one :+ zer)) tt (M0 .0) ∙ ap (λ z. z +ᵏ -ᵏ (1ᵏ +ᵏ 1ᵏ +ᵏ 0ᵏ)) e ∙ K .laws .add-neg _))
+              rg.eq-of-sub K (M0 .0) 1ᵏ (k-zero 𝓥 (1ᵏ +ᵏ 1ᵏ) (M0 .0 +ᵏ -ᵏ 1ᵏ) (S .roots .two≢) (ring₁ K (λ c. (one :+ one) :* (c :+ minus one) := (one :+ one) :* c :+ minus (one :+ one :+ zer)) tt (M0 .0) ∙ ap (λ z. z +ᵏ -ᵏ (1ᵏ +ᵏ 1ᵏ +ᵏ 0ᵏ)) e ∙ K .laws .add-neg _))
 
   -- no coefficient polynomial above deg GH
   pub record Fits (B : Basis S) : Type 0 where
@@ -152,11 +153,11 @@ module _ (S : Setting) where
       record {
         U = d.has-up 𝓥 (dGH S) (s .U-has) u<n;
         M0 = d.has-up 𝓥 (suc (dGH S)) (s .M0) (omega arith);
-        M1 = lt-off (S .r-deg) (d.has-up 𝓥 (suc (dGH S)) (s .M1) (omega arith));
-        M2 = lt-off (S .w-deg) (d.has-up 𝓥 (suc (dGH S)) (s .M2) (omega arith));
+        M1 = lt-off (S .roots .r-deg) (d.has-up 𝓥 (suc (dGH S)) (s .M1) (omega arith));
+        M2 = lt-off (S .roots .w-deg) (d.has-up 𝓥 (suc (dGH S)) (s .M2) (omega arith));
         N0 = s .N0;
-        N1 = lt-off (S .r-deg) (s .N1);
-        N2 = lt-off (S .w-deg) (s .N2);
+        N1 = lt-off (S .roots .r-deg) (s .N1);
+        N2 = lt-off (S .roots .w-deg) (s .N2);
       }
 
   pub det-lead : {ε : ℕ} {c g : K .El} (B : Basis S) → Good S B → Lead (det S B .0) ε 0 c → c ≢ 0ᵏ → Lead (G .0 * H .0) (dGH S) 0 g → c *ᵏ g ≡ -ᵏ 1ᵏ
@@ -171,5 +172,5 @@ module _ (S : Setting) where
       let k : Lead (- ((𝟏 + 𝟏) * (det S B .0 * (G .0 * H .0)))) (s .x +ⁿ s .y) 0 (-ᵏ ((1ᵏ +ᵏ 1ᵏ) *ᵏ (c *ᵏ g))) =
       𝓥 .lead-move (s .x +ⁿ s .y) 0 (𝓥 .lead-neg (𝓥 .lead-mul (𝓥 .lead-add (𝓥 .lead-one) (𝓥 .lead-one)) (𝓥 .lead-mul hc hg))) (omega (arith, s .sum)) in
       let e : (1ᵏ +ᵏ 1ᵏ) *ᵏ 1ᵏ +ᵏ -ᵏ 0ᵏ ≡ -ᵏ ((1ᵏ +ᵏ 1ᵏ) *ᵏ (c *ᵏ g)) = 𝓥 .lead-unique (d.lead-eq 𝓥 l (X-Y-det S B) refl) k in
-      rg.eq-of-sub K (c *ᵏ g) (-ᵏ 1ᵏ) (k-zero 𝓥 (1ᵏ +ᵏ 1ᵏ) (c *ᵏ g +ᵏ -ᵏ (-ᵏ 1ᵏ)) (S .two≢)
+      rg.eq-of-sub K (c *ᵏ g) (-ᵏ 1ᵏ) (k-zero 𝓥 (1ᵏ +ᵏ 1ᵏ) (c *ᵏ g +ᵏ -ᵏ (-ᵏ 1ᵏ)) (S .roots .two≢)
       (ring₁ K (λ z. (one :+ one) :* (z :+ minus (minus one)) := (one :+ one) :* one :+ minus zer :+ minus (minus ((one :+ one) :* z))) tt (c *ᵏ g) ∙ ap (λ z. z +ᵏ -ᵏ (-ᵏ ((1ᵏ +ᵏ 1ᵏ) *ᵏ (c *ᵏ g)))) e ∙ K .laws .add-neg _))

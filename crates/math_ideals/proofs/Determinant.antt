@@ -15,7 +15,7 @@ use Rattle.math_valued.specs.Polynomial.{polys, Divides}
 use Rattle.math_valued.proofs.Polynomial.{degree}
 use Rattle.math_valued.proofs.Gcds.{Comb, All, gcds, comb-divides}
 use Rattle.math_valued.proofs.Divide.{p-cancel}
-use Rattle.math_ideals.specs.Setting.{Setting, P}
+use Rattle.math_ideals.specs.Setting.{Roots, Setting, P}
 use Rattle.math_ideals.specs.Ideal.{Basis, In, det, Ideal}
 use Rattle.math_ideals.specs.Element.{O, sc}
 use Rattle.math_ideals.specs.Basis.{NoFactor}
@@ -26,7 +26,8 @@ pub only-poly : (S : Setting) (B : Basis S) → Ideal S B → (a : P S) → In S
 only-poly S B ideal a i = ideal .only a (B .U) (ideal .U≢) (sc S a, i, O S .laws .mul-comm (sc S (B .U)) (sc S a))
 
 module _ (S : Setting) (B : Basis S) (ideal : Ideal S B) where
-  open Setting S using (𝓥, G, H)
+  open Setting S using (𝓥)
+  open Roots (S .roots) using (G, H)
   open Valued 𝓥 using (L)
   open Ops (polys 𝓥 .ops) using (add as _⊞_, mul as _⊠_, neg as ⊟_, 𝟎 as 0ₚ, 𝟏 as 1ₚ)
   open Ops (O S .ops) using (add as _⊕_, mul as _⊗_)

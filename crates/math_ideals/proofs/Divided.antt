@@ -17,7 +17,7 @@ use Rattle.math_valued.specs.Degree.{Has, Lt}
 use Rattle.math_valued.specs.Polynomial.{polys}
 use Rattle.math_valued.proofs.Degree as d
 use Rattle.math_valued.proofs.Compare.{lt-mul-sharp, has-scale, has-unscale, lt-scale, lt-unscale}
-use Rattle.math_ideals.specs.Setting.{Setting}
+use Rattle.math_ideals.specs.Setting.{Roots, Setting}
 use Rattle.math_ideals.specs.Element.{O, sc, el-r, el-w, ev, Y, Z, norm}
 use Rattle.math_ideals.specs.Ideal.{Basis, In, det, Ideal}
 use Rattle.math_ideals.specs.Basis.{ReducedBasis, Reduced, Good}
@@ -34,7 +34,8 @@ use Rattle.math_ideals.proofs.Reduced.{OnlyPolys, reduced-of}
 use Rattle.math_ideals.proofs.Check.{only-of-rank}
 
 module _ (S : Setting) where
-  open Setting S using (𝓥, G, H, r, w)
+  open Setting S using (𝓥)
+  open Roots (S .roots) using (G, H, r, w)
   open Valued 𝓥 using (K, L, Lead)
   open Ops (L .ops) using (add as _+_, mul as _*_, neg as -_, 𝟎, 𝟏)
   open Ops (K .ops) using (add as _+ᵏ_, mul as _*ᵏ_, neg as -ᵏ_, 𝟎 as 0ᵏ, 𝟏 as 1ᵏ)

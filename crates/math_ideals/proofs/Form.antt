@@ -29,10 +29,10 @@ module _ (S : Setting) where
   infix 80 -_ -ᵏ_
   -- ---- 2 and 3
   pub three≢ : 1ᵏ +ᵏ 1ᵏ +ᵏ 1ᵏ ≢ 0ᵏ
-  three≢ e = 𝓥 .one≢zero ((S .form 1ᵏ (-ᵏ 1ᵏ) (ring₁ K (λ x. one :* one :+ minus (one :* minus one) :+ minus one :* minus one := one :+ one :+ one) tt 1ᵏ ∙ e)) .0)
+  three≢ e = 𝓥 .one≢zero ((S .roots .form 1ᵏ (-ᵏ 1ᵏ) (ring₁ K (λ x. one :* one :+ minus (one :* minus one) :+ minus one :* minus one := one :+ one :+ one) tt 1ᵏ ∙ e)) .0)
 
   pub has-two : Has 𝓥 (𝟏 + 𝟏) 0
-  has-two = (1ᵏ +ᵏ 1ᵏ, S .two≢, 𝓥 .lead-add (𝓥 .lead-one) (𝓥 .lead-one))
+  has-two = (1ᵏ +ᵏ 1ᵏ, S .roots .two≢, 𝓥 .lead-add (𝓥 .lead-one) (𝓥 .lead-one))
 
   pub has-three : Has 𝓥 (𝟏 + 𝟏 + 𝟏) 0
   has-three = (1ᵏ +ᵏ 1ᵏ +ᵏ 1ᵏ, three≢, 𝓥 .lead-add (𝓥 .lead-add (𝓥 .lead-one) (𝓥 .lead-one)) (𝓥 .lead-one))
@@ -40,9 +40,9 @@ module _ (S : Setting) where
   -- ---- the forms
   form₃ : (a b : K .El) → (1ᵏ +ᵏ 1ᵏ +ᵏ 1ᵏ) *ᵏ (a *ᵏ a) +ᵏ b *ᵏ b ≡ 0ᵏ → (a ≡ 0ᵏ) × (b ≡ 0ᵏ)
   form₃ a b e =
-      let z = S .form (a +ᵏ b) (b +ᵏ -ᵏ a) (ring₂ K (λ x y. (x :+ y) :* (x :+ y) :+ minus ((x :+ y) :* (y :+ minus x)) :+ (y :+ minus x) :* (y :+ minus x) := (one :+ one :+ one) :* (x :* x) :+ y :* y) tt a b ∙ e) in (
-        k-zero 𝓥 (1ᵏ +ᵏ 1ᵏ) a (S .two≢) (ring₂ K (λ x y. (one :+ one) :* x := (x :+ y) :+ minus (y :+ minus x)) tt a b ∙ ap₂ (λ s t. s +ᵏ -ᵏ t) (z .0) (z .1) ∙ K .laws .add-neg 0ᵏ),
-        k-zero 𝓥 (1ᵏ +ᵏ 1ᵏ) b (S .two≢) (ring₂ K (λ x y. (one :+ one) :* y := (x :+ y) :+ (y :+ minus x)) tt a b ∙ ap₂ _+ᵏ_ (z .0) (z .1) ∙ K .laws .add-zero 0ᵏ),
+      let z = S .roots .form (a +ᵏ b) (b +ᵏ -ᵏ a) (ring₂ K (λ x y. (x :+ y) :* (x :+ y) :+ minus ((x :+ y) :* (y :+ minus x)) :+ (y :+ minus x) :* (y :+ minus x) := (one :+ one :+ one) :* (x :* x) :+ y :* y) tt a b ∙ e) in (
+        k-zero 𝓥 (1ᵏ +ᵏ 1ᵏ) a (S .roots .two≢) (ring₂ K (λ x y. (one :+ one) :* x := (x :+ y) :+ minus (y :+ minus x)) tt a b ∙ ap₂ (λ s t. s +ᵏ -ᵏ t) (z .0) (z .1) ∙ K .laws .add-neg 0ᵏ),
+        k-zero 𝓥 (1ᵏ +ᵏ 1ᵏ) b (S .roots .two≢) (ring₂ K (λ x y. (one :+ one) :* y := (x :+ y) :+ (y :+ minus x)) tt a b ∙ ap₂ _+ᵏ_ (z .0) (z .1) ∙ K .laws .add-zero 0ᵏ),
       )
 
   abbrev pub form : L .El → L .El → L .El
@@ -57,7 +57,7 @@ module _ (S : Setting) where
 
   pub form′-has : {y z : L .El} {p q : ℕ} {a b : K .El} → Lead y p q a → Lead z p q b → (a ≢ 0ᵏ) ⊎ (b ≢ 0ᵏ) → HasDeg 𝓥 (form′ S y z) (p +ⁿ p) (q +ⁿ q)
   form′-has {a} {b} h g k =
-      (_, (λ e. elim k [ inl s ↦ s (S .form a b e .0) | inr s ↦ s (S .form a b e .1) ]), 𝓥 .lead-add (𝓥 .lead-add (𝓥 .lead-mul h h) (𝓥 .lead-neg (𝓥 .lead-mul h g))) (𝓥 .lead-mul g g))
+      (_, (λ e. elim k [ inl s ↦ s (S .roots .form a b e .0) | inr s ↦ s (S .roots .form a b e .1) ]), 𝓥 .lead-add (𝓥 .lead-add (𝓥 .lead-mul h h) (𝓥 .lead-neg (𝓥 .lead-mul h g))) (𝓥 .lead-mul g g))
 
   pub form-below : {y z : L .El} {n : ℕ} → Lt 𝓥 y n → Lt 𝓥 z n → Lt 𝓥 (form y z) (n +ⁿ n)
   form-below h g = d.lead-eq 𝓥 (form-lead h g) refl (ring₁ K (λ x. (one :+ one :+ one) :* (zer :* zer) :+ zer :* zer := zer) tt 0ᵏ)

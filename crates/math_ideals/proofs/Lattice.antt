@@ -14,13 +14,14 @@ use Rattle.math_triple.specs.Tri.{triE, solve₃}
 use Rattle.math_triple.specs.Order.{triops}
 use Rattle.math_valued.specs.Polynomial.{polys, Divides}
 use Rattle.math_valued.proofs.Polynomial.{P-path}
-use Rattle.math_ideals.specs.Setting.{Setting, P}
+use Rattle.math_ideals.specs.Setting.{Roots, Setting, P}
 use Rattle.math_ideals.specs.Element.{O, sc, el-r, el-w}
 use Rattle.math_ideals.specs.Ideal.{Basis, lin, In, Ideal}
 use Rattle.math_ideals.proofs.Sizes.{O-path, sc-a, sc-b, sc-c, linE, scE, gE, hE}
 
 module _ (S : Setting) where
-  open Setting S using (𝓥, G, H)
+  open Setting S using (𝓥)
+  open Roots (S .roots) using (G, H)
   open Ops (𝓥 .L .ops) using (𝟎)
   open Ops (polys 𝓥 .ops) using (add as _⊞_, mul as _⊠_, neg as ⊟_, 𝟎 as 0ₚ, 𝟏 as 1ₚ)
   open Ops (O S .ops) using (add as _⊕_, mul as _⊗_)

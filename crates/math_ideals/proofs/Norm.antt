@@ -23,7 +23,7 @@ use Rattle.math_valued.specs.Polynomial.{polys}
 use Rattle.math_valued.proofs.Degree as d
 use Rattle.math_valued.proofs.Compare.{lt-scale, lt-unscale, has-scale, has-unscale}
 use Rattle.math_valued.proofs.Polynomial.{view, degree, not-zero, poly-lt}
-use Rattle.math_ideals.specs.Setting.{Setting, P}
+use Rattle.math_ideals.specs.Setting.{Roots, Setting, P}
 use Rattle.math_ideals.specs.Element.{O, sc, ev, X, Y, Z, norm, cof}
 use Rattle.math_ideals.specs.Ideal.{Basis, det}
 use Rattle.math_ideals.proofs.Sizes.{sc-cancel, ev-flat, ev-XZ, Y-sc, Z-sc}
@@ -32,7 +32,8 @@ use Rattle.math_ideals.proofs.Form.{form, form-top, form-lt, has-two, h
 use Rattle.math_ideals.proofs.Bound.{Y-deg}
 
 module _ (S : Setting) where
-  open Setting S using (𝓥, G, H, r, w)
+  open Setting S using (𝓥)
+  open Roots (S .roots) using (G, H, r, w)
   open Valued 𝓥 using (K, L, Lead)
   open Ops (L .ops) using (add as _+_, mul as _*_, neg as -_, 𝟎, 𝟏)
   open Ops (K .ops) using (𝟎 as 0ᵏ)
@@ -46,18 +47,18 @@ module _ (S : Setting) where
       let (i, ha) = poly-lt 𝓥 (v .a) in
       let (j, hb) = poly-lt 𝓥 (v .b) in
       let (k, hc) = poly-lt 𝓥 (v .c) in
-      let m : ℕ = i +ⁿ (j +ⁿ S .dr) +ⁿ (k +ⁿ S .dw) in
+      let m : ℕ = i +ⁿ (j +ⁿ S .roots .dr) +ⁿ (k +ⁿ S .roots .dw) in
       let A : Lt 𝓥 ((𝟏 + 𝟏) * v .a .0) m = d.lt-up 𝓥 m (d.lt-eq 𝓥 (d.lt-has-mul 𝓥 ha (has-two S)) (L .laws .mul-comm (v .a .0) (𝟏 + 𝟏))) (omega arith) in
-      let B : Lt 𝓥 (v .b .0 * r) m = d.lt-up 𝓥 m (d.lt-has-mul 𝓥 hb (S .r-deg)) (omega arith) in
-      let C : Lt 𝓥 (v .c .0 * w) m = d.lt-up 𝓥 m (d.lt-has-mul 𝓥 hc (S .w-deg)) (omega arith) in
+      let B : Lt 𝓥 (v .b .0 * r) m = d.lt-up 𝓥 m (d.lt-has-mul 𝓥 hb (S .roots .r-deg)) (omega arith) in
+      let C : Lt 𝓥 (v .c .0 * w) m = d.lt-up 𝓥 m (d.lt-has-mul 𝓥 hc (S .roots .w-deg)) (omega arith) in
       (m, d.lt-add 𝓥 B (d.lt-neg 𝓥 C), d.lt-add 𝓥 (d.lt-add 𝓥 A (d.lt-neg 𝓥 B)) (d.lt-neg 𝓥 C))
 
   pub X-lt : (v : O S .El) → (j : ℕ) × Lt 𝓥 (X S v) j
   X-lt v =
       let (j, hb) = poly-lt 𝓥 (v .b) in
       let (k, hc) = poly-lt 𝓥 (v .c) in
-      let m : ℕ = (j +ⁿ S .dr) +ⁿ (k +ⁿ S .dw) in
-      (m, d.lt-add 𝓥 (d.lt-up 𝓥 m (d.lt-has-mul 𝓥 hb (S .r-deg)) (omega arith)) (d.lt-up 𝓥 m (d.lt-has-mul 𝓥 hc (S .w-deg)) (omega arith)))
+      let m : ℕ = (j +ⁿ S .roots .dr) +ⁿ (k +ⁿ S .roots .dw) in
+      (m, d.lt-add 𝓥 (d.lt-up 𝓥 m (d.lt-has-mul 𝓥 hb (S .roots .r-deg)) (omega arith)) (d.lt-up 𝓥 m (d.lt-has-mul 𝓥 hc (S .roots .w-deg)) (omega arith)))
 
   -- ---- 4 times the value of the cofactor
   abbrev pub F : O S .El → L .El

@@ -17,7 +17,7 @@ use Rattle.math_valued.specs.Degree.{Has, Lt, _≺_}
 use Rattle.math_valued.proofs.Degree as d
 use Rattle.math_valued.proofs.Compare.{≺-has, lt-scale, lt-unscale}
 use Rattle.math_valued.proofs.Polynomial.{P-path, view}
-use Rattle.math_ideals.specs.Setting.{Setting, P}
+use Rattle.math_ideals.specs.Setting.{Roots, Setting, P}
 use Rattle.math_ideals.specs.Element.{O, sc, ev, X, Y}
 use Rattle.math_ideals.specs.Ideal.{Basis, In, det}
 use Rattle.math_ideals.specs.Basis.{ReducedBasis, Reduced, Good}
@@ -29,7 +29,8 @@ use Rattle.math_ideals.proofs.Minimum.{Sized, sized}
 use Rattle.math_ideals.proofs.Norm.{F, Below, below-of, flat-M, flat-N}
 
 module _ (S : Setting) where
-  open Setting S using (𝓥, G, H, r, w)
+  open Setting S using (𝓥)
+  open Roots (S .roots) using (G, H, r, w)
   open Valued 𝓥 using (K, L, Lead)
   open Ops (L .ops) using (add as _+_, mul as _*_, neg as -_, 𝟎, 𝟏)
   open Ops (K .ops) using (add as _+ᵏ_, mul as _*ᵏ_, neg as -ᵏ_, 𝟎 as 0ᵏ, 𝟏 as 1ᵏ)

@@ -11,15 +11,16 @@ use mathlib.Core.List.{List, [], _∷_}
 use Prim.Native.Nat.{ℕ}
 use Rattle.math_ring.specs.Ring.{Ops}
 use Rattle.math_ring.proofs.Solve.{Expr, hyp, var, exprs, one, lit, zer, minus, _:+_, _:*_, _:=_, solve, solve-by, ring₂, ring₃}
+use Rattle.math_triple.specs.Sizes.{evT, XT, YT, ZT}
 use Rattle.math_triple.specs.Tri.{Tri, triE}
 use Rattle.math_triple.specs.Order.{triops}
 use Rattle.math_valued.specs.Val.{Valued}
 use Rattle.math_valued.specs.Degree.{Has}
 use Rattle.math_valued.proofs.Degree as d
 use Rattle.math_valued.proofs.Polynomial.{P-path}
-use Rattle.math_ideals.specs.Setting.{Setting, P}
+use Rattle.math_ideals.specs.Setting.{Roots, Setting, P}
 use Rattle.math_ideals.specs.Element as D
-use Rattle.math_ideals.specs.Element.{evT, XT, YT, ZT, O, sc}
+use Rattle.math_ideals.specs.Element.{O, sc}
 use Rattle.math_ideals.specs.Ideal.{Basis, lin, det}
 
 -- ---- expressions
@@ -53,7 +54,8 @@ abbrev pub linE : Tri Expr
 linE = scE (var 10) :⊗ scE (var 11) :⊕ scE (var 12) :⊗ xE :⊕ scE (var 13) :⊗ yE
 
 module _ (S : Setting) where
-  open Setting S using (𝓥, G, H, r, w)
+  open Setting S using (𝓥)
+  open Roots (S .roots) using (G, H, r, w)
   open Valued 𝓥 using (K, L, Lead)
   open Ops (L .ops) using (add as _+_, mul as _*_, neg as -_, 𝟎, 𝟏)
   open Ops (O S .ops) using (add as _⊕_, mul as _⊗_)
@@ -161,4 +163,4 @@ module _ (S : Setting) where
   X-Y-det B =
       let e = var 5 :* var 9 :+ minus (var 6 :* var 8) in
       solve-by L (XT exprs rE wE xE :* YT exprs rE wE yE :+ minus (XT exprs rE wE yE :* YT exprs rE wE xE)) (minus ((one :+ one) :* (e :* (gE :* hE))))
-      (hyp (minus (lit 2 :* e)) (rE :* wE) (gE :* hE) ∷ []) tt (env (B .M) (B .N)) (S .r-w, tt)
+      (hyp (minus (lit 2 :* e)) (rE :* wE) (gE :* hE) ∷ []) tt (env (B .M) (B .N)) (S .roots .r-w, tt)

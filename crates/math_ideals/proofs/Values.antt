@@ -13,13 +13,14 @@ use native.Mathlib.Omega.{arith}
 use Rattle.math_ring.specs.Ring.{Ops}
 use Rattle.math_ring.proofs.Solve.{hyp, var, exprs, one, zer, minus, _:+_, _:*_, _:=_, solve, solve-by, ring₂}
 use Rattle.math_triple.specs.Tri as T
+use Rattle.math_triple.specs.Sizes.{evT, YT, ZT}
 use Rattle.math_triple.specs.Tri.{Tri, cofT}
 use Rattle.math_triple.specs.Order.{triops}
 use Rattle.math_valued.specs.Val.{Valued}
 use Rattle.math_valued.specs.Polynomial.{polys}
 use Rattle.math_valued.proofs.Degree as d
-use Rattle.math_ideals.specs.Setting.{Setting, P, dGH}
-use Rattle.math_ideals.specs.Element.{evT, YT, ZT, O, sc, ev, Y, Z, norm, cof}
+use Rattle.math_ideals.specs.Setting.{Roots, Setting, P, dGH}
+use Rattle.math_ideals.specs.Element.{O, sc, ev, Y, Z, norm, cof}
 use Rattle.math_ideals.proofs.Sizes.{gE, hE, rE, wE, xE, yE, env}
 open Ops (triops exprs gE hE) using (mul as _:⊗_)
 
@@ -38,7 +39,8 @@ module _ {A : Type 0} (o : Ops A) where
   QT r w x = plain (x .a) (x .b * r) (x .c * w)
 
 module _ (S : Setting) where
-  open Setting S using (𝓥, G, H, r, w)
+  open Setting S using (𝓥)
+  open Roots (S .roots) using (G, H, r, w)
   open Valued 𝓥 using (L)
   open Ops (L .ops) using (add as _+_, mul as _*_, neg as -_, 𝟎, 𝟏)
   open Ops (polys 𝓥 .ops) using (add as _⊞_, mul as _⊠_, neg as ⊟_)
@@ -52,33 +54,33 @@ module _ (S : Setting) where
   rwL = G .0 ∷ H .0 ∷ r ∷ w ∷ []
 
   pub w-w : w * w ≡ G .0 * r
-  w-w = d.cancel 𝓥 (w * w) (G .0 * r) (S .r-deg)
-      (solve-by L (rE :* (wE :* wE)) (rE :* (gE :* rE)) (hyp wE (rE :* wE) (gE :* hE) ∷ hyp (minus gE) (rE :* rE) (hE :* wE) ∷ []) tt rwL (S .r-w, (S .r-r, tt)))
+  w-w = d.cancel 𝓥 (w * w) (G .0 * r) (S .roots .r-deg)
+      (solve-by L (rE :* (wE :* wE)) (rE :* (gE :* rE)) (hyp wE (rE :* wE) (gE :* hE) ∷ hyp (minus gE) (rE :* rE) (hE :* wE) ∷ []) tt rwL (S .roots .r-w, (S .roots .r-r, tt)))
 
   pub r-cube : r * r * r ≡ G .0 * (H .0 * H .0)
-  r-cube = solve-by L (rE :* rE :* rE) (gE :* (hE :* hE)) (hyp rE (rE :* rE) (hE :* wE) ∷ hyp hE (rE :* wE) (gE :* hE) ∷ []) tt rwL (S .r-r, (S .r-w, tt))
+  r-cube = solve-by L (rE :* rE :* rE) (gE :* (hE :* hE)) (hyp rE (rE :* rE) (hE :* wE) ∷ hyp hE (rE :* wE) (gE :* hE) ∷ []) tt rwL (S .roots .r-r, (S .roots .r-w, tt))
 
   pub w-cube : w * w * w ≡ G .0 * G .0 * H .0
-  w-cube = solve-by L (wE :* wE :* wE) (gE :* gE :* hE) (hyp wE (wE :* wE) (gE :* rE) ∷ hyp gE (rE :* wE) (gE :* hE) ∷ []) tt rwL (w-w, (S .r-w, tt))
+  w-cube = solve-by L (wE :* wE :* wE) (gE :* gE :* hE) (hyp wE (wE :* wE) (gE :* rE) ∷ hyp gE (rE :* wE) (gE :* hE) ∷ []) tt rwL (w-w, (S .roots .r-w, tt))
 
-  pub dr-dw : S .dr +ⁿ S .dw ≡ dGH S
-  dr-dw = d.same 𝓥 (d.has-mul 𝓥 (S .r-deg) (S .w-deg)) (d.has-eq 𝓥 (d.has-mul 𝓥 (S .G-deg) (S .H-deg)) (sym (S .r-w)))
+  pub dr-dw : S .roots .dr +ⁿ S .roots .dw ≡ dGH S
+  dr-dw = d.same 𝓥 (d.has-mul 𝓥 (S .roots .r-deg) (S .roots .w-deg)) (d.has-eq 𝓥 (d.has-mul 𝓥 (S .roots .G-deg) (S .roots .H-deg)) (sym (S .roots .r-w)))
 
   -- 3 deg r = deg G + 2 deg H and 3 deg w = 2 deg G + deg H
-  pub dr-eq : S .dr +ⁿ S .dr ≡ S .dH +ⁿ S .dw
-  dr-eq = d.same 𝓥 (d.has-mul 𝓥 (S .r-deg) (S .r-deg)) (d.has-eq 𝓥 (d.has-mul 𝓥 (S .H-deg) (S .w-deg)) (sym (S .r-r)))
+  pub dr-eq : S .roots .dr +ⁿ S .roots .dr ≡ S .roots .dH +ⁿ S .roots .dw
+  dr-eq = d.same 𝓥 (d.has-mul 𝓥 (S .roots .r-deg) (S .roots .r-deg)) (d.has-eq 𝓥 (d.has-mul 𝓥 (S .roots .H-deg) (S .roots .w-deg)) (sym (S .roots .r-r)))
 
-  pub dr-pos : 1 ≤ S .dr
-  dr-pos = let n : 1 ≤ dGH S = S .not-const in omega (arith, dr-dw, dr-eq)
+  pub dr-pos : 1 ≤ S .roots .dr
+  dr-pos = let n : 1 ≤ dGH S = S .roots .not-const in omega (arith, dr-dw, dr-eq)
 
-  pub dw-pos : 1 ≤ S .dw
-  dw-pos = let n : 1 ≤ dGH S = S .not-const in omega (arith, dr-dw, dr-eq)
+  pub dw-pos : 1 ≤ S .roots .dw
+  dw-pos = let n : 1 ≤ dGH S = S .roots .not-const in omega (arith, dr-dw, dr-eq)
 
   -- ---- products
   pub ev-mul : (u v : O S .El) → ev S (u ⊗ v) ≡ ev S u * ev S v
   ev-mul u v = solve-by L (evT exprs rE wE (xE :⊗ yE)) (evT exprs rE wE xE :* evT exprs rE wE yE)
       (hyp (minus (var 5 :* var 8)) (rE :* rE) (hE :* wE) ∷ hyp (minus (var 5 :* var 9 :+ var 6 :* var 8)) (rE :* wE) (gE :* hE) ∷ hyp (minus (var 6 :* var 9)) (wE :* wE) (gE :* rE) ∷ [])
-      tt (env S u v) (S .r-r, (S .r-w, (w-w, tt)))
+      tt (env S u v) (S .roots .r-r, (S .roots .r-w, (w-w, tt)))
 
   pub norm-mul : (u v : O S .El) → norm S (u ⊗ v) ≡ norm S u ⊠ norm S v
   norm-mul u v = T.norm-mul (polys 𝓥) G H u v
@@ -100,7 +102,7 @@ module _ (S : Setting) where
   ev-cof u =
       let A = var 4 in let B = var 5 in let C = var 6 in
       solve-by L (evT exprs rE wE (cofT exprs gE hE xE)) (QT exprs rE wE xE)
-      (hyp (B :* C) (rE :* wE) (gE :* hE) ∷ hyp (minus (C :* C)) (wE :* wE) (gE :* rE) ∷ hyp (minus (B :* B)) (rE :* rE) (hE :* wE) ∷ []) tt (env S u u) (S .r-w, (w-w, (S .r-r, tt)))
+      (hyp (B :* C) (rE :* wE) (gE :* hE) ∷ hyp (minus (C :* C)) (wE :* wE) (gE :* rE) ∷ hyp (minus (B :* B)) (rE :* rE) (hE :* wE) ∷ []) tt (env S u u) (S .roots .r-w, (w-w, (S .roots .r-r, tt)))
 
   pub Q-YZ : (u : O S .El) → (𝟏 + 𝟏) * ((𝟏 + 𝟏) * Q u) ≡ (𝟏 + 𝟏 + 𝟏) * (Y S u * Y S u) + Z S u * Z S u
   Q-YZ u = solve L ((one :+ one) :* ((one :+ one) :* QT exprs rE wE xE)) ((one :+ one :+ one) :* (YT exprs rE wE xE :* YT exprs rE wE xE) :+ ZT exprs rE wE xE :* ZT exprs rE wE xE) tt (env S u u)
@@ -127,4 +129,4 @@ module _ (S : Setting) where
       let x = var 4 :* rE in let y = var 5 :* wE in
       solve-by L ((x :+ y) :* (x :* x :+ minus (x :* y) :+ y :* y)) (gE :* hE :* (b³ :* hE :+ c³ :* gE))
       (hyp (b³ :* rE) (rE :* rE) (hE :* wE) ∷ hyp (b³ :* hE) (rE :* wE) (gE :* hE) ∷ hyp (c³ :* wE) (wE :* wE) (gE :* rE) ∷ hyp (c³ :* gE) (rE :* wE) (gE :* hE) ∷ [])
-      tt (G .0 ∷ H .0 ∷ r ∷ w ∷ b .0 ∷ c .0 ∷ []) (S .r-r, (S .r-w, (w-w, (S .r-w, tt))))
+      tt (G .0 ∷ H .0 ∷ r ∷ w ∷ b .0 ∷ c .0 ∷ []) (S .roots .r-r, (S .roots .r-w, (w-w, (S .roots .r-w, tt))))

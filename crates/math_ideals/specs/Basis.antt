@@ -6,7 +6,7 @@
 --   Good           the scaled reduced basis of a reduced ideal: what refusal 9 is about
 -- deg X(m) < deg X(n) is written X(M) ≺ X(N), and deg X(m) < 0 is X(M) ≺ U: no fraction is needed.
 -- Theorems: one ideal has one scaled reduced basis (proofs/Unique); degrees (proofs/Degrees); reduced by degrees is the same as
--- "1 is a minimum" (proofs/Reduced); the tests of refusal 9 (proofs/Tests).
+-- "1 is a minimum" (proofs/Reduced); the tests of refusal 9 (specs/Tests, proofs/Tests).
 use mathlib.Core.Logic.{_⊎_}
 use Rattle.math_valued.specs.Val.{Valued}
 use Rattle.math_valued.specs.Degree.{_≺_, _≼_, Leads}

@@ -1,40 +1,23 @@
 -- Elements and sizes (document 01, "Elements and sizes").
 --   O           the order: the triples A, B, C of polynomials, for A + B r + C w
 --   sc a        the polynomial a as an element; el-r, el-w the elements r and w
+--   times-r v   r v, and times-w v is w v, written out
 --   ev x        the element as a series
 --   X Y Z       its sizes
 --   norm cof    its norm and its cofactor
--- The value and the sizes are written over any operations, so that they are read in the series and in the solver's expressions.
+-- The value and the sizes are those of crate math_triple (specs/Sizes), which are written over any operations.
 -- Theorems: X, Y, Z are linear (proofs/Sizes); ev, norm and cof are multiplicative and x · cof x = norm x (proofs/Values); br + cw is 0
 -- only for b = c = 0, and how small its degree can be (proofs/Bound).
-use Rattle.math_ring.specs.Ring.{Ops, CRing}
+use Rattle.math_ring.specs.Ring.{CRing}
 use Rattle.math_triple.specs.Tri.{Tri, normT, cofT}
+use Rattle.math_triple.specs.Sizes.{evT, XT, YT, ZT}
 use Rattle.math_triple.specs.Order.{order}
 use Rattle.math_valued.specs.Polynomial.{polys}
-use Rattle.math_ideals.specs.Setting.{Setting, P}
-
-module _ {A : Type 0} (o : Ops A) (r w : A) where
-  open Ops o using (add as _+_, mul as _*_, neg as -_, 𝟏)
-
-  infixl 60 _+_
-  infixl 70 _*_
-  infix 80 -_
-  -- "Elements are A + Br + Cw"
-  abbrev pub evT : Tri A → A
-  evT x = x .a + x .b * r + x .c * w
-
-  -- "For x = a + br + cw put X(x) = br + cw, Y(x) = br − cw, Z(x) = 2a − br − cw"
-  abbrev pub XT : Tri A → A
-  XT x = x .b * r + x .c * w
-
-  abbrev pub YT : Tri A → A
-  YT x = x .b * r + - (x .c * w)
-
-  abbrev pub ZT : Tri A → A
-  ZT x = (𝟏 + 𝟏) * x .a + - (x .b * r) + - (x .c * w)
+use Rattle.math_ideals.specs.Setting.{Roots, Setting, P}
 
 module _ (S : Setting) where
-  open Setting S using (𝓥, G, H, r, w)
+  open Setting S using (𝓥)
+  open Roots (S .roots) using (G, H, r, w)
 
   -- "The order O is those with polynomial A, B, C"; products by rw = GH, r² = Hw, w² = Gr
   abbrev pub O : CRing
@@ -48,6 +31,13 @@ module _ (S : Setting) where
 
   abbrev pub el-w : O .El
   el-w = record { a = polys 𝓥 .ops .𝟎; b = polys 𝓥 .ops .𝟎; c = polys 𝓥 .ops .𝟏 }
+
+  -- r (a + br + cw) = cGH + ar + bHw and w (a + br + cw) = bGH + cGr + aw
+  abbrev pub times-r : O .El → O .El
+  times-r v = let o = polys 𝓥 .ops in record { a = o .mul (v .c) (o .mul G H); b = v .a; c = o .mul (v .b) H }
+
+  abbrev pub times-w : O .El → O .El
+  times-w v = let o = polys 𝓥 .ops in record { a = o .mul (v .b) (o .mul G H); b = o .mul (v .c) G; c = v .a }
 
   -- the three coordinates as series
   abbrev pub val : O .El → Tri (𝓥 .L .El)

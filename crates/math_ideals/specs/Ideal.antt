@@ -1,6 +1,7 @@
 -- Ideals (document 01: "An ideal here is ..").
 --   Basis      seven polynomials U, M0, M1, M2, N0, N1, N2
 --   lin In     the lattice Λ = { αU + βM + γN }, and what lies in it
+--   Coords     α, β, γ as exact quotients by e and U: what lies in Λ (`coords-of`, `in-of` in proofs/Check)
 --   Holds      a fraction a/b of polynomials lies in Λ/U
 --   Ideal      Λ/U, that is the lattice of 1, m = M/U, n = N/U, is an ideal
 -- No fraction of elements is written: v/U is in Λ/U where v is in Λ. That `only` follows from the rank, and that six memberships
@@ -38,6 +39,15 @@ module _ (S : Setting) where
   -- e = M1 N2 − M2 N1; the rank is 3 where U and e are not 0
   abbrev pub det : Basis → P S
   det B = B .M .b ⊠ B .N .c ⊞ ⊟ (B .M .c ⊠ B .N .b)
+
+  -- Cramer's rule: v is in Λ exactly where three divisions are exact, two by e and one by U
+  pub record Coords (B : Basis) (v : O S .El) : Type 0 where
+    pub α : P S
+    pub β : P S
+    pub γ : P S
+    pub e-β : v .b ⊠ B .N .c ⊞ ⊟ (v .c ⊠ B .N .b) ≡ det B ⊠ β
+    pub e-γ : v .c ⊠ B .M .b ⊞ ⊟ (v .b ⊠ B .M .c) ≡ det B ⊠ γ
+    pub U-α : v .a ⊞ ⊟ (β ⊠ B .M .a ⊞ γ ⊠ B .N .a) ≡ B .U ⊠ α
 
   -- v/U = a/b for a v in Λ
   abbrev pub Holds : Basis → P S → P S → Type 0

@@ -3,3 +3,4 @@ pub mod Element
 pub mod Ideal
 pub mod Basis
 pub mod Next
+pub mod Tests

@@ -1,3 +1,4 @@
 pub mod Laws
 pub mod Solve
+pub mod Hom
 pub mod Power

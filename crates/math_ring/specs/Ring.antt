@@ -3,6 +3,7 @@
 --   Laws A o   A is a set, and the operations obey the laws of a commutative ring
 --   CRing      a set with operations and laws
 --   nat o n    the numeral n, 1 + (1 + .. + 0)
+--   Hom o q f  the map f keeps the operations: it keeps every expression (proofs/Hom)
 -- Operations stand apart from laws, so that a definition such as a norm is written once, over any `Ops A`, and is read both in a
 -- ring and in the solver's expressions. What follows from the laws is in proofs/Laws.antt, the solver in proofs/Solve.antt.
 use mathlib.Core.Path.{_≡_}
@@ -35,3 +36,10 @@ pub record CRing : Type 1 where
 unfoldable pub nat : {A : Type 0} → Ops A → ℕ → A
 nat o zero = o .𝟎
 nat o (suc n) = o .add (o .𝟏) (nat o n)
+
+pub record Hom {A B : Type 0} (o : Ops A) (q : Ops B) (f : A → B) : Type 0 where
+  pub add : (x y : A) → f (o .add x y) ≡ q .add (f x) (f y)
+  pub mul : (x y : A) → f (o .mul x y) ≡ q .mul (f x) (f y)
+  pub neg : (x : A) → f (o .neg x) ≡ q .neg (f x)
+  pub 𝟎 : f (o .𝟎) ≡ q .𝟎
+  pub 𝟏 : f (o .𝟏) ≡ q .𝟏

@@ -4,6 +4,7 @@ pub mod Turn
 pub mod Floors
 pub mod Product
 pub mod Unique
+pub mod Numbers
 pub mod Constants
 pub mod Quotient
 pub mod Derivative

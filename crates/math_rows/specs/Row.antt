@@ -4,6 +4,7 @@
 --   tab n f        the list f 0, f 1, .., f (n − 1)
 --   shiftAt y k i  the coefficient of t^k y at i
 --   fallAt s d j   the list s read downwards from place d: entry j
+--   comb s c k x y the turn of a reduction, s x − c t^k y
 --   row ρ l        the polynomial Σ l_i t^i, for a list of any length
 --   Floor ρ z l    l is the polynomial part of the series z
 --   Reads ρ s d z  s, of 32 numbers, holds the first coefficients of z, a series of degree d, highest first: the polynomial parts
@@ -58,6 +59,9 @@ module _ {p : ℕ} (ρ : Reading p) where
   unfoldable pub tpow : ℕ → L .El
   tpow zero = 𝟏
   tpow (suc k) = t * tpow k
+
+  abbrev pub comb : K .El → K .El → ℕ → L .El → L .El → L .El
+  comb s c k x y = const s * x + - (const c * (tpow k * y))
 
   -- f₀ + f₁ t + .. , n terms
   unfoldable pub psum : ℕ → (ℕ → K .El) → L .El

@@ -11,8 +11,7 @@ use Rattle.math_valued.specs.Polynomial.{polys, Poly, Divides}
 use Rattle.math_valued.specs.Gcd.{IsGcd}
 use Rattle.math_valued.proofs.Polynomial.{P-path}
 use Rattle.math_rows.specs.Reading.{Reading}
-use Rattle.math_rows.specs.Row.{tpow}
-use Rattle.math_rows.proofs.Turn.{comb}
+use Rattle.math_rows.specs.Row.{tpow, comb}
 use Rattle.math_turns.specs.Points.{Pt, Turned, Moved}
 use Rattle.math_turns.proofs.Turn.{moved-start, moved-swap, moved-turn, moved-back}
 
@@ -43,10 +42,10 @@ module _ {p : ℕ} (ρ : Reading p) where
   pub span-gcd : (a b x : Poly (ρ .𝓥)) (y : L .El) → Span (a .0) (b .0) (x .0) y → y ≡ 𝟎 → IsGcd (ρ .𝓥) a b x
   span-gcd a b x y h z =
       let g = moved-back ρ h in record {
-        left = ((g .α, g .α-poly), P-path 𝓥 (part (a .0) (g .α) (g .β) (g .m-b)));
-        right = ((g .γ, g .γ-poly), P-path 𝓥 (part (b .0) (g .γ) (g .δ) (g .n-b)));
-        u = (h .α, h .α-poly);
-        v = (h .β, h .β-poly);
+        left = (g .α, P-path 𝓥 (part (a .0) (g .α .0) (g .β .0) (g .m-b)));
+        right = (g .γ, P-path 𝓥 (part (b .0) (g .γ .0) (g .δ .0) (g .n-b)));
+        u = h .α;
+        v = h .β;
         comb = P-path 𝓥 (h .m-b);
       }
     where

@@ -12,16 +12,19 @@ use Prim.Native.Nat.{ℕ, zero, suc, _≤_, _<_}
 use Prim.Native.Nat as N
 use native.Mathlib.Omega.{arith}
 use native.Mathlib.Decide.{decLe}
-use Rattle.math_ring.proofs.Laws as r
-use Rattle.math_ring.specs.Ring.{Ops, CRing}
-use Rattle.math_ring.proofs.Solve.{var, one, zer, minus, _:+_, _:*_, _:-_, hyp, solve, solve-by}
+use Rattle.math_ring.specs.Ring.{Ops, CRing, Hom}
+use Rattle.math_ring.proofs.Solve.{var, one, minus, _:+_, _:*_, _:-_, hyp, solve, solve-by}
+use Rattle.math_triple.proofs.Pairs.{changed-start, changed-swap, changed-mix, changed-scale, changed-then, changed-back, changed-det}
 use Rattle.math_valued.specs.Val.{Valued}
 use Rattle.math_valued.specs.Degree.{Has, Lt}
-use Rattle.math_valued.proofs.Degree.{k-domain, k-neg, lead-eq, lt-eq, has-eq, lt-add, lt-neg, lt-up, above, has-lt, lt-cancel, lead-up}
+use Rattle.math_valued.specs.Polynomial.{polys, Poly, IsUnit}
+use Rattle.math_valued.proofs.Polynomial.{const-unit, unit-const}
+use Rattle.math_valued.proofs.Compare.{has-scale, lt-mul-sharp}
+use Rattle.math_valued.proofs.Degree.{lead-eq, lt-eq, has-eq, lt-add, lt-neg, lt-up, above, has-lt, lt-cancel, lead-up}
 use Rattle.math_rows.specs.Reading.{Reading}
-use Rattle.math_rows.specs.Row.{tpow}
-use Rattle.math_rows.proofs.Rows.{tpow-lead, tpow-poly, const-neg}
-use Rattle.math_rows.proofs.Turn.{comb, lead-scale, lt-scale, lt-mul-sharp}
+use Rattle.math_rows.specs.Row.{tpow, comb}
+use Rattle.math_rows.proofs.Rows.{tpow-lead, tpow-poly}
+use Rattle.math_rows.proofs.Turn.{lt-scale}
 use Rattle.math_turns.specs.Points.{Pt, X, Y, side, D, Turned, Moved}
 
 module _ {p : ℕ} (ρ : Reading p) where
@@ -33,179 +36,43 @@ module _ {p : ℕ} (ρ : Reading p) where
   infixl 60 _+_ _+ᵏ_
   infixl 70 _*_ _*ᵏ_
   infix 80 -_ -ᵏ_
-  pub moved-start : (m n : Pt (L .El)) → Moved ρ m n m n
-  moved-start m n = record {
-    α = 𝟏;
-    β = 𝟎;
-    γ = 𝟎;
-    δ = 𝟏;
-    α-poly = 𝓥 .closed .𝟏;
-    β-poly = 𝓥 .closed .𝟎;
-    γ-poly = 𝓥 .closed .𝟎;
-    δ-poly = 𝓥 .closed .𝟏;
-    κ = 1ᵏ;
-    unit = 𝓥 .one≢zero;
-    det = solve L (one :* one :+ minus (zer :* zer)) one tt [] ∙ sym (ρ .const-one);
-    m-b = one-of (m .b) (n .b);
-    m-c = one-of (m .c) (n .c);
-    n-b = two-of (m .b) (n .b);
-    n-c = two-of (m .c) (n .c);
-  }
-    where
-      one-of : (x y : L .El) → x ≡ 𝟏 * x + 𝟎 * y
-      one-of x y = solve L (var 0) (one :* var 0 :+ zer :* var 1) tt (x ∷ y ∷ [])
+  -- polynomials among the series
+  abbrev poly-hom : Hom (polys 𝓥 .ops) (L .ops) (λ a. a .0)
+  poly-hom = record { add = λ x y. refl; mul = λ x y. refl; neg = λ x. refl; 𝟎 = refl; 𝟏 = refl }
 
-      two-of : (x y : L .El) → y ≡ 𝟎 * x + 𝟏 * y
-      two-of x y = solve L (var 1) (zer :* var 0 :+ one :* var 1) tt (x ∷ y ∷ [])
+  abbrev constant : K .El → Poly 𝓥
+  constant s = (const s, 𝓥 .const-poly s)
+
+  constant-unit : (s : K .El) → s ≢ 0ᵏ → IsUnit 𝓥 (constant s)
+  constant-unit s hs = const-unit 𝓥 (constant s) (s, hs, 𝓥 .const-lead s)
+
+  pub moved-start : (m n : Pt (L .El)) → Moved ρ m n m n
+  moved-start = changed-start (polys 𝓥) L (λ a. a .0) poly-hom
 
   -- each times a constant that is not 0
   pub moved-scale : (s z : K .El) → s ≢ 0ᵏ → z ≢ 0ᵏ → (m n : Pt (L .El)) → Moved ρ m n (record { b = const s * m .b; c = const s * m .c }) (record { b = const z * n .b; c = const z * n .c })
-  moved-scale s z hs hz m n = record {
-    α = const s;
-    β = 𝟎;
-    γ = 𝟎;
-    δ = const z;
-    α-poly = 𝓥 .const-poly s;
-    β-poly = 𝓥 .closed .𝟎;
-    γ-poly = 𝓥 .closed .𝟎;
-    δ-poly = 𝓥 .const-poly z;
-    κ = s *ᵏ z;
-    unit = k-domain 𝓥 s z hs hz;
-    det = solve L (var 0 :* var 1 :+ minus (zer :* zer)) (var 0 :* var 1) tt (const s ∷ const z ∷ []) ∙ sym (ρ .const-mul s z);
-    m-b = one-of s (m .b) (n .b);
-    m-c = one-of s (m .c) (n .c);
-    n-b = two-of z (m .b) (n .b);
-    n-c = two-of z (m .c) (n .c);
-  }
-    where
-      one-of : (s : K .El) (x y : L .El) → const s * x ≡ const s * x + 𝟎 * y
-      one-of s x y = solve L (var 0 :* var 1) (var 0 :* var 1 :+ zer :* var 2) tt (const s ∷ x ∷ y ∷ [])
-
-      two-of : (s : K .El) (x y : L .El) → const s * y ≡ 𝟎 * x + const s * y
-      two-of s x y = solve L (var 0 :* var 2) (zer :* var 1 :+ var 0 :* var 2) tt (const s ∷ x ∷ y ∷ [])
+  moved-scale s z hs hz m n = changed-scale (polys 𝓥) L (λ a. a .0) poly-hom (constant s) (constant z) (constant-unit s hs) (constant-unit z hz) m n
 
   pub moved-swap : {m n m′ n′ : Pt (L .El)} → Moved ρ m n m′ n′ → Moved ρ m n n′ m′
-  moved-swap h = record {
-    α = h .γ;
-    β = h .δ;
-    γ = h .α;
-    δ = h .β;
-    α-poly = h .γ-poly;
-    β-poly = h .δ-poly;
-    γ-poly = h .α-poly;
-    δ-poly = h .β-poly;
-    κ = -ᵏ h .κ;
-    unit = k-neg 𝓥 (h .κ) (h .unit);
-    det = solve L (var 2 :* var 1 :+ minus (var 3 :* var 0)) (minus (var 0 :* var 3 :+ minus (var 1 :* var 2))) tt (h .α ∷ h .β ∷ h .γ ∷ h .δ ∷ []) ∙ ap (λ x. - x) (h .det) ∙ sym (const-neg ρ (h .κ));
-    m-b = h .n-b;
-    m-c = h .n-c;
-    n-b = h .m-b;
-    n-c = h .m-c;
-  }
-
-  comb-poly : (s c : K .El) (k : ℕ) (x y : L .El) → IsPoly x → IsPoly y → IsPoly (comb ρ s c k x y)
-  comb-poly s c k x y hx hy = 𝓥 .closed .add _ _ (𝓥 .closed .mul _ _ (𝓥 .const-poly s) hx) (𝓥 .closed .neg _ (𝓥 .closed .mul _ _ (𝓥 .const-poly c) (𝓥 .closed .mul _ _ (tpow-poly ρ k) hy)))
-
-  -- a turn of the first
-  pub moved-turn : {m n m′ n′ m″ : Pt (L .El)} {s c : K .El} {k : ℕ} → s ≢ 0ᵏ → Moved ρ m n m′ n′ → Turned ρ s c k m′ n′ m″ → Moved ρ m n m″ n′
-  moved-turn {m} {n} {s} {c} {k} hs h T = record {
-    α = comb ρ s c k (h .α) (h .γ);
-    β = comb ρ s c k (h .β) (h .δ);
-    γ = h .γ;
-    δ = h .δ;
-    α-poly = comb-poly s c k (h .α) (h .γ) (h .α-poly) (h .γ-poly);
-    β-poly = comb-poly s c k (h .β) (h .δ) (h .β-poly) (h .δ-poly);
-    γ-poly = h .γ-poly;
-    δ-poly = h .δ-poly;
-    κ = s *ᵏ h .κ;
-    unit = k-domain 𝓥 s (h .κ) hs (h .unit);
-    det = solve L ((var 4 :* var 0 :+ minus (var 5 :* (var 6 :* var 2))) :* var 3 :+ minus ((var 4 :* var 1 :+ minus (var 5 :* (var 6 :* var 3))) :* var 2)) (var 4 :* (var 0 :* var 3 :+ minus (var 1 :* var 2))) tt (h .α ∷ h .β ∷ h .γ ∷ h .δ ∷ const s ∷ const c ∷ tpow ρ k ∷ [])
-        ∙ ap (λ x. const s * x) (h .det) ∙ sym (ρ .const-mul s (h .κ));
-    m-b = T .at-b ∙ ap₂ (comb ρ s c k) (h .m-b) (h .n-b) ∙ mix (m .b) (n .b);
-    m-c = T .at-c ∙ ap₂ (comb ρ s c k) (h .m-c) (h .n-c) ∙ mix (m .c) (n .c);
-    n-b = h .n-b;
-    n-c = h .n-c;
-  }
-    where
-      mix : (x y : L .El) → comb ρ s c k (h .α * x + h .β * y) (h .γ * x + h .δ * y) ≡ comb ρ s c k (h .α) (h .γ) * x + comb ρ s c k (h .β) (h .δ) * y
-      mix x y = solve L (var 4 :* (var 0 :* var 7 :+ var 1 :* var 8) :+ minus (var 5 :* (var 6 :* (var 2 :* var 7 :+ var 3 :* var 8))))
-          ((var 4 :* var 0 :+ minus (var 5 :* (var 6 :* var 2))) :* var 7 :+ (var 4 :* var 1 :+ minus (var 5 :* (var 6 :* var 3))) :* var 8) tt
-          (h .α ∷ h .β ∷ h .γ ∷ h .δ ∷ const s ∷ const c ∷ tpow ρ k ∷ x ∷ y ∷ [])
+  moved-swap h = changed-swap (polys 𝓥) L (λ a. a .0) poly-hom h
 
   -- one change of basis after the other
   pub moved-then : {m n m′ n′ m″ n″ : Pt (L .El)} → Moved ρ m n m′ n′ → Moved ρ m′ n′ m″ n″ → Moved ρ m n m″ n″
-  moved-then {m} {n} h g = record {
-    α = two (g .α) (g .β) (h .α) (h .γ);
-    β = two (g .α) (g .β) (h .β) (h .δ);
-    γ = two (g .γ) (g .δ) (h .α) (h .γ);
-    δ = two (g .γ) (g .δ) (h .β) (h .δ);
-    α-poly = two-poly (g .α) (g .β) (h .α) (h .γ) (g .α-poly) (g .β-poly) (h .α-poly) (h .γ-poly);
-    β-poly = two-poly (g .α) (g .β) (h .β) (h .δ) (g .α-poly) (g .β-poly) (h .β-poly) (h .δ-poly);
-    γ-poly = two-poly (g .γ) (g .δ) (h .α) (h .γ) (g .γ-poly) (g .δ-poly) (h .α-poly) (h .γ-poly);
-    δ-poly = two-poly (g .γ) (g .δ) (h .β) (h .δ) (g .γ-poly) (g .δ-poly) (h .β-poly) (h .δ-poly);
-    κ = g .κ *ᵏ h .κ;
-    unit = k-domain 𝓥 (g .κ) (h .κ) (g .unit) (h .unit);
-    det = solve L ((var 0 :* var 4 :+ var 1 :* var 6) :* (var 2 :* var 5 :+ var 3 :* var 7) :+ minus ((var 0 :* var 5 :+ var 1 :* var 7) :* (var 2 :* var 4 :+ var 3 :* var 6)))
-        ((var 0 :* var 3 :+ minus (var 1 :* var 2)) :* (var 4 :* var 7 :+ minus (var 5 :* var 6))) tt (g .α ∷ g .β ∷ g .γ ∷ g .δ ∷ h .α ∷ h .β ∷ h .γ ∷ h .δ ∷ [])
-        ∙ ap₂ _*_ (g .det) (h .det) ∙ sym (ρ .const-mul (g .κ) (h .κ));
-    m-b = g .m-b ∙ ap₂ (λ x y. g .α * x + g .β * y) (h .m-b) (h .n-b) ∙ mix (g .α) (g .β) (m .b) (n .b);
-    m-c = g .m-c ∙ ap₂ (λ x y. g .α * x + g .β * y) (h .m-c) (h .n-c) ∙ mix (g .α) (g .β) (m .c) (n .c);
-    n-b = g .n-b ∙ ap₂ (λ x y. g .γ * x + g .δ * y) (h .m-b) (h .n-b) ∙ mix (g .γ) (g .δ) (m .b) (n .b);
-    n-c = g .n-c ∙ ap₂ (λ x y. g .γ * x + g .δ * y) (h .m-c) (h .n-c) ∙ mix (g .γ) (g .δ) (m .c) (n .c);
-  }
-    where
-      two : L .El → L .El → L .El → L .El → L .El
-      two x y u v = x * u + y * v
-
-      two-poly : (x y u v : L .El) → IsPoly x → IsPoly y → IsPoly u → IsPoly v → IsPoly (two x y u v)
-      two-poly x y u v a b c d = 𝓥 .closed .add _ _ (𝓥 .closed .mul _ _ a c) (𝓥 .closed .mul _ _ b d)
-
-      mix : (x y u v : L .El) → x * (h .α * u + h .β * v) + y * (h .γ * u + h .δ * v) ≡ two x y (h .α) (h .γ) * u + two x y (h .β) (h .δ) * v
-      mix x y u v = solve L (var 0 :* (var 4 :* var 2 :+ var 5 :* var 3) :+ var 1 :* (var 6 :* var 2 :+ var 7 :* var 3)) ((var 0 :* var 4 :+ var 1 :* var 6) :* var 2 :+ (var 0 :* var 5 :+ var 1 :* var 7) :* var 3) tt (x ∷ y ∷ u ∷ v ∷ h .α ∷ h .β ∷ h .γ ∷ h .δ ∷ [])
+  moved-then h g = changed-then (polys 𝓥) L (λ a. a .0) poly-hom h g
 
   -- and back: the two pairs have one span over the polynomials
   pub moved-back : {m n m′ n′ : Pt (L .El)} → Moved ρ m n m′ n′ → Moved ρ m′ n′ m n
-  moved-back {m} {n} {m′} {n′} h = record {
-    α = J * h .δ;
-    β = - (J * h .β);
-    γ = - (J * h .γ);
-    δ = J * h .α;
-    α-poly = 𝓥 .closed .mul _ _ (𝓥 .const-poly j) (h .δ-poly);
-    β-poly = 𝓥 .closed .neg _ (𝓥 .closed .mul _ _ (𝓥 .const-poly j) (h .β-poly));
-    γ-poly = 𝓥 .closed .neg _ (𝓥 .closed .mul _ _ (𝓥 .const-poly j) (h .γ-poly));
-    δ-poly = 𝓥 .closed .mul _ _ (𝓥 .const-poly j) (h .α-poly);
-    κ = j;
-    unit = λ e. 𝓥 .one≢zero (sym (inv .1) ∙ ap (λ x. h .κ *ᵏ x) e ∙ r.mul-zero K (h .κ));
-    det = solve-by L (var 4 :* var 3 :* (var 4 :* var 0) :+ minus (minus (var 4 :* var 1) :* minus (var 4 :* var 2))) (var 4)
-        (hyp (var 4 :* var 4) (var 0 :* var 3 :+ minus (var 1 :* var 2)) (var 5) ∷ hyp (var 4) (var 5 :* var 4) one ∷ []) tt
-        (h .α ∷ h .β ∷ h .γ ∷ h .δ ∷ J ∷ const (h .κ) ∷ []) (h .det, (one?, tt));
-    m-b = first (m .b) (n .b) ∙ ap₂ (λ x y. J * h .δ * x + - (J * h .β) * y) (sym (h .m-b)) (sym (h .n-b));
-    m-c = first (m .c) (n .c) ∙ ap₂ (λ x y. J * h .δ * x + - (J * h .β) * y) (sym (h .m-c)) (sym (h .n-c));
-    n-b = second (m .b) (n .b) ∙ ap₂ (λ x y. - (J * h .γ) * x + J * h .α * y) (sym (h .m-b)) (sym (h .n-b));
-    n-c = second (m .c) (n .c) ∙ ap₂ (λ x y. - (J * h .γ) * x + J * h .α * y) (sym (h .m-c)) (sym (h .n-c));
-  }
+  moved-back h = changed-back (polys 𝓥) L (λ a. a .0) poly-hom h
+
+  -- a turn of the first
+  pub moved-turn : {m n m′ n′ m″ : Pt (L .El)} {s c : K .El} {k : ℕ} → s ≢ 0ᵏ → Moved ρ m n m′ n′ → Turned ρ s c k m′ n′ m″ → Moved ρ m n m″ n′
+  moved-turn {m′ = m′} {n′} {m″} {s} {c} {k} hs h T =
+      let e : Poly 𝓥 = polys 𝓥 .ops .neg (polys 𝓥 .ops .mul (constant c) (tpow ρ k, tpow-poly ρ k)) in
+      moved-then h (changed-mix (polys 𝓥) L (λ a. a .0) poly-hom (constant s) e (constant-unit s hs) {m = m′} {n = n′} {m′ = m″}
+      (T .at-b ∙ mix (m′ .b) (n′ .b)) (T .at-c ∙ mix (m′ .c) (n′ .c)))
     where
-      inv : (y : K .El) × (h .κ *ᵏ y ≡ 1ᵏ)
-      inv = 𝓥 .field .inv (h .κ) (h .unit)
-
-      j : K .El
-      j = inv .0
-
-      J : L .El
-      J = const j
-
-      one? : const (h .κ) * J ≡ 𝟏
-      one? = sym (ρ .const-mul (h .κ) j) ∙ ap const (inv .1) ∙ ρ .const-one
-
-      first : (x y : L .El) → x ≡ J * h .δ * (h .α * x + h .β * y) + - (J * h .β) * (h .γ * x + h .δ * y)
-      first x y = solve-by L (var 6) (var 4 :* var 3 :* (var 0 :* var 6 :+ var 1 :* var 7) :+ minus (var 4 :* var 1) :* (var 2 :* var 6 :+ var 3 :* var 7))
-          (hyp (minus (var 4 :* var 6)) (var 0 :* var 3 :+ minus (var 1 :* var 2)) (var 5) ∷ hyp (minus (var 6)) (var 5 :* var 4) one ∷ []) tt
-          (h .α ∷ h .β ∷ h .γ ∷ h .δ ∷ J ∷ const (h .κ) ∷ x ∷ y ∷ []) (h .det, (one?, tt))
-
-      second : (x y : L .El) → y ≡ - (J * h .γ) * (h .α * x + h .β * y) + J * h .α * (h .γ * x + h .δ * y)
-      second x y = solve-by L (var 7) (minus (var 4 :* var 2) :* (var 0 :* var 6 :+ var 1 :* var 7) :+ var 4 :* var 0 :* (var 2 :* var 6 :+ var 3 :* var 7))
-          (hyp (minus (var 4 :* var 7)) (var 0 :* var 3 :+ minus (var 1 :* var 2)) (var 5) ∷ hyp (minus (var 7)) (var 5 :* var 4) one ∷ []) tt
-          (h .α ∷ h .β ∷ h .γ ∷ h .δ ∷ J ∷ const (h .κ) ∷ x ∷ y ∷ []) (h .det, (one?, tt))
+      mix : (x y : L .El) → comb ρ s c k x y ≡ const s * x + - (const c * tpow ρ k) * y
+      mix x y = solve L (var 0 :* var 3 :+ minus (var 1 :* (var 2 :* var 4))) (var 0 :* var 3 :+ minus (var 1 :* var 2) :* var 4) tt (const s ∷ const c ∷ tpow ρ k ∷ x ∷ y ∷ [])
 
   module _ (ρᵣ ω : L .El) where
     pub turned-X : {s c : K .El} {k : ℕ} {a b a′ : Pt (L .El)} → Turned ρ s c k a b a′ → X ρ ρᵣ ω a′ ≡ comb ρ s c k (X ρ ρᵣ ω a) (X ρ ρᵣ ω b)
@@ -244,30 +111,23 @@ module _ {p : ℕ} (ρ : Reading p) where
         lt-cancel 𝓥 j h (lt-up 𝓥 (N._+_ dw j) (lt-eq 𝓥 (halves two (solve L ((one :+ one) :* (var 2 :* var 3)) (var 0 :* var 1 :+ var 2 :* var 3 :+ minus (var 0 :* var 1 :+ minus (var 2 :* var 3))) tt (a .b ∷ ρᵣ ∷ a .c ∷ ω ∷ [])) hx (lt-neg 𝓥 hy))
         (L .laws .mul-comm (a .c) ω)) l)
 
-    -- the determinant keeps its degree
-    pub moved-D : {m n m′ n′ : Pt (L .El)} (h : Moved ρ m n m′ n′) → const (h .κ) * D ρ ρᵣ ω m n ≡ D ρ ρᵣ ω m′ n′
-    moved-D {m} {n} {m′} {n′} h =
-        ap (λ x. x * D ρ ρᵣ ω m n) (sym (h .det))
-        ∙ solve L
-        ((var 0 :* var 3 :+ minus (var 1 :* var 2)) :* ((var 4 :* var 8 :+ var 5 :* var 9) :* (var 6 :* var 8 :+ minus (var 7 :* var 9)) :+ minus ((var 6 :* var 8 :+ var 7 :* var 9) :* (var 4 :* var 8 :+ minus (var 5 :* var 9)))))
-        (((var 0 :* var 4 :+ var 1 :* var 6) :* var 8 :+ (var 0 :* var 5 :+ var 1 :* var 7) :* var 9) :* ((var 2 :* var 4 :+ var 3 :* var 6) :* var 8 :+ minus ((var 2 :* var 5 :+ var 3 :* var 7) :* var 9))
-        :+ minus (((var 2 :* var 4 :+ var 3 :* var 6) :* var 8 :+ (var 2 :* var 5 :+ var 3 :* var 7) :* var 9) :* ((var 0 :* var 4 :+ var 1 :* var 6) :* var 8 :+ minus ((var 0 :* var 5 :+ var 1 :* var 7) :* var 9)))) tt
-        (h .α ∷ h .β ∷ h .γ ∷ h .δ ∷ m .b ∷ m .c ∷ n .b ∷ n .c ∷ ρᵣ ∷ ω ∷ [])
-        ∙ ap₂ (λ x y. D ρ ρᵣ ω x y) (sym mm) (sym nn)
-      where
-        mm : m′ ≡ record { b = h .α * m .b + h .β * n .b; c = h .α * m .c + h .β * n .c }
-        mm = ap₂ (λ x y. record { b = x; c = y }) (h .m-b) (h .m-c)
-
-        nn : n′ ≡ record { b = h .γ * m .b + h .δ * n .b; c = h .γ * m .c + h .δ * n .c }
-        nn = ap₂ (λ x y. record { b = x; c = y }) (h .n-b) (h .n-c)
+    -- D is the determinant of the coordinates, times −2 r w: a change multiplies it by a constant
+    D-is : (m n : Pt (L .El)) → D ρ ρᵣ ω m n ≡ - ((𝟏 + 𝟏) * (ρᵣ * ω)) * (m .b * n .c + - (m .c * n .b))
+    D-is m n = solve L ((var 0 :* var 4 :+ var 1 :* var 5) :* (var 2 :* var 4 :+ minus (var 3 :* var 5)) :+ minus ((var 2 :* var 4 :+ var 3 :* var 5) :* (var 0 :* var 4 :+ minus (var 1 :* var 5))))
+        (minus ((one :+ one) :* (var 4 :* var 5)) :* (var 0 :* var 3 :+ minus (var 1 :* var 2))) tt (m .b ∷ m .c ∷ n .b ∷ n .c ∷ ρᵣ ∷ ω ∷ [])
 
     pub moved-has : {m n m′ n′ : Pt (L .El)} {d : ℕ} → Moved ρ m n m′ n′ → Has 𝓥 (D ρ ρᵣ ω m n) d → Has 𝓥 (D ρ ρᵣ ω m′ n′) d
-    moved-has h (a, ha, g) = has-eq 𝓥 (h .κ *ᵏ a, k-domain 𝓥 (h .κ) a (h .unit) ha, lead-scale ρ (h .κ) g) (moved-D h)
+    moved-has {m} {n} {m′} {n′} h g =
+        let κ : L .El = h .α .0 * h .δ .0 + - (h .β .0 * h .γ .0) in
+        has-eq 𝓥 (has-scale 𝓥 (unit-const 𝓥 _ (h .unit)) g)
+        (ap (λ z. κ * z) (D-is m n)
+        ∙ solve L (var 0 :* (var 1 :* var 2)) (var 1 :* (var 0 :* var 2)) tt (κ ∷ (- ((𝟏 + 𝟏) * (ρᵣ * ω))) ∷ (m .b * n .c + - (m .c * n .b)) ∷ [])
+        ∙ sym (D-is m′ n′ ∙ ap (λ z. - ((𝟏 + 𝟏) * (ρᵣ * ω)) * z) (changed-det (polys 𝓥) L (λ a. a .0) poly-hom h)))
 
     -- ---- the end of clear_y: degrees from the determinant
     module _ {m n : Pt (L .El)} (s u : ℕ) (det : Has 𝓥 (D ρ ρᵣ ω m n) (N._+_ s u)) (xn : Lt 𝓥 (X ρ ρᵣ ω n) (suc s)) (ym : Lt 𝓥 (Y ρ ρᵣ ω m) u) where
       small : Lt 𝓥 (X ρ ρᵣ ω n * Y ρ ρᵣ ω m) (N._+_ s u)
-      small = lt-mul-sharp ρ xn ym
+      small = lt-mul-sharp 𝓥 xn ym
 
       no-other : Lt 𝓥 (X ρ ρᵣ ω m * Y ρ ρᵣ ω n) (N._+_ s u) → ⊥
       no-other h = let z : N._+_ s u < N._+_ s u = above 𝓥 det (lt-add 𝓥 h (lt-neg 𝓥 small)) in absurd (omega arith)
@@ -277,8 +137,8 @@ module _ {p : ℕ} (ρ : Reading p) where
       full a b ha hb l = go (decLe (N._+_ (N._+_ s u) 2) (N._+_ a b))
         where
           low : (a : ℕ) → Lt 𝓥 (X ρ ρᵣ ω m) a → N._+_ a b < N._+_ (N._+_ s u) 2 → Lt 𝓥 (X ρ ρᵣ ω m * Y ρ ρᵣ ω n) (N._+_ s u)
-          low zero h z = lt-eq 𝓥 (lt-up 𝓥 (N._+_ s u) (lt-mul-sharp ρ (lt-up 𝓥 (suc s) hb l) h) (omega arith)) (L .laws .mul-comm (Y ρ ρᵣ ω n) (X ρ ρᵣ ω m))
-          low (suc a) h z = lt-up 𝓥 (N._+_ s u) (lt-mul-sharp ρ h hb) (omega arith)
+          low zero h z = lt-eq 𝓥 (lt-up 𝓥 (N._+_ s u) (lt-mul-sharp 𝓥 (lt-up 𝓥 (suc s) hb l) h) (omega arith)) (L .laws .mul-comm (Y ρ ρᵣ ω n) (X ρ ρᵣ ω m))
+          low (suc a) h z = lt-up 𝓥 (N._+_ s u) (lt-mul-sharp 𝓥 h hb) (omega arith)
 
           go : Dec (N._+_ (N._+_ s u) 2 ≤ N._+_ a b) → N._+_ (N._+_ s u) 2 ≤ N._+_ a b
           go (yes z) = z

@@ -1,5 +1,5 @@
 -- Elements b r + c w by their two coordinates, as the reduction carries them: row 0 is found at the end.
---   Pt A                  an element: b and c
+--   Pt A                  an element: b and c (crate math_triple)
 --   X, Y                  its sizes b r + c w and b r − c w
 --   side true, false      Y, X: the size that a loop of the reduction looks at
 --   D m n                 the determinant X(m) Y(n) − X(n) Y(m)
@@ -8,21 +8,20 @@
 --                         the two pairs have one span over the polynomials
 -- What a turn does to degrees, and that `Moved` is an equivalence, is in proofs/Turn.antt.
 use mathlib.Core.Path.{_≡_}
-use mathlib.Core.Logic.{_≢_}
 use mathlib.Core.Bool.{Bool, true, false}
 use Prim.Native.Nat.{ℕ}
 use Rattle.math_ring.specs.Ring.{Ops, CRing}
+use Rattle.math_triple.specs.Sizes.{sizeX, sizeY}
+use Rattle.math_triple.specs.Pairs.{Changed}
 use Rattle.math_valued.specs.Val.{Valued}
+use Rattle.math_valued.specs.Polynomial.{polys}
 use Rattle.math_rows.specs.Reading.{Reading}
-use Rattle.math_rows.proofs.Turn.{comb}
-
-pub record Pt (A : Type 0) : Type 0 where
-  pub b : A
-  pub c : A
+use Rattle.math_rows.specs.Row.{comb}
+pub use Rattle.math_triple.specs.Pairs.{Pt}
 
 module _ {p : ℕ} (ρ : Reading p) where
   open Reading ρ using (𝓥)
-  open Valued 𝓥 using (K, L, const, IsPoly)
+  open Valued 𝓥 using (K, L)
   open Ops (L .ops) using (add as _+_, mul as _*_, neg as -_)
 
   infixl 60 _+_
@@ -30,10 +29,10 @@ module _ {p : ℕ} (ρ : Reading p) where
   infix 80 -_
   module _ (ρᵣ ω : L .El) where
     abbrev pub X : Pt (L .El) → L .El
-    X a = a .b * ρᵣ + a .c * ω
+    X a = sizeX (L .ops) ρᵣ ω (a .b) (a .c)
 
     abbrev pub Y : Pt (L .El) → L .El
-    Y a = a .b * ρᵣ + - (a .c * ω)
+    Y a = sizeY (L .ops) ρᵣ ω (a .b) (a .c)
 
     abbrev pub side : Bool → Pt (L .El) → L .El
     side true a = Y a
@@ -46,19 +45,5 @@ module _ {p : ℕ} (ρ : Reading p) where
     pub at-b : a′ .b ≡ comb ρ s c k (a .b) (b .b)
     pub at-c : a′ .c ≡ comb ρ s c k (a .c) (b .c)
 
-  pub record Moved (m n m′ n′ : Pt (L .El)) : Type 0 where
-    pub α : L .El
-    pub β : L .El
-    pub γ : L .El
-    pub δ : L .El
-    pub α-poly : IsPoly α
-    pub β-poly : IsPoly β
-    pub γ-poly : IsPoly γ
-    pub δ-poly : IsPoly δ
-    pub κ : K .El
-    pub unit : κ ≢ K .ops .𝟎
-    pub det : α * δ + - (β * γ) ≡ const κ
-    pub m-b : m′ .b ≡ α * m .b + β * n .b
-    pub m-c : m′ .c ≡ α * m .c + β * n .c
-    pub n-b : n′ .b ≡ γ * m .b + δ * n .b
-    pub n-c : n′ .c ≡ γ * m .c + δ * n .c
+  abbrev pub Moved : Pt (L .El) → Pt (L .El) → Pt (L .El) → Pt (L .El) → Type 0
+  Moved m n m′ n′ = Changed (polys 𝓥) L (λ a. a .0) m n m′ n′

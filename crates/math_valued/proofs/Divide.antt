@@ -4,10 +4,10 @@ use mathlib.Core.List.{[], _∷_}
 use Prim.Native.Nat.{ℕ}
 use Rattle.math_ring.proofs.Laws as r
 use Rattle.math_ring.specs.Ring.{Ops, CRing}
-use Rattle.math_ring.specs.Subring.{sub-path}
 use Rattle.math_ring.proofs.Solve.{Expr, var, hyp, one, minus, _:+_, _:*_, _:=_, solve-by, ring₃}
 use Rattle.math_valued.specs.Val.{Valued}
 use Rattle.math_valued.proofs.Degree as d
+use Rattle.math_valued.proofs.Polynomial.{P-path}
 use Rattle.math_valued.specs.Degree.{Has}
 use Rattle.math_valued.specs.Polynomial.{Poly, polys, Divides, Squarefree, Coprime}
 
@@ -20,11 +20,8 @@ module _ (𝓥 : Valued) where
   infixl 60 _+_
   infixl 70 _*_
   infix 80 -_
-  path : {s t : Poly 𝓥} → s .0 ≡ t .0 → s ≡ t
-  path {s} {t} e = sub-path (𝓥 .L) (𝓥 .IsPoly) (𝓥 .closed) {x = s} {y = t} e
-
   pub p-cancel : {n : ℕ} (a b c : Poly 𝓥) → Has 𝓥 (a .0) n → a * b ≡ a * c → b ≡ c
-  p-cancel a b c h e = path (d.cancel 𝓥 (b .0) (c .0) h (ap (λ z. z .0) e))
+  p-cancel a b c h e = P-path 𝓥 (d.cancel 𝓥 (b .0) (c .0) h (ap (λ z. z .0) e))
 
   -- 1 = u a + v b
   abbrev pub Bez : Poly 𝓥 → Poly 𝓥 → Type 0
@@ -36,10 +33,10 @@ module _ (𝓥 : Valued) where
   pub coprime-bez : (a b : Poly 𝓥) → Coprime 𝓥 a b → Bez a b
   coprime-bez a b h =
       let z = 𝓥 .bezout a b in
-      let (q, e) = h (z .0) (z .3, path (z .6)) (z .4, path (z .7)) in (
+      let (q, e) = h (z .0) (z .3, P-path 𝓥 (z .6)) (z .4, P-path 𝓥 (z .7)) in (
         q * z .1,
         q * z .2,
-        e ∙ ap (λ t. t * q) (path {s = z .0} {t = z .1 * a + z .2 * b} (z .5)) ∙
+        e ∙ ap (λ t. t * q) (P-path 𝓥 {a = z .0} {b = z .1 * a + z .2 * b} (z .5)) ∙
             solve-by R ((var 0 :* var 2 :+ var 1 :* var 3) :* var 4) (var 4 :* var 0 :* var 2 :+ var 4 :* var 1 :* var 3) [] tt (z .1 ∷ z .2 ∷ a ∷ b ∷ q ∷ []) tt,
       )
 
@@ -52,7 +49,7 @@ module _ (𝓥 : Valued) where
   pub cube-divides : {n : ℕ} (G a : Poly 𝓥) → Has 𝓥 (G .0) n → Squarefree 𝓥 G → Divides 𝓥 G (a * a * a) → Divides 𝓥 G a
   cube-divides G a hG free (k, f) =
       let z = 𝓥 .bezout G a in
-      go (z .0) (z .1) (z .2) (z .3) (z .4) (path (z .5)) (path (z .6)) (path (z .7))
+      go (z .0) (z .1) (z .2) (z .3) (z .4) (P-path 𝓥 (z .5)) (P-path 𝓥 (z .6)) (P-path 𝓥 (z .7))
     where
       -- c = gcd(G, a), G = c g, a = c b, 1 = u g + v b
       go : (c u v g b : Poly 𝓥) → c ≡ u * G + v * a → G ≡ c * g → a ≡ c * b → Divides 𝓥 G a

@@ -3,10 +3,10 @@ use mathlib.Core.Path.{_≡_, refl, sym, ap, ap₂, _∙_}
 use mathlib.Core.List.{List, [], _∷_}
 use Rattle.math_ring.proofs.Laws as r
 use Rattle.math_ring.specs.Ring.{Ops, CRing}
-use Rattle.math_ring.specs.Subring.{sub-path}
 use Rattle.math_ring.proofs.Solve.{_:+_, _:*_, _:=_, ring₃, ring₄}
 use Rattle.math_valued.specs.Val.{Valued}
 use Rattle.math_valued.specs.Polynomial.{Poly, polys, Divides}
+use Rattle.math_valued.proofs.Polynomial.{P-path}
 
 module _ (𝓥 : Valued) where
   abbrev R : CRing
@@ -43,16 +43,13 @@ module _ (𝓥 : Valued) where
   all-trans d h [] k a = tt
   all-trans d h (x ∷ l) k (a, b) = (divides-trans d h x k a, all-trans d h l k b)
 
-  path : {s t : Poly 𝓥} → s .0 ≡ t .0 → s ≡ t
-  path {s} {t} e = sub-path (𝓥 .L) (𝓥 .IsPoly) (𝓥 .closed) {x = s} {y = t} e
-
   -- Bezout, for a list
   pub gcds : (l : List (Poly 𝓥)) → (g : Poly 𝓥) × Comb l g × All (Divides 𝓥 g) l
   gcds [] = (𝟎, refl, tt)
   gcds (x ∷ l) =
       let (h, c, a) = gcds l in
       let b = 𝓥 .bezout x h in
-      (b .0, (b .1, b .2 * h, comb-scale l (b .2) h c, path (b .5)), ((b .3, path (b .6)), all-trans (b .0) h l (b .4, path (b .7)) a))
+      (b .0, (b .1, b .2 * h, comb-scale l (b .2) h c, P-path 𝓥 (b .5)), ((b .3, P-path 𝓥 (b .6)), all-trans (b .0) h l (b .4, P-path 𝓥 (b .7)) a))
 
   -- What divides e times each of the list divides e times their combinations.
   pub comb-divides : (d e : Poly 𝓥) (l : List (Poly 𝓥)) (g : Poly 𝓥) → Comb l g → All (λ a. Divides 𝓥 d (e * a)) l → Divides 𝓥 d (e * g)

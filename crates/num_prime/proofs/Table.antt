@@ -15,7 +15,8 @@ use native.Mathlib.Decide.{decLt, ℕ-discrete}
 use lib.Dec.{T}
 use lib.ListN.{length, getD}
 use Rattle.math_fp.specs.Fp.{Prime}
-use Rattle.math_fp.proofs.Trial.{primeb, primeb-sound, primeb-make, prime-divisor, only-step}
+use Rattle.math_fp.specs.Trial.{primeb}
+use Rattle.math_fp.proofs.Trial.{primeb-sound, primeb-make, prime-divisor, only-step}
 use Rattle.num_prime.specs.Table.{largest, primes, PrimeTest}
 
 -- ---- the primes among n, n + 1, .., k numbers

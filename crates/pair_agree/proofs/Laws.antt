@@ -16,6 +16,7 @@ use Rattle.math_valued.proofs.Degree.{k-domain, k-cancel}
 use Rattle.math_rows.specs.Reading.{Reading}
 use Rattle.math_rows.specs.Made.{reading}
 use Rattle.math_rows.proofs.Unique.{cast-inj, same-cast, mod-of}
+use Rattle.math_rows.proofs.Numbers.{cast-square, cast-cube}
 use Rattle.math_rows.proofs.Constants.{cube-inj}
 use Rattle.pair_agree.specs.Rows.{Law}
 
@@ -59,13 +60,10 @@ module _ (p : ℕ) (pr : Prime p) where
   open Ops (K .ops) using (mul as _*_, 𝟎 as 0ᵏ, 𝟏 as 1ᵏ)
 
   infixl 70 _*_
-  value-cast : (a b : ℕ) → cast (N._*_ a (N._*_ b b)) ≡ cast a * (cast b * cast b)
-  value-cast a b = ρ .cast-mul a (N._*_ b b) ∙ ap (λ z. cast a * z) (ρ .cast-mul b b)
-
   module _ (x y g h g′ h′ : ℕ) where
     cube-cast : cast (N._*_ (N._*_ (N._*_ x x) x) (N._*_ g′ (N._*_ h′ h′))) ≡ cast x * cast x * cast x * (cast g′ * (cast h′ * cast h′))
     cube-cast = ρ .cast-mul (N._*_ (N._*_ x x) x) (N._*_ g′ (N._*_ h′ h′))
-        ∙ ap₂ _*_ (ρ .cast-mul (N._*_ x x) x ∙ ap (λ z. z * cast x) (ρ .cast-mul x x)) (value-cast g′ h′)
+        ∙ ap₂ _*_ (cast-cube ρ x) (cast-square ρ g′ h′)
 
     square-cast : cast (N._*_ (N._*_ x x) h′) ≡ cast x * cast x * cast h′
     square-cast = ρ .cast-mul (N._*_ x x) h′ ∙ ap (λ z. z * cast h′) (ρ .cast-mul x x)
@@ -74,13 +72,13 @@ module _ (p : ℕ) (pr : Prime p) where
     law-of lx ly e f = record {
       x-below = lx;
       y-below = ly;
-      cube = mod-of ρ _ _ (cube-cast ∙ e ∙ sym (value-cast g h));
+      cube = mod-of ρ _ _ (cube-cast ∙ e ∙ sym (cast-square ρ g h));
       square = mod-of ρ _ _ (ρ .cast-mul y h ∙ f ∙ sym square-cast);
     }
 
     module _ (w : Law p x y g h g′ h′) where
       cubes : cast x * cast x * cast x * (cast g′ * (cast h′ * cast h′)) ≡ cast g * (cast h * cast h)
-      cubes = sym cube-cast ∙ same-cast ρ _ _ (w .cube) ∙ value-cast g h
+      cubes = sym cube-cast ∙ same-cast ρ _ _ (w .cube) ∙ cast-square ρ g h
 
       squares : cast y * cast h ≡ cast x * cast x * cast h′
       squares = sym (ρ .cast-mul y h) ∙ same-cast ρ _ _ (w .square) ∙ square-cast

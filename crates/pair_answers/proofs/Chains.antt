@@ -18,7 +18,7 @@ use Rattle.basis_record.specs.Record.{setting, basisOf}
 use Rattle.door_basis.specs.Answer.{IsFirst}
 use Rattle.step_next.specs.Steps.{Steps}
 use Rattle.walk_chain.specs.Walk.{Reaches, Closes, StaysOpen}
-use Rattle.pair_theory.specs.Side.{side}
+use Rattle.basis_record.specs.Setting.{roots}
 use Rattle.pair_theory.specs.Carries.{Carries, carry}
 use Rattle.pair_theory.proofs.Transport.{start-carry, next-carry, degree-carry, chain-carry, open-carry, closing-carry}
 use Rattle.pair_answers.proofs.Way.{Way, map}
@@ -33,11 +33,11 @@ module _ {p : ℕ} {G H G′ H′ : List ℕ} (A₀ : Accepted p G H) (w : Way p
     abbrev 𝓥 : Valued
     𝓥 = reading p (A′ .prime) .𝓥
 
-    abbrev φ : Carries (side A (A′ .prime)) (side A′ (A′ .prime))
+    abbrev φ : Carries (roots A (A′ .prime)) (roots A′ (A′ .prime))
     φ = map A A′ (A′ .prime) w
 
     abbrev move : List ℕ → Basis (setting A′)
-    move B = carry (side A (A′ .prime)) (side A′ (A′ .prime)) φ (basisOf A B)
+    move B = carry (roots A (A′ .prime)) (roots A′ (A′ .prime)) φ (basisOf A B)
 
     one : (P : Basis (setting A′) → Type 0) {B B′ : List ℕ} → Over w B B′ → P (move B) → P (basisOf A′ B′)
     one P {B} {B′} o k = subst P (basis-over A A′ (A′ .prime) w B B′ (o .rows)) k

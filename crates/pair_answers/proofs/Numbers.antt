@@ -17,10 +17,9 @@ use Rattle.math_valued.proofs.Compare.{leads-mul, leads-cube, leads-unique, lea
 use Rattle.math_valued.proofs.Polynomial.{const-path, unit-const}
 use Rattle.math_rows.specs.Reading.{Reading}
 use Rattle.math_rows.specs.Made.{reading}
-use Rattle.math_rows.proofs.Rows.{size-lead}
 use Rattle.poly_rows.specs.Factors.{polynomial}
 use Rattle.field_open.specs.Refusal.{Degree}
-use Rattle.field_open.proofs.Accept.{degree-size, degree-lead}
+use Rattle.field_open.proofs.Accept.{degree-leads}
 use Rattle.pair_agree.specs.OneField.{leading}
 use Rattle.pair_agree.specs.Rows.{Law}
 use Rattle.pair_agree.proofs.Lists.{leading-at, leading-not}
@@ -60,7 +59,7 @@ module _ (p : ℕ) (pr : Prime p) where
   -- ---- the leading coefficients
   list-leads : {l : List ℕ} {n : ℕ} → Degree p l n → Leads 𝓥 (polynomial p pr l .0) (cast (leading l))
   list-leads {l} {n} h =
-      subst (λ i. Leads 𝓥 (polynomial p pr l .0) (cast i)) (sym (leading-at p pr h)) (n, 0, degree-lead pr h, size-lead ρ (degree-size h))
+      subst (λ i. Leads 𝓥 (polynomial p pr l .0) (cast i)) (sym (leading-at p pr h)) (degree-leads pr h)
 
   -- G′ = αG at the leading coefficients
   lead-times : {u : Poly 𝓥} (k : Number u) {l l′ : List ℕ} {n n′ : ℕ} → Degree p l n → Degree p l′ n′

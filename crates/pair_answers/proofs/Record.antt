@@ -20,7 +20,8 @@ use Rattle.math_ideals.specs.Basis.{Good}
 use Rattle.basis_record.specs.Record.{part, setting, basisOf, IsRecord}
 use Rattle.basis_record.proofs.Unique.{basis-unique}
 use Rattle.pair_agree.specs.Rows.{Stays, RecordCarries, straight, crossed}
-use Rattle.pair_theory.specs.Side.{at, side}
+use Rattle.math_ideals.specs.Setting.{at}
+use Rattle.basis_record.specs.Setting.{roots}
 use Rattle.pair_theory.specs.Carries.{carry}
 use Rattle.pair_theory.proofs.Inverse.{back, carry-back}
 use Rattle.pair_theory.proofs.Transport.{good-carry}
@@ -69,13 +70,13 @@ module _ {p : ℕ} {G H G′ H′ : List ℕ} where
 
   -- ---- as bases
   module _ (A : Accepted p G H) (A′ : Accepted p G′ H′) (pr : Prime p) where
-    abbrev basis : List ℕ → Basis (at (side A pr))
+    abbrev basis : List ℕ → Basis (at (roots A pr))
     basis B = record { U = polynomial p pr (part 6 B); M = tri p pr 17 0 B; N = tri p pr 17 51 B }
 
-    abbrev basis′ : List ℕ → Basis (at (side A′ pr))
+    abbrev basis′ : List ℕ → Basis (at (roots A′ pr))
     basis′ B = record { U = polynomial p pr (part 6 B); M = tri p pr 17 0 B; N = tri p pr 17 51 B }
 
-    pub basis-over : (w : Way p G H G′ H′) (B B′ : List ℕ) → RecordIn w B B′ → carry (side A pr) (side A′ pr) (map A A′ pr w) (basis B) ≡ basis′ B′
+    pub basis-over : (w : Way p G H G′ H′) (B B′ : List ℕ) → RecordIn w B B′ → carry (roots A pr) (roots A′ pr) (map A A′ pr w) (basis B) ≡ basis′ B′
     basis-over w B B′ (m, n, u) =
         let eU = sym (stays-row p pr 17 B B′ 102 u) in
         let eM = tri-over A A′ pr 17 0 B B′ w m in
@@ -104,11 +105,11 @@ module _ {p : ℕ} {G H G′ H′ : List ℕ} where
         let c = map A A′ pr w in
         let k = subst (Good (setting A′)) (sym (basis-over A A′ pr w B B′ (o .rows))) (r .good A′) in
         subst (Good (setting A)) (carry-back (reading p pr .𝓥) c (basisOf A B))
-        (good-carry (reading p pr .𝓥) (back (reading p pr .𝓥) c) (carry (side A pr) (side A′ pr) c (basisOf A B)) k);
+        (good-carry (reading p pr .𝓥) (back (reading p pr .𝓥) c) (carry (roots A pr) (roots A′ pr) c (basisOf A B)) k);
   }
 
   pub record-of : (A : Accepted p G H) (A₀ : Accepted p G′ H′) (w : Way p G H G′ H′) {B B′ : List ℕ} → IsRecord p G H B → IsRecord p G′ H′ B′ →
-      (let pr = A .prime in let A′ = with-prime A₀ pr in carry (side A pr) (side A′ pr) (map A A′ pr w) (basisOf A B) ≡ basisOf A′ B′) → RecordCarries p G H G′ H′ B B′
+      (let pr = A .prime in let A′ = with-prime A₀ pr in carry (roots A pr) (roots A′ pr) (map A A′ pr w) (basisOf A B) ≡ basisOf A′ B′) → RecordCarries p G H G′ H′ B B′
   record-of A A₀ w {B} {B′} r r′ e =
       let pr = A .prime in
       let A′ = with-prime A₀ pr in

@@ -24,7 +24,8 @@ use Rattle.unit_rows.specs.Six.{cut}
 use Rattle.math_ideals.specs.Element.{O, sc}
 use Rattle.math_ideals.proofs.Sizes.{O-path, sc-a, sc-b, sc-c}
 use Rattle.pair_agree.specs.Rows.{Stays, Times, Straight, Crossed, Turned}
-use Rattle.pair_theory.specs.Side.{Side, at, side}
+use Rattle.math_ideals.specs.Setting.{Roots, at}
+use Rattle.basis_record.specs.Setting.{roots}
 use Rattle.pair_theory.specs.Carries.{El, stretch, exchange}
 use Rattle.pair_answers.proofs.Numbers.{constant}
 use Rattle.pair_answers.proofs.Way.{Way, same, swapped, map, map-same, map-swapped, map-plus, map-minus}
@@ -101,7 +102,7 @@ module _ (p : ℕ) (pr : Prime p) where
         let g = times-row c l l′ y (N._+_ a c) (N._+_ (N._+_ a c) c) (h .C) in
         λ i. record { a = e i; b = f i; c = g i }
 
-    turned-tri : (S : Side 𝓥) → x ≤ p → y ≤ p → Turned p c x y l a l′
+    turned-tri : (S : Roots 𝓥) → x ≤ p → y ≤ p → Turned p c x y l a l′
         → tri c a l′ ≡ O (at S) .ops .mul (sc (at S) (⊟ 1ₚ)) (exchange 𝓥 (constant p pr x) (constant p pr y) (tri c a l))
     turned-tri S ux uy h =
         let v : El 𝓥 = exchange 𝓥 (constant p pr x) (constant p pr y) (tri c a l) in
@@ -137,11 +138,11 @@ module _ {p : ℕ} {G H G′ H′ : List ℕ} where
     tri-over (swapped g h x y law) k = map-swapped A A′ pr g h x y law (tri p pr c a l) ∙ sym (crossed-tri p pr k)
 
     pub signed-over : (w : Way p G H G′ H′) → SignedIn w c l a l′
-        → (let S = at (side A′ pr) in O S .ops .mul (sc S (map A A′ pr w .σ)) (map A A′ pr w .to (tri p pr c a l)) ≡ tri p pr c a l′)
+        → (let S = at (roots A′ pr) in O S .ops .mul (sc S (map A A′ pr w .σ)) (map A A′ pr w .to (tri p pr c a l)) ≡ tri p pr c a l′)
     signed-over (same g h x y law) k =
-        let S = at (side A′ pr) in
+        let S = at (roots A′ pr) in
         ap₂ (λ s v. O S .ops .mul (sc S s) v) (map-plus A A′ pr g h x y law) (tri-over (same g h x y law) k) ∙ rg.one-mul (O S) (tri p pr c a l′)
     signed-over (swapped g h x y law) k =
-        let S = at (side A′ pr) in
+        let S = at (roots A′ pr) in
         ap₂ (λ s v. O S .ops .mul (sc S s) v) (map-minus A A′ pr g h x y law) (map-swapped A A′ pr g h x y law (tri p pr c a l))
-        ∙ sym (turned-tri p pr (side A′ pr) (omega (arith, law .x-below)) (omega (arith, law .y-below)) k)
+        ∙ sym (turned-tri p pr (roots A′ pr) (omega (arith, law .x-below)) (omega (arith, law .y-below)) k)

@@ -18,7 +18,7 @@ use Rattle.field_open.specs.Refusal.{Refusal, Accepted}
 use Rattle.field_open.proofs.Accept.{accepted}
 use Rattle.pair_agree.specs.OneField.{leading, Agree, OneField, Coefficients}
 use Rattle.pair_agree.specs.Rows.{Law}
-use Rattle.pair_theory.specs.Side.{side}
+use Rattle.basis_record.specs.Setting.{roots}
 use Rattle.pair_theory.specs.Carries.{El, Carries, stretch, exchange}
 use Rattle.pair_theory.proofs.OneField as one
 use Rattle.pair_theory.proofs.Refused.{refusal-carry}
@@ -54,7 +54,7 @@ module _ {p : ℕ} {G H G′ H′ : List ℕ} where
       abbrev 𝓥 : Valued
       𝓥 = reading p pr .𝓥
 
-      abbrev pub map : Way p G H G′ H′ → Carries (side A pr) (side A′ pr)
+      abbrev pub map : Way p G H G′ H′ → Carries (roots A pr) (roots A′ pr)
       map (same a b x y l) = one.straight A A′ pr a b .0
       map (swapped a b x y l) = one.crossed A A′ pr a b .0
 

@@ -10,16 +10,15 @@ use Rattle.math_valued.specs.Polynomial.{polys}
 use Rattle.math_valued.proofs.Degree.{has-eq}
 use Rattle.math_rows.specs.Made.{reading}
 use Rattle.field_open.specs.Refusal.{Accepted}
-use Rattle.field_roots.proofs.Root as root
-use Rattle.basis_record.specs.Record.{setting}
+use Rattle.basis_record.specs.Setting.{roots, setting}
 use Rattle.pair_agree.specs.OneField.{OneField}
 use Rattle.pair_theory.specs.Corresponds.{Corresponds}
-use Rattle.pair_theory.specs.Side.{Side, at}
+use Rattle.math_ideals.specs.Setting.{Roots, at}
 use Rattle.pair_theory.specs.Carries.{Carries}
 use Rattle.pair_theory.proofs.Inverse.{back, ev-kept}
 use Rattle.pair_theory.proofs.OneField.{meets}
 
-pub carried : (𝓥 : Valued) {s s′ : Side 𝓥} → Carries s s′ → Corresponds (at s) (at s′)
+pub carried : (𝓥 : Valued) {s s′ : Roots 𝓥} → Carries s s′ → Corresponds (at s) (at s′)
 carried 𝓥 c = record {
   to = c .to;
   from = c .from;
@@ -37,5 +36,5 @@ carried 𝓥 c = record {
 pub corresponds : {p : ℕ} {G H G′ H′ : List ℕ} (A : Accepted p G H) (A′ : Accepted p G′ H′)
     → OneField p G H G′ H′ → Corresponds (setting A) (setting A′)
 corresponds {p} A A′ o =
-    subst (λ pr. Corresponds (setting A) (root.setting A′ pr)) (prime-one (A .prime) (A′ .prime))
+    subst (λ pr. Corresponds (setting A) (at (roots A′ pr))) (prime-one (A .prime) (A′ .prime))
     (carried (reading p (A .prime) .𝓥) (meets A A′ o (A .prime) .carries))

@@ -11,11 +11,10 @@ use Rattle.math_ring.proofs.Laws.{undo}
 use Rattle.math_ring.proofs.Solve.{var, one, minus, _:+_, _:*_, _:=_, hyp, solve-by, ring₃}
 use Rattle.math_valued.specs.Val.{Valued}
 use Rattle.math_valued.specs.Polynomial.{polys, Poly}
-use Rattle.math_ideals.specs.Setting.{Setting}
+use Rattle.math_ideals.specs.Setting.{Roots, Setting, at}
 use Rattle.math_ideals.specs.Element.{O, sc, ev, X, Y, Z}
 use Rattle.math_ideals.specs.Ideal.{Basis}
 use Rattle.math_ideals.proofs.Lattice.{sc-mul}
-use Rattle.pair_theory.specs.Side.{Side, at}
 use Rattle.pair_theory.specs.Carries.{El, Carries, carry}
 
 module _ {A : Type 0} (_·_ _∘_ : A → A → A) where
@@ -35,7 +34,7 @@ module _ (𝓥 : Valued) where
   pub twice : (σ : Poly 𝓥) → σ ⊠ σ ≡ 1ₚ → (b : L .El) → σ .0 * (σ .0 * b) ≡ b
   twice σ e b = undo L (σ .0) (σ .0) b (ap (λ z. z .0) e)
 
-  abbrev pub back : {s s′ : Side 𝓥} → Carries s s′ → Carries s′ s
+  abbrev pub back : {s s′ : Roots 𝓥} → Carries s s′ → Carries s′ s
   back {s} {s′} c = record {
     to = c .from;
     from = c .to;
@@ -53,7 +52,7 @@ module _ (𝓥 : Valued) where
         ∙ ap (λ z. c .σ .0 * z) (sym (c .Y-kept (c .from v)) ∙ ap (Y (at s′)) (c .to-from v));
   }
 
-  abbrev pub after : {s s′ s″ : Side 𝓥} → Carries s′ s″ → Carries s s′ → Carries s s″
+  abbrev pub after : {s s′ s″ : Roots 𝓥} → Carries s′ s″ → Carries s s′ → Carries s s″
   after {s} {s′} {s″} k c = record {
     to = λ v. k .to (c .to v);
     from = λ v. c .from (k .from v);
@@ -70,7 +69,7 @@ module _ (𝓥 : Valued) where
     Y-kept = λ v. k .Y-kept (c .to v) ∙ ap (λ z. k .σ .0 * z) (c .Y-kept v) ∙ sym (L .laws .mul-assoc (k .σ .0) (c .σ .0) (Y (at s) v));
   }
 
-  module _ {s s′ : Side 𝓥} (c : Carries s s′) where
+  module _ {s s′ : Roots 𝓥} (c : Carries s s′) where
     abbrev S : Setting
     S = at s
 
@@ -80,9 +79,9 @@ module _ (𝓥 : Valued) where
     -- the value is A + X
     pub ev-kept : (v : El 𝓥) → ev S′ (c .to v) ≡ ev S v
     ev-kept v =
-        L .laws .add-assoc (c .to v .a .0) (c .to v .b .0 * S′ .r) (c .to v .c .0 * S′ .w)
+        L .laws .add-assoc (c .to v .a .0) (c .to v .b .0 * S′ .roots .r) (c .to v .c .0 * S′ .roots .w)
         ∙ ap₂ _+_ (ap (λ z. z .0) (c .first v)) (c .X-kept v)
-        ∙ sym (L .laws .add-assoc (v .a .0) (v .b .0 * S .r) (v .c .0 * S .w))
+        ∙ sym (L .laws .add-assoc (v .a .0) (v .b .0 * S .roots .r) (v .c .0 * S .roots .w))
 
     -- and Z is 2A − X
     Z-of : (a x y : L .El) → (𝟏 + 𝟏) * a + - x + - y ≡ (𝟏 + 𝟏) * a + - (x + y)
@@ -90,9 +89,9 @@ module _ (𝓥 : Valued) where
 
     pub Z-kept : (v : El 𝓥) → Z S′ (c .to v) ≡ Z S v
     Z-kept v =
-        Z-of (c .to v .a .0) (c .to v .b .0 * S′ .r) (c .to v .c .0 * S′ .w)
+        Z-of (c .to v .a .0) (c .to v .b .0 * S′ .roots .r) (c .to v .c .0 * S′ .roots .w)
         ∙ ap₂ (λ a x. (𝟏 + 𝟏) * a + - x) (ap (λ z. z .0) (c .first v)) (c .X-kept v)
-        ∙ sym (Z-of (v .a .0) (v .b .0 * S .r) (v .c .0 * S .w))
+        ∙ sym (Z-of (v .a .0) (v .b .0 * S .roots .r) (v .c .0 * S .roots .w))
 
     -- σ (σ v) = v among elements
     pub undone : (v : El 𝓥) → O S .ops .mul (sc S (c .σ)) (O S .ops .mul (sc S (c .σ)) v) ≡ v

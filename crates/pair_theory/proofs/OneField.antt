@@ -14,17 +14,18 @@ use Rattle.math_valued.specs.Polynomial.{polys, Poly, IsUnit}
 use Rattle.math_rows.specs.Made.{reading}
 use Rattle.field_open.specs.Refusal.{Accepted}
 use Rattle.pair_agree.specs.OneField.{Agree, OneField}
-use Rattle.pair_theory.specs.Side.{Side, side}
+use Rattle.math_ideals.specs.Setting.{Roots}
+use Rattle.basis_record.specs.Setting.{roots}
 use Rattle.pair_theory.specs.Carries.{Carries, Stretched, Exchanged}
 use Rattle.pair_theory.proofs.Inverse.{after}
 use Rattle.pair_theory.proofs.Pairs.{turned, exchanged, swap, scale, scaled, stretched}
 use Rattle.pair_agree.proofs.Lists.{agree-poly}
 
-pub record Meets (𝓥 : Valued) (s s′ : Side 𝓥) : Type 0 where
+pub record Meets (𝓥 : Valued) (s s′ : Roots 𝓥) : Type 0 where
   pub carries : Carries s s′
   pub rows : Stretched 𝓥 s s′ carries ⊎ Exchanged 𝓥 s s′ carries
 
-module _ (𝓥 : Valued) (s s′ : Side 𝓥) (α β : Poly 𝓥) (uα : IsUnit 𝓥 α) (uβ : IsUnit 𝓥 β) where
+module _ (𝓥 : Valued) (s s′ : Roots 𝓥) (α β : Poly 𝓥) (uα : IsUnit 𝓥 α) (uβ : IsUnit 𝓥 β) where
   open Ops (polys 𝓥 .ops) using (mul as _⊠_, neg as ⊟_, 𝟏 as 1ₚ)
 
   infixl 70 _⊠_
@@ -35,7 +36,7 @@ module _ (𝓥 : Valued) (s s′ : Side 𝓥) (α β : Poly 𝓥) (uα : IsUnit 
   -- first the swap, then the constants
   pub meets-crossed : s′ .G ≡ α ⊠ s .H → s′ .H ≡ β ⊠ s .G → (c : Carries s s′) × Exchanged 𝓥 s s′ c
   meets-crossed eG eH =
-      let t : Side 𝓥 = exchanged 𝓥 s in
+      let t : Roots 𝓥 = exchanged 𝓥 s in
       let k = scale 𝓥 t s′ α β uα uβ eG eH in
       let h = stretched 𝓥 t s′ α β uα uβ eG eH k in (
         after 𝓥 (scaled 𝓥 t s′ α β uα uβ eG eH k) (swap 𝓥 s),
@@ -51,19 +52,19 @@ module _ {p : ℕ} {G H G′ H′ : List ℕ} (A : Accepted p G H) (A′ : Accep
   abbrev 𝓥 : Valued
   𝓥 = reading p pr .𝓥
 
-  pub straight : Agree p G G′ → Agree p H H′ → (c : Carries (side A pr) (side A′ pr)) × Stretched 𝓥 (side A pr) (side A′ pr) c
+  pub straight : Agree p G G′ → Agree p H H′ → (c : Carries (roots A pr) (roots A′ pr)) × Stretched 𝓥 (roots A pr) (roots A′ pr) c
   straight g h =
       let (α, uα, eG) = agree-poly p pr (A .listG) (A′ .listG) g in
       let (β, uβ, eH) = agree-poly p pr (A .listH) (A′ .listH) h in
-      meets-scaled 𝓥 (side A pr) (side A′ pr) α β uα uβ eG eH
+      meets-scaled 𝓥 (roots A pr) (roots A′ pr) α β uα uβ eG eH
 
-  pub crossed : Agree p G H′ → Agree p H G′ → (c : Carries (side A pr) (side A′ pr)) × Exchanged 𝓥 (side A pr) (side A′ pr) c
+  pub crossed : Agree p G H′ → Agree p H G′ → (c : Carries (roots A pr) (roots A′ pr)) × Exchanged 𝓥 (roots A pr) (roots A′ pr) c
   crossed g h =
       let (β, uβ, eH) = agree-poly p pr (A .listG) (A′ .listH) g in
       let (α, uα, eG) = agree-poly p pr (A .listH) (A′ .listG) h in
-      meets-crossed 𝓥 (side A pr) (side A′ pr) α β uα uβ eG eH
+      meets-crossed 𝓥 (roots A pr) (roots A′ pr) α β uα uβ eG eH
 
 pub meets : {p : ℕ} {G H G′ H′ : List ℕ} (A : Accepted p G H) (A′ : Accepted p G′ H′)
-    → OneField p G H G′ H′ → (pr : Prime p) → Meets (reading p pr .𝓥) (side A pr) (side A′ pr)
+    → OneField p G H G′ H′ → (pr : Prime p) → Meets (reading p pr .𝓥) (roots A pr) (roots A′ pr)
 meets A A′ (inl (g, h)) pr = let (c, k) = straight A A′ pr g h in record { carries = c; rows = inl k }
 meets A A′ (inr (g, h)) pr = let (c, k) = crossed A A′ pr g h in record { carries = c; rows = inr k }

@@ -24,7 +24,7 @@ use Rattle.math_ideals.specs.Element.{O, Y}
 use Rattle.math_ideals.proofs.Sizes.{O-path}
 use Rattle.math_ideals.proofs.Values.{w-w, r-cube}
 use Rattle.math_ideals.proofs.Roots.{roots-unique}
-use Rattle.pair_theory.specs.Side.{Side, at}
+use Rattle.math_ideals.specs.Setting.{Roots, at}
 use Rattle.pair_theory.specs.Carries.{El, Carries, stretch, Stretched}
 
 -- the second coordinate and the third change places
@@ -44,7 +44,7 @@ module _ (𝓥 : Valued) where
   R = polys 𝓥
 
   -- ---- the exchanged pair
-  abbrev pub exchanged : Side 𝓥 → Side 𝓥
+  abbrev pub exchanged : Roots 𝓥 → Roots 𝓥
   exchanged s = record {
     two≢ = s .two≢;
     form = s .form;
@@ -68,7 +68,7 @@ module _ (𝓥 : Valued) where
     r-w = L .laws .mul-comm (s .w) (s .r) ∙ s .r-w ∙ L .laws .mul-comm (s .G .0) (s .H .0);
   }
 
-  abbrev pub swap : (s : Side 𝓥) → Carries s (exchanged s)
+  abbrev pub swap : (s : Roots 𝓥) → Carries s (exchanged s)
   swap s = record {
     to = turned;
     from = turned;
@@ -96,7 +96,7 @@ module _ (𝓥 : Valued) where
       (hyp (D :* (j :* j :+ j :+ one)) j one ∷ hyp (var 4 :* var 4 :* var 4) (var 3 :* var 3 :* var 3) (D :* (var 2 :* var 2 :* var 2)) ∷ []) tt
       (a ∷ b ∷ c ∷ c′ ∷ i ∷ []) (e, (f, tt))
 
-  module _ (s s′ : Side 𝓥) (α β : Poly 𝓥) (uα : IsUnit 𝓥 α) (uβ : IsUnit 𝓥 β) (eG : s′ .G ≡ α ⊠ s .G) (eH : s′ .H ≡ β ⊠ s .H) where
+  module _ (s s′ : Roots 𝓥) (α β : Poly 𝓥) (uα : IsUnit 𝓥 α) (uβ : IsUnit 𝓥 β) (eG : s′ .G ≡ α ⊠ s .G) (eH : s′ .H ≡ β ⊠ s .H) where
     abbrev r : L .El
     r = s .r
 

@@ -13,11 +13,11 @@ use Rattle.math_chain.specs.Unit.{UnitOf}
 use Rattle.math_chain.proofs.Walk.{closing-unique}
 use Rattle.math_chain.proofs.Closing.{start-unique}
 use Rattle.math_chain.proofs.Unit.{unit-unique}
-use Rattle.pair_theory.specs.Side.{Side, at}
+use Rattle.math_ideals.specs.Setting.{Roots, at}
 use Rattle.pair_theory.specs.Carries.{El, Carries}
 use Rattle.pair_theory.proofs.Transport.{over, start-carry, chain-carry, open-carry, closing-carry, unit-carry}
 
-module _ (𝓥 : Valued) {s s′ : Side 𝓥} (c : Carries s s′)
+module _ (𝓥 : Valued) {s s′ : Roots 𝓥} (c : Carries s s′)
     (B₀ : Basis (at s)) (B₀′ : Basis (at s′)) (st : Start (at s) B₀) (st′ : Start (at s′) B₀′) where
   pub start-same : over 𝓥 c B₀ ≡ B₀′
   start-same = start-unique (at s′) (over 𝓥 c B₀) B₀′ (start-carry 𝓥 c B₀ st) st′

@@ -7,13 +7,14 @@ use Rattle.math_valued.specs.Val.{Valued}
 use Rattle.math_rows.specs.Made.{reading}
 use Rattle.field_open.specs.Refusal.{Accepted}
 use Rattle.pair_agree.specs.OneField.{OneField}
-use Rattle.pair_theory.specs.Side.{Side, side}
+use Rattle.math_ideals.specs.Setting.{Roots}
+use Rattle.basis_record.specs.Setting.{roots}
 use Rattle.pair_theory.specs.Shared.{Shared}
 use Rattle.pair_theory.proofs.OneField.{Meets, meets}
 use Rattle.pair_theory.proofs.Transport.{good-carry, start-carry, degree-carry, next-carry, chain-carry, open-carry, closing-carry, unit-carry}
 use Rattle.pair_theory.proofs.Same.{start-same, closing-same, unit-same}
 
-met : (𝓥 : Valued) {s s′ : Side 𝓥} → Meets 𝓥 s s′ → Shared 𝓥 s s′
+met : (𝓥 : Valued) {s s′ : Roots 𝓥} → Meets 𝓥 s s′ → Shared 𝓥 s s′
 met 𝓥 m = let c = m .carries in record {
   map = c;
   rows = m .rows;
@@ -31,5 +32,5 @@ met 𝓥 m = let c = m .carries in record {
 }
 
 pub shared : {p : ℕ} {G H G′ H′ : List ℕ} (A : Accepted p G H) (A′ : Accepted p G′ H′)
-    → OneField p G H G′ H′ → (pr : Prime p) → Shared (reading p pr .𝓥) (side A pr) (side A′ pr)
+    → OneField p G H G′ H′ → (pr : Prime p) → Shared (reading p pr .𝓥) (roots A pr) (roots A′ pr)
 shared {p} A A′ o pr = met (reading p pr .𝓥) (meets A A′ o pr)

@@ -16,7 +16,7 @@ use Rattle.math_valued.specs.Polynomial.{polys, Poly}
 use Rattle.math_valued.proofs.Degree as d
 use Rattle.math_valued.proofs.Compare.{≺-left, ≺-right}
 use Rattle.math_valued.proofs.Polynomial.{unit-const}
-use Rattle.math_ideals.specs.Setting.{Setting}
+use Rattle.math_ideals.specs.Setting.{Roots, Setting, at}
 use Rattle.math_ideals.specs.Element.{O, sc, el-r, el-w, X, Y, Z}
 use Rattle.math_ideals.specs.Ideal.{Basis, lin, In, det, Ideal}
 use Rattle.math_ideals.specs.Basis.{ReducedBasis, NoFactor, Scaled, Reduced, Good}
@@ -26,11 +26,10 @@ use Rattle.math_ideals.proofs.Lattice.{in-U, sc-mul, by-all, divides-all, all-d
 use Rattle.math_ideals.proofs.Form.{has-two}
 use Rattle.math_chain.specs.Chain.{Degree, Chain, here, then, tops, bottoms, Open, Closing}
 use Rattle.math_chain.specs.Unit.{UnitOf}
-use Rattle.pair_theory.specs.Side.{Side, at}
 use Rattle.pair_theory.specs.Carries.{El, Carries, carry}
 use Rattle.pair_theory.proofs.Inverse.{twice, back, ev-kept, Z-kept, undone, carry-back}
 
-module _ (𝓥 : Valued) {s s′ : Side 𝓥} (c : Carries s s′) where
+module _ (𝓥 : Valued) {s s′ : Roots 𝓥} (c : Carries s s′) where
   open Valued 𝓥 using (K, L)
   open Ops (L .ops) using (add as _+_, mul as _*_, neg as -_, 𝟎, 𝟏)
   open Ops (polys 𝓥 .ops) using (mul as _⊠_, 𝟏 as 1ₚ)
@@ -129,7 +128,7 @@ module _ (𝓥 : Valued) {s s′ : Side 𝓥} (c : Carries s s′) where
   degree-carry B k = record { x = k .x; u = k .u; M-deg = d.has-eq 𝓥 (k .M-deg) (sym (ev-kept 𝓥 c (B .M))); U-deg = k .U-deg; eq = k .eq }
 
 -- ---- with the way back
-module _ (𝓥 : Valued) {s s′ : Side 𝓥} (c : Carries s s′) where
+module _ (𝓥 : Valued) {s s′ : Roots 𝓥} (c : Carries s s′) where
   open Valued 𝓥 using (K, L)
   open Ops (L .ops) using (mul as _*_, 𝟎)
   open Ops (polys 𝓥 .ops) using (mul as _⊠_, 𝟏 as 1ₚ)
@@ -222,7 +221,7 @@ module _ (𝓥 : Valued) {s s′ : Side 𝓥} (c : Carries s s′) where
   tops-carry (then {B = B} n B′ k deg next good) = ap (λ z. z ⊗′ c .to (B .M)) (tops-carry k) ∙ sym (c .mul (tops T k) (B .M))
 
 -- ---- closing
-module _ (𝓥 : Valued) {s s′ : Side 𝓥} (c : Carries s s′) where
+module _ (𝓥 : Valued) {s s′ : Roots 𝓥} (c : Carries s s′) where
   open Ops (polys 𝓥 .ops) using (𝟏 as 1ₚ)
   open Ops (O (at s) .ops) using (mul as _⊗_)
   open Ops (O (at s′) .ops) using (mul as _⊗′_)

@@ -7,13 +7,13 @@ use Rattle.math_valued.specs.Val.{Valued}
 use Rattle.math_ideals.specs.Ideal.{Basis}
 use Rattle.math_ideals.specs.Next.{Start}
 use Rattle.math_chain.specs.Unit.{UnitOf}
-use Rattle.pair_theory.specs.Side.{Side, at}
+use Rattle.math_ideals.specs.Setting.{Roots, at}
 use Rattle.pair_theory.specs.Carries.{El, Carries, Stretched, Exchanged}
 use Rattle.pair_theory.specs.Units.{UnitCarries}
 use Rattle.pair_theory.proofs.Same.{unit-same}
 use Rattle.pair_theory.proofs.OneField.{Meets}
 
-module _ (𝓥 : Valued) {s s′ : Side 𝓥} where
+module _ (𝓥 : Valued) {s s′ : Roots 𝓥} where
   shaped : (c : Carries s s′) → Stretched 𝓥 s s′ c ⊎ Exchanged 𝓥 s s′ c → {E F E′ F′ : El 𝓥} → c .to E ≡ E′ → c .to F ≡ F′ → UnitCarries 𝓥 s s′ E F E′ F′
   shaped c (inl k) {E} {F} e f = record { factors = k .factors; rows = inl (k .pair, sym e ∙ k .rows E, sym f ∙ k .rows F) }
   shaped c (inr k) {E} {F} e f = record { factors = k .factors; rows = inr (k .pair, sym e ∙ k .rows E, sym f ∙ k .rows F) }

@@ -19,12 +19,12 @@ use Rattle.math_valued.specs.Val.{Valued}
 use Rattle.math_valued.specs.Polynomial.{polys, Poly, IsUnit}
 use Rattle.math_ideals.specs.Element.{O, sc, X, Y}
 use Rattle.math_ideals.specs.Ideal.{Basis}
-use Rattle.pair_theory.specs.Side.{Side, at}
+use Rattle.math_ideals.specs.Setting.{Roots, at}
 
 abbrev pub El : Valued → Type 0
 El 𝓥 = Tri (Poly 𝓥)
 
-module _ {𝓥 : Valued} (s s′ : Side 𝓥) where
+module _ {𝓥 : Valued} (s s′ : Roots 𝓥) where
   pub record Carries : Type 0 where
     pub to : El 𝓥 → El 𝓥
     pub from : El 𝓥 → El 𝓥
@@ -67,7 +67,7 @@ module _ (𝓥 : Valued) where
     pub cube : x ⊠ x ⊠ x ⊠ (α ⊠ (β ⊠ β)) ≡ 1ₚ
     pub square : y ≡ β ⊠ (x ⊠ x)
 
-  module _ (s s′ : Side 𝓥) where
+  module _ (s s′ : Roots 𝓥) where
     abbrev pub Same : Factors → Type 0
     Same k = (s′ .G ≡ k .α ⊠ s .G) × (s′ .H ≡ k .β ⊠ s .H)
 

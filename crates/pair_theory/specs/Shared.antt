@@ -12,10 +12,10 @@ use Rattle.math_ideals.specs.Basis.{Good}
 use Rattle.math_ideals.specs.Next.{Next, Start}
 use Rattle.math_chain.specs.Chain.{Degree, Chain, Open, Closing}
 use Rattle.math_chain.specs.Unit.{UnitOf}
-use Rattle.pair_theory.specs.Side.{Side, at}
+use Rattle.math_ideals.specs.Setting.{Roots, at}
 use Rattle.pair_theory.specs.Carries.{El, Carries, carry, Stretched, Exchanged}
 
-pub record Shared (𝓥 : Valued) (s s′ : Side 𝓥) : Type 0 where
+pub record Shared (𝓥 : Valued) (s s′ : Roots 𝓥) : Type 0 where
   pub map : Carries s s′
   pub rows : Stretched 𝓥 s s′ map ⊎ Exchanged 𝓥 s s′ map
   -- bases and steps

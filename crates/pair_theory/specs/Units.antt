@@ -5,10 +5,10 @@
 use mathlib.Core.Path.{_≡_}
 use mathlib.Core.Logic.{_⊎_}
 use Rattle.math_valued.specs.Val.{Valued}
-use Rattle.pair_theory.specs.Side.{Side}
+use Rattle.math_ideals.specs.Setting.{Roots}
 use Rattle.pair_theory.specs.Carries.{El, stretch, exchange, Factors, Same, Other}
 
-pub record UnitCarries (𝓥 : Valued) (s s′ : Side 𝓥) (E F E′ F′ : El 𝓥) : Type 0 where
+pub record UnitCarries (𝓥 : Valued) (s s′ : Roots 𝓥) (E F E′ F′ : El 𝓥) : Type 0 where
   pub factors : Factors 𝓥
   pub rows : let x = factors .x in let y = factors .y in
       (Same 𝓥 s s′ factors × (E′ ≡ stretch 𝓥 x y E) × (F′ ≡ stretch 𝓥 x y F)) ⊎

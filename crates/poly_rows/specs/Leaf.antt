@@ -14,8 +14,7 @@ use lib.ListN.{length, getD}
 use Rattle.math_fp.specs.Fp.{Prime}
 use Rattle.num_residue.specs.Residue.{Modulus}
 use Rattle.math_rows.specs.Made.{reading}
-use Rattle.math_rows.specs.Row.{Row, Size, row, shiftAt}
-use Rattle.math_rows.proofs.Turn.{comb}
+use Rattle.math_rows.specs.Row.{Row, Size, row, shiftAt, comb}
 use Rattle.poly_rows.specs.Terms.{Ready}
 
 -- ---- lengths

@@ -12,19 +12,19 @@ use Rattle.math_valued.specs.Val.{Valued}
 use Rattle.math_valued.specs.Degree.{Has, Lt}
 use Rattle.math_valued.proofs.Degree as d
 use Rattle.math_valued.proofs.Compare.{lt-scale, lt-unscale, lt-mul-sharp}
-use Rattle.math_ideals.specs.Setting.{Setting, P}
-use Rattle.math_ideals.specs.Element.{O, X, Y, Z}
-use Rattle.math_ideals.specs.Ideal.{Basis, lin, det}
+use Rattle.math_ideals.specs.Setting.{Roots, Setting, P}
+use Rattle.math_ideals.specs.Element.{O, X, Y, Z, times-r, times-w}
+use Rattle.math_ideals.specs.Ideal.{Basis, lin, det, Coords}
 use Rattle.math_ideals.specs.Basis.{Good}
 use Rattle.math_ideals.proofs.Sizes.{X-lin, Y-lin, Z-lin}
 use Rattle.math_ideals.proofs.Values.{w-w}
 use Rattle.math_ideals.proofs.Form.{has-two, has-three}
-use Rattle.math_ideals.proofs.Check.{Coords, coords-eq}
-use Rattle.math_ideals.proofs.Tests.{times-r, times-w}
+use Rattle.math_ideals.proofs.Check.{coords-eq}
 use Rattle.math_ideals.proofs.Degrees.{Small}
 
 module _ (S : Setting) (B : Basis S) (s : Small S B) where
-  open Setting S using (𝓥, G, H, r, w)
+  open Setting S using (𝓥)
+  open Roots (S .roots) using (G, H, r, w)
   open Valued 𝓥 using (L)
   open Ops (L .ops) using (add as _+_, mul as _*_, neg as -_, 𝟎, 𝟏)
 
@@ -120,7 +120,7 @@ module _ (S : Setting) (B : Basis S) (s : Small S B) where
   unfolding ZM
   Z-lt = s .Z-M
 
-  near-r : Near (S .dr) (times-r S (B .M))
+  near-r : Near (S .roots .dr) (times-r S (B .M))
   unfolding YM ZM ms
   near-r =
       let m0 = var 0 in let m1 = var 1 in let m2 = var 2 in let rr = var 3 in let ww = var 4 in let g = var 5 in let h = var 6 in
@@ -131,16 +131,16 @@ module _ (S : Setting) (B : Basis S) (s : Small S B) where
       let low-z : Lt 𝓥 ((𝟏 + 𝟏) * (B .M .c .0 * w) + - B .M .a .0 + - (B .M .b .0 * r)) (s .u) = half-lt (- ((𝟏 + 𝟏 + 𝟏) * YM + ZM)) (d.lt-neg 𝓥 (d.lt-add 𝓥 (lt-scale 𝓥 (has-three S) Y-lt) Z-lt))
       (solve L (minus ((one :+ one :+ one) :* yE :+ zE)) ((one :+ one) :* ((one :+ one) :* (m2 :* ww) :+ minus m0 :+ minus (m1 :* rr))) tt ms) in
       record {
-        X-lt = d.lt-eq 𝓥 (d.lt-up 𝓥 (suc (s .x +ⁿ S .dr)) (d.lt-has-mul 𝓥 (d.lt-add 𝓥 (d.has-up 𝓥 (suc (s .x)) (s .M0) (omega arith)) (d.has-up 𝓥 (suc (s .x)) (s .M1) (omega arith))) (S .r-deg)) (omega arith))
-            (sym (solve-by L (m0 :* rr :+ m1 :* h :* ww) ((m0 :+ m1 :* rr) :* rr) (hyp (minus m1) (rr :* rr) (h :* ww) ∷ []) tt ms (S .r-r, tt)));
-        Y-lt = d.lt-eq 𝓥 (d.lt-has-mul 𝓥 low-y (S .r-deg))
-            (sym (solve-by L (m0 :* rr :+ minus (m1 :* h :* ww)) ((m0 :+ minus (m1 :* rr)) :* rr) (hyp m1 (rr :* rr) (h :* ww) ∷ []) tt ms (S .r-r, tt)));
-        Z-lt = d.lt-eq 𝓥 (d.lt-has-mul 𝓥 low-z (S .r-deg))
+        X-lt = d.lt-eq 𝓥 (d.lt-up 𝓥 (suc (s .x +ⁿ S .roots .dr)) (d.lt-has-mul 𝓥 (d.lt-add 𝓥 (d.has-up 𝓥 (suc (s .x)) (s .M0) (omega arith)) (d.has-up 𝓥 (suc (s .x)) (s .M1) (omega arith))) (S .roots .r-deg)) (omega arith))
+            (sym (solve-by L (m0 :* rr :+ m1 :* h :* ww) ((m0 :+ m1 :* rr) :* rr) (hyp (minus m1) (rr :* rr) (h :* ww) ∷ []) tt ms (S .roots .r-r, tt)));
+        Y-lt = d.lt-eq 𝓥 (d.lt-has-mul 𝓥 low-y (S .roots .r-deg))
+            (sym (solve-by L (m0 :* rr :+ minus (m1 :* h :* ww)) ((m0 :+ minus (m1 :* rr)) :* rr) (hyp m1 (rr :* rr) (h :* ww) ∷ []) tt ms (S .roots .r-r, tt)));
+        Z-lt = d.lt-eq 𝓥 (d.lt-has-mul 𝓥 low-z (S .roots .r-deg))
             (sym (solve-by L ((one :+ one) :* (m2 :* (g :* h)) :+ minus (m0 :* rr) :+ minus (m1 :* h :* ww)) (((one :+ one) :* (m2 :* ww) :+ minus m0 :+ minus (m1 :* rr)) :* rr)
-            (hyp (minus ((one :+ one) :* m2)) (rr :* ww) (g :* h) ∷ hyp m1 (rr :* rr) (h :* ww) ∷ []) tt ms (S .r-w, (S .r-r, tt))));
+            (hyp (minus ((one :+ one) :* m2)) (rr :* ww) (g :* h) ∷ hyp m1 (rr :* rr) (h :* ww) ∷ []) tt ms (S .roots .r-w, (S .roots .r-r, tt))));
       }
 
-  near-w : Near (S .dw) (times-w S (B .M))
+  near-w : Near (S .roots .dw) (times-w S (B .M))
   unfolding YM ZM ms
   near-w =
       let m0 = var 0 in let m1 = var 1 in let m2 = var 2 in let rr = var 3 in let ww = var 4 in let g = var 5 in let h = var 6 in
@@ -151,18 +151,18 @@ module _ (S : Setting) (B : Basis S) (s : Small S B) where
       let low-z : Lt 𝓥 ((𝟏 + 𝟏) * (B .M .b .0 * r) + - (B .M .c .0 * w) + - B .M .a .0) (s .u) = half-lt ((𝟏 + 𝟏 + 𝟏) * YM + - ZM) (d.lt-add 𝓥 (lt-scale 𝓥 (has-three S) Y-lt) (d.lt-neg 𝓥 Z-lt))
       (solve L ((one :+ one :+ one) :* yE :+ minus zE) ((one :+ one) :* ((one :+ one) :* (m1 :* rr) :+ minus (m2 :* ww) :+ minus m0)) tt ms) in
       record {
-        X-lt = d.lt-eq 𝓥 (d.lt-up 𝓥 (suc (s .x +ⁿ S .dw)) (d.lt-has-mul 𝓥 (d.lt-add 𝓥 (d.has-up 𝓥 (suc (s .x)) (s .M2) (omega arith)) (d.has-up 𝓥 (suc (s .x)) (s .M0) (omega arith))) (S .w-deg)) (omega arith))
+        X-lt = d.lt-eq 𝓥 (d.lt-up 𝓥 (suc (s .x +ⁿ S .roots .dw)) (d.lt-has-mul 𝓥 (d.lt-add 𝓥 (d.has-up 𝓥 (suc (s .x)) (s .M2) (omega arith)) (d.has-up 𝓥 (suc (s .x)) (s .M0) (omega arith))) (S .roots .w-deg)) (omega arith))
             (sym (solve-by L (m2 :* g :* rr :+ m0 :* ww) ((m2 :* ww :+ m0) :* ww) (hyp (minus m2) (ww :* ww) (g :* rr) ∷ []) tt ms (w-w S, tt)));
-        Y-lt = d.lt-eq 𝓥 (d.lt-has-mul 𝓥 low-y (S .w-deg))
+        Y-lt = d.lt-eq 𝓥 (d.lt-has-mul 𝓥 low-y (S .roots .w-deg))
             (sym (solve-by L (m2 :* g :* rr :+ minus (m0 :* ww)) ((m2 :* ww :+ minus m0) :* ww) (hyp (minus m2) (ww :* ww) (g :* rr) ∷ []) tt ms (w-w S, tt)));
-        Z-lt = d.lt-eq 𝓥 (d.lt-has-mul 𝓥 low-z (S .w-deg))
+        Z-lt = d.lt-eq 𝓥 (d.lt-has-mul 𝓥 low-z (S .roots .w-deg))
             (sym (solve-by L ((one :+ one) :* (m1 :* (g :* h)) :+ minus (m2 :* g :* rr) :+ minus (m0 :* ww)) (((one :+ one) :* (m1 :* rr) :+ minus (m2 :* ww) :+ minus m0) :* ww)
-            (hyp (minus ((one :+ one) :* m1)) (rr :* ww) (g :* h) ∷ hyp m2 (ww :* ww) (g :* rr) ∷ []) tt ms (S .r-w, (w-w S, tt))));
+            (hyp (minus ((one :+ one) :* m1)) (rr :* ww) (g :* h) ∷ hyp m2 (ww :* ww) (g :* rr) ∷ []) tt ms (S .roots .r-w, (w-w S, tt))));
       }
 
   module _ (good : Good S B) where
-    pub r-narrow : (k : Coords S B (times-r S (B .M))) → Narrow (S .dr) (k .α) (k .β) (k .γ)
-    r-narrow k = narrow (S .dr) _ (k .α) (k .β) (k .γ) (coords-eq S B (good .ideal .rank) _ k) near-r
+    pub r-narrow : (k : Coords S B (times-r S (B .M))) → Narrow (S .roots .dr) (k .α) (k .β) (k .γ)
+    r-narrow k = narrow (S .roots .dr) _ (k .α) (k .β) (k .γ) (coords-eq S B (good .ideal .rank) _ k) near-r
 
-    pub w-narrow : (k : Coords S B (times-w S (B .M))) → Narrow (S .dw) (k .α) (k .β) (k .γ)
-    w-narrow k = narrow (S .dw) _ (k .α) (k .β) (k .γ) (coords-eq S B (good .ideal .rank) _ k) near-w
+    pub w-narrow : (k : Coords S B (times-w S (B .M))) → Narrow (S .roots .dw) (k .α) (k .β) (k .γ)
+    w-narrow k = narrow (S .roots .dw) _ (k .α) (k .β) (k .γ) (coords-eq S B (good .ideal .rank) _ k) near-w

@@ -26,7 +26,8 @@ use Rattle.poly_rows.specs.Leaf.{Product}
 use Rattle.poly_rows.specs.Terms.{Ready}
 use Rattle.math_ideals.specs.Basis.{Good}
 use Rattle.math_ideals.proofs.Degrees.{small}
-use Rattle.math_chain.proofs.Parts.{Parts, parts, Cut, base, base-d}
+use Rattle.math_chain.specs.Parts.{Parts, Cut, base}
+use Rattle.math_chain.proofs.Parts.{parts, base-d}
 use Rattle.math_chain.proofs.Room.{d-not-zero}
 use Rattle.field_open.specs.Refusal.{Accepted}
 use Rattle.basis_record.specs.Record.{setting, polyOf}
@@ -55,10 +56,10 @@ module _ {p cap : ℕ} {g h gh : List ℕ} {ie : ℕ} {b : Seven} (i : Generator
   z : Sizes (i .σ) b
   z = sizes (i .σ) b (i .good)
 
-  r-near : Narrow (setting (i .σ)) (rowsOf (i .σ) b) (small (setting (i .σ)) (rowsOf (i .σ) b) (i .good)) (setting (i .σ) .dr) (k .of-r .α) (k .of-r .β) (k .of-r .γ)
+  r-near : Narrow (setting (i .σ)) (rowsOf (i .σ) b) (small (setting (i .σ)) (rowsOf (i .σ) b) (i .good)) (setting (i .σ) .roots .dr) (k .of-r .α) (k .of-r .β) (k .of-r .γ)
   r-near = r-narrow (setting (i .σ)) (rowsOf (i .σ) b) (small (setting (i .σ)) (rowsOf (i .σ) b) (i .good)) (i .good) (k .of-r)
 
-  w-near : Narrow (setting (i .σ)) (rowsOf (i .σ) b) (small (setting (i .σ)) (rowsOf (i .σ) b) (i .good)) (setting (i .σ) .dw) (k .of-w .α) (k .of-w .β) (k .of-w .γ)
+  w-near : Narrow (setting (i .σ)) (rowsOf (i .σ) b) (small (setting (i .σ)) (rowsOf (i .σ) b) (i .good)) (setting (i .σ) .roots .dw) (k .of-w .α) (k .of-w .β) (k .of-w .γ)
   w-near = w-narrow (setting (i .σ)) (rowsOf (i .σ) b) (small (setting (i .σ)) (rowsOf (i .σ) b) (i .good)) (i .good) (k .of-w)
 
   pub measured : {lg lh : ℕ} {e : List ℕ} {l : Lengths} → Size g lg → Size h lh → Size gh cap → Found p cap lg lh ie b e l → Measured p g h gh ie b e l
@@ -83,8 +84,8 @@ module _ {p cap : ℕ} {g h gh : List ℕ} {ie : ℕ} {b : Seven} (i : Generator
 
   -- ---- r m
   module _ {e xx zz : List ℕ} (de : Det p (b .m1) (b .n2) (b .m2) (b .n1) e) (hx : Product p (b .m2) gh xx) (hz : Product p (b .m1) h zz) where
-    z-lt : Lt (ρ .𝓥) (row ρ zz) (suc (setting (i .σ) .dr + setting (i .σ) .dr))
-    z-lt = d.lt-eq (ρ .𝓥) (d.lt-up (ρ .𝓥) (suc (setting (i .σ) .dr + setting (i .σ) .dr)) (lt-mul-sharp (ρ .𝓥) (z .m1) (h-lt i)) (omega (arith, z .two-r))) (sym (hz .law (i .σ .prime)))
+    z-lt : Lt (ρ .𝓥) (row ρ zz) (suc (setting (i .σ) .roots .dr + setting (i .σ) .roots .dr))
+    z-lt = d.lt-eq (ρ .𝓥) (d.lt-up (ρ .𝓥) (suc (setting (i .σ) .roots .dr + setting (i .σ) .roots .dr)) (lt-mul-sharp (ρ .𝓥) (z .m1) (h-lt i)) (omega (arith, z .two-r))) (sym (hz .law (i .σ .prime)))
 
     pub x-in : CoordsIn p xx (b .m0) zz b e ie
     x-in = record {
@@ -96,17 +97,17 @@ module _ {p cap : ℕ} {g h gh : List ℕ} {ie : ℕ} {b : Seven} (i : Generator
       he = de .is-row;
       by-e = by-e i de;
       by-u = by-u i;
-      b-n2 = fits-of ρ (suc n) (setting (i .σ) .dr) (i .rows .m0) (i .rows .n2) (z .m0) (z .n2) (omega (arith, z .both, z .w-pos, z .all));
-      c-n1 = fits-of ρ (suc (setting (i .σ) .dr + setting (i .σ) .dr)) (setting (i .σ) .dw) (hz .is-row) (i .rows .n1) z-lt (z .n1) (omega (arith, z .both, z .w-pos, z .all));
-      c-m1 = fits-of ρ (suc (setting (i .σ) .dr + setting (i .σ) .dr)) (suc (setting (i .σ) .dw)) (hz .is-row) (i .rows .m1) z-lt (z .m1) (omega (arith, z .both, z .w-pos, z .all));
-      b-m2 = fits-of ρ (suc n) (suc (setting (i .σ) .dr)) (i .rows .m0) (i .rows .m2) (z .m0) (z .m2) (omega (arith, z .both, z .w-pos, z .all));
+      b-n2 = fits-of ρ (suc n) (setting (i .σ) .roots .dr) (i .rows .m0) (i .rows .n2) (z .m0) (z .n2) (omega (arith, z .both, z .w-pos, z .all));
+      c-n1 = fits-of ρ (suc (setting (i .σ) .roots .dr + setting (i .σ) .roots .dr)) (setting (i .σ) .roots .dw) (hz .is-row) (i .rows .n1) z-lt (z .n1) (omega (arith, z .both, z .w-pos, z .all));
+      c-m1 = fits-of ρ (suc (setting (i .σ) .roots .dr + setting (i .σ) .roots .dr)) (suc (setting (i .σ) .roots .dw)) (hz .is-row) (i .rows .m1) z-lt (z .m1) (omega (arith, z .both, z .w-pos, z .all));
+      b-m2 = fits-of ρ (suc n) (suc (setting (i .σ) .roots .dr)) (i .rows .m0) (i .rows .m2) (z .m0) (z .m2) (omega (arith, z .both, z .w-pos, z .all));
       prime = i .σ .prime;
       α = k .of-r .α .0;
       β = k .of-r .β .0;
       γ = k .of-r .γ .0;
       some = quot-r (i .σ) (i .holds) b de hx hz (k .of-r);
-      kβ = suc (setting (i .σ) .dr);
-      kγ = setting (i .σ) .dr;
+      kβ = suc (setting (i .σ) .roots .dr);
+      kγ = setting (i .σ) .roots .dr;
       β-lt = r-near .β-lt;
       γ-lt = r-near .γ-lt;
       room-m0 = λ m s. let q : m ≤ suc n = size-le ρ (suc n) (i .rows .m0) s (z .m0) in omega (arith, z .both, z .w-pos, z .all);
@@ -121,8 +122,8 @@ module _ {p cap : ℕ} {g h gh : List ℕ} {ie : ℕ} {b : Seven} (i : Generator
 
   -- ---- w m
   module _ {e xx yy : List ℕ} (de : Det p (b .m1) (b .n2) (b .m2) (b .n1) e) (hx : Product p (b .m1) gh xx) (hy : Product p (b .m2) g yy) where
-    y-lt : Lt (ρ .𝓥) (row ρ yy) (suc (setting (i .σ) .dw + setting (i .σ) .dw))
-    y-lt = d.lt-eq (ρ .𝓥) (d.lt-up (ρ .𝓥) (suc (setting (i .σ) .dw + setting (i .σ) .dw)) (lt-mul-sharp (ρ .𝓥) (z .m2) (g-lt i)) (omega (arith, z .two-r, z .both))) (sym (hy .law (i .σ .prime)))
+    y-lt : Lt (ρ .𝓥) (row ρ yy) (suc (setting (i .σ) .roots .dw + setting (i .σ) .roots .dw))
+    y-lt = d.lt-eq (ρ .𝓥) (d.lt-up (ρ .𝓥) (suc (setting (i .σ) .roots .dw + setting (i .σ) .roots .dw)) (lt-mul-sharp (ρ .𝓥) (z .m2) (g-lt i)) (omega (arith, z .two-r, z .both))) (sym (hy .law (i .σ .prime)))
 
     pub y-in : CoordsIn p xx yy (b .m0) b e ie
     y-in = record {
@@ -134,17 +135,17 @@ module _ {p cap : ℕ} {g h gh : List ℕ} {ie : ℕ} {b : Seven} (i : Generator
       he = de .is-row;
       by-e = by-e i de;
       by-u = by-u i;
-      b-n2 = fits-of ρ (suc (setting (i .σ) .dw + setting (i .σ) .dw)) (setting (i .σ) .dr) (hy .is-row) (i .rows .n2) y-lt (z .n2) (omega (arith, z .both, z .r-pos, z .all));
-      c-n1 = fits-of ρ (suc n) (setting (i .σ) .dw) (i .rows .m0) (i .rows .n1) (z .m0) (z .n1) (omega (arith, z .both, z .r-pos, z .all));
-      c-m1 = fits-of ρ (suc n) (suc (setting (i .σ) .dw)) (i .rows .m0) (i .rows .m1) (z .m0) (z .m1) (omega (arith, z .both, z .r-pos, z .all));
-      b-m2 = fits-of ρ (suc (setting (i .σ) .dw + setting (i .σ) .dw)) (suc (setting (i .σ) .dr)) (hy .is-row) (i .rows .m2) y-lt (z .m2) (omega (arith, z .both, z .r-pos, z .all));
+      b-n2 = fits-of ρ (suc (setting (i .σ) .roots .dw + setting (i .σ) .roots .dw)) (setting (i .σ) .roots .dr) (hy .is-row) (i .rows .n2) y-lt (z .n2) (omega (arith, z .both, z .r-pos, z .all));
+      c-n1 = fits-of ρ (suc n) (setting (i .σ) .roots .dw) (i .rows .m0) (i .rows .n1) (z .m0) (z .n1) (omega (arith, z .both, z .r-pos, z .all));
+      c-m1 = fits-of ρ (suc n) (suc (setting (i .σ) .roots .dw)) (i .rows .m0) (i .rows .m1) (z .m0) (z .m1) (omega (arith, z .both, z .r-pos, z .all));
+      b-m2 = fits-of ρ (suc (setting (i .σ) .roots .dw + setting (i .σ) .roots .dw)) (suc (setting (i .σ) .roots .dr)) (hy .is-row) (i .rows .m2) y-lt (z .m2) (omega (arith, z .both, z .r-pos, z .all));
       prime = i .σ .prime;
       α = k .of-w .α .0;
       β = k .of-w .β .0;
       γ = k .of-w .γ .0;
       some = quot-w (i .σ) (i .holds) b de hx hy (k .of-w);
-      kβ = suc (setting (i .σ) .dw);
-      kγ = setting (i .σ) .dw;
+      kβ = suc (setting (i .σ) .roots .dw);
+      kγ = setting (i .σ) .roots .dw;
       β-lt = w-near .β-lt;
       γ-lt = w-near .γ-lt;
       room-m0 = λ m s. let q : m ≤ suc n = size-le ρ (suc n) (i .rows .m0) s (z .m0) in omega (arith, z .both, z .r-pos, z .all);
@@ -180,8 +181,9 @@ module _ {p cap : ℕ} {g h gh : List ℕ} {ie : ℕ} {b : Seven} (i : Generator
         let sy = ty .spans in
         record {
           rows = record { modulus = modulus i; prime = i .σ .prime; h0 = na .opposite .is-row; h2 = sx .hc; k0 = sy .ha; k2 = nc .opposite .is-row };
-          left = fits-of ρ (setting (i .σ) .dr) (setting (i .σ) .dw) (sx .hc) (sy .ha) (low (x .c) _ (setting (i .σ) .dr) ec (r-near .γ-lt)) (low (y .a) _ (setting (i .σ) .dw) fa (w-near .α-lt)) (omega (arith, z .both, z .all));
-          right = fits-of ρ (setting (i .σ) .dr) (setting (i .σ) .dw) (na .opposite .is-row) (nc .opposite .is-row) (low-neg (setting (i .σ) .dr) na (low (x .a) _ (setting (i .σ) .dr) ea (r-near .α-lt))) (low-neg (setting (i .σ) .dw) nc (low (y .c) _ (setting (i .σ) .dw) fc (w-near .γ-lt))) (omega (arith, z .both, z .all));
+          left = fits-of ρ (setting (i .σ) .roots .dr) (setting (i .σ) .roots .dw) (sx .hc) (sy .ha) (low (x .c) _ (setting (i .σ) .roots .dr) ec (r-near .γ-lt)) (low (y .a) _ (setting (i .σ) .roots .dw) fa (w-near .α-lt)) (omega (arith, z .both, z .all));
+          right = fits-of ρ (setting (i .σ) .roots .dr) (setting (i .σ) .roots .dw) (na .opposite .is-row) (nc .opposite .is-row)
+              (low-neg (setting (i .σ) .roots .dr) na (low (x .a) _ (setting (i .σ) .roots .dr) ea (r-near .α-lt))) (low-neg (setting (i .σ) .roots .dw) nc (low (y .c) _ (setting (i .σ) .roots .dw) fc (w-near .γ-lt))) (omega (arith, z .both, z .all));
           nz = λ t. d-not-zero (setting (i .σ)) (rowsOf (i .σ) b) (i .good) k
               (let o = polys (ρ .𝓥) .ops in
               ap (λ s. s .0) (ap₂ (λ s u. o .add s (o .neg u)) (ap₂ (o .mul) (sym ec) (sym fa)) (ap₂ (o .mul) (sym ea) (sym fc)) ∙ sym (signs (i .σ .prime))) ∙ t);

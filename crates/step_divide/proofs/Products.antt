@@ -23,11 +23,10 @@ use Rattle.math_rows.proofs.Floors.{sized, zero-row}
 use Rattle.math_rows.proofs.Unique.{cast-inj}
 use Rattle.poly_rows.specs.Leaf.{Cut, MulIn, Product}
 use Rattle.math_ideals.specs.Setting.{dGH}
-use Rattle.math_ideals.specs.Element.{O}
+use Rattle.math_ideals.specs.Element.{O, times-r, times-w}
 use Rattle.math_ideals.specs.Basis.{Good}
 use Rattle.math_ideals.proofs.Values.{dr-dw, dr-eq, dr-pos, dw-pos}
-use Rattle.math_ideals.proofs.Check.{Coords}
-use Rattle.math_ideals.proofs.Tests.{times-r, times-w}
+use Rattle.math_ideals.specs.Ideal.{Coords}
 use Rattle.math_ideals.proofs.Degrees.{small, det-lead}
 use Rattle.field_open.specs.Refusal.{Accepted}
 use Rattle.basis_record.specs.Record.{setting, polyOf}
@@ -61,30 +60,30 @@ module _ {p : ℕ} {G H : List ℕ} (σ : Accepted p G H) (b : Seven) where
   -- what the sizes of a good basis say of its rows
   pub record Sizes : Type 0 where
     pub m0 : Lt (reading p (σ .prime) .𝓥) (row (reading p (σ .prime)) (b .m0)) (suc (dGH (setting σ)))
-    pub m1 : Lt (reading p (σ .prime) .𝓥) (row (reading p (σ .prime)) (b .m1)) (suc (setting σ .dw))
-    pub m2 : Lt (reading p (σ .prime) .𝓥) (row (reading p (σ .prime)) (b .m2)) (suc (setting σ .dr))
+    pub m1 : Lt (reading p (σ .prime) .𝓥) (row (reading p (σ .prime)) (b .m1)) (suc (setting σ .roots .dw))
+    pub m2 : Lt (reading p (σ .prime) .𝓥) (row (reading p (σ .prime)) (b .m2)) (suc (setting σ .roots .dr))
     pub n0 : Lt (reading p (σ .prime) .𝓥) (row (reading p (σ .prime)) (b .n0)) (dGH (setting σ))
-    pub n1 : Lt (reading p (σ .prime) .𝓥) (row (reading p (σ .prime)) (b .n1)) (setting σ .dw)
-    pub n2 : Lt (reading p (σ .prime) .𝓥) (row (reading p (σ .prime)) (b .n2)) (setting σ .dr)
-    pub two-r : setting σ .dr + setting σ .dr ≡ σ .degH + setting σ .dw
-    pub both : setting σ .dr + setting σ .dw ≡ σ .degG + σ .degH
-    pub r-pos : 1 ≤ setting σ .dr
-    pub w-pos : 1 ≤ setting σ .dw
+    pub n1 : Lt (reading p (σ .prime) .𝓥) (row (reading p (σ .prime)) (b .n1)) (setting σ .roots .dw)
+    pub n2 : Lt (reading p (σ .prime) .𝓥) (row (reading p (σ .prime)) (b .n2)) (setting σ .roots .dr)
+    pub two-r : setting σ .roots .dr + setting σ .roots .dr ≡ σ .degH + setting σ .roots .dw
+    pub both : setting σ .roots .dr + setting σ .roots .dw ≡ σ .degG + σ .degH
+    pub r-pos : 1 ≤ setting σ .roots .dr
+    pub w-pos : 1 ≤ setting σ .roots .dw
     pub all : σ .degG + σ .degH ≤ 16
 
   pub sizes : Good (setting σ) (rowsOf σ b) → Sizes
   sizes good =
       let 𝓥 = reading p (σ .prime) .𝓥 in
       let s = small (setting σ) (rowsOf σ b) good in
-      let both : setting σ .dr + setting σ .dw ≡ dGH (setting σ) = dr-dw (setting σ) in
+      let both : setting σ .roots .dr + setting σ .roots .dw ≡ dGH (setting σ) = dr-dw (setting σ) in
       let x≤n : s .x ≤ dGH (setting σ) = s .x≤n in
       record {
         m0 = d.has-up 𝓥 (suc (dGH (setting σ))) (s .M0) (omega arith);
-        m1 = d.lt-cancel 𝓥 (suc (setting σ .dw)) (setting σ .r-deg) (d.lt-eq 𝓥 (d.has-up 𝓥 (setting σ .dr + suc (setting σ .dw)) (s .M1) (omega arith)) (𝓥 .L .laws .mul-comm _ _));
-        m2 = d.lt-cancel 𝓥 (suc (setting σ .dr)) (setting σ .w-deg) (d.lt-eq 𝓥 (d.has-up 𝓥 (setting σ .dw + suc (setting σ .dr)) (s .M2) (omega arith)) (𝓥 .L .laws .mul-comm _ _));
+        m1 = d.lt-cancel 𝓥 (suc (setting σ .roots .dw)) (setting σ .roots .r-deg) (d.lt-eq 𝓥 (d.has-up 𝓥 (setting σ .roots .dr + suc (setting σ .roots .dw)) (s .M1) (omega arith)) (𝓥 .L .laws .mul-comm _ _));
+        m2 = d.lt-cancel 𝓥 (suc (setting σ .roots .dr)) (setting σ .roots .w-deg) (d.lt-eq 𝓥 (d.has-up 𝓥 (setting σ .roots .dw + suc (setting σ .roots .dr)) (s .M2) (omega arith)) (𝓥 .L .laws .mul-comm _ _));
         n0 = s .N0;
-        n1 = d.lt-cancel 𝓥 (setting σ .dw) (setting σ .r-deg) (d.lt-eq 𝓥 (d.lt-up 𝓥 (setting σ .dr + setting σ .dw) (s .N1) (omega arith)) (𝓥 .L .laws .mul-comm _ _));
-        n2 = d.lt-cancel 𝓥 (setting σ .dr) (setting σ .w-deg) (d.lt-eq 𝓥 (d.lt-up 𝓥 (setting σ .dw + setting σ .dr) (s .N2) (omega arith)) (𝓥 .L .laws .mul-comm _ _));
+        n1 = d.lt-cancel 𝓥 (setting σ .roots .dw) (setting σ .roots .r-deg) (d.lt-eq 𝓥 (d.lt-up 𝓥 (setting σ .roots .dr + setting σ .roots .dw) (s .N1) (omega arith)) (𝓥 .L .laws .mul-comm _ _));
+        n2 = d.lt-cancel 𝓥 (setting σ .roots .dr) (setting σ .roots .w-deg) (d.lt-eq 𝓥 (d.lt-up 𝓥 (setting σ .roots .dw + setting σ .roots .dr) (s .N2) (omega arith)) (𝓥 .L .laws .mul-comm _ _));
         two-r = dr-eq (setting σ);
         both = both;
         r-pos = dr-pos (setting σ);
@@ -104,13 +103,13 @@ module _ {p cap : ℕ} {g h gh : List ℕ} {ie : ℕ} {b : Seven} (i : Generator
   modulus = record { big = i .σ .prime .big; small = (let l : p ≤ 65535 = i .σ .high in omega arith) }
 
   pub g-lt : Lt (ρ .𝓥) (row ρ g) (suc (i .σ .degG))
-  g-lt = d.lt-eq (ρ .𝓥) (d.has-up (ρ .𝓥) (suc (i .σ .degG)) (setting (i .σ) .G-deg) (omega arith)) (sym (i .holds .g-is))
+  g-lt = d.lt-eq (ρ .𝓥) (d.has-up (ρ .𝓥) (suc (i .σ .degG)) (setting (i .σ) .roots .G-deg) (omega arith)) (sym (i .holds .g-is))
 
   pub h-lt : Lt (ρ .𝓥) (row ρ h) (suc (i .σ .degH))
-  h-lt = d.lt-eq (ρ .𝓥) (d.has-up (ρ .𝓥) (suc (i .σ .degH)) (setting (i .σ) .H-deg) (omega arith)) (sym (i .holds .h-is))
+  h-lt = d.lt-eq (ρ .𝓥) (d.has-up (ρ .𝓥) (suc (i .σ .degH)) (setting (i .σ) .roots .H-deg) (omega arith)) (sym (i .holds .h-is))
 
   gh-has : Has (ρ .𝓥) (row ρ gh) (i .σ .degG + i .σ .degH)
-  gh-has = d.has-eq (ρ .𝓥) (d.has-mul (ρ .𝓥) (setting (i .σ) .G-deg) (setting (i .σ) .H-deg)) (sym (i .holds .gh-is))
+  gh-has = d.has-eq (ρ .𝓥) (d.has-mul (ρ .𝓥) (setting (i .σ) .roots .G-deg) (setting (i .σ) .roots .H-deg)) (sym (i .holds .gh-is))
 
   room : {x y : List ℕ} (j k : ℕ) → Row p x → Row p y → Lt (ρ .𝓥) (row ρ x) j → Lt (ρ .𝓥) (row ρ y) k → j + k ≤ 33 → MulIn p x y
   room j k hx hy lx ly l = record { modulus = modulus; hx = hx; hy = hy; room = fits-of ρ j k hx hy lx ly l }
@@ -122,8 +121,8 @@ module _ {p cap : ℕ} {g h gh : List ℕ} {ie : ℕ} {b : Seven} (i : Generator
     hy = i .rows .n2;
     hz = i .rows .m2;
     hv = i .rows .n1;
-    left = fits-of ρ (suc (setting (i .σ) .dw)) (setting (i .σ) .dr) (i .rows .m1) (i .rows .n2) (z .m1) (z .n2) (omega (arith, z .both, z .all));
-    right = fits-of ρ (suc (setting (i .σ) .dr)) (setting (i .σ) .dw) (i .rows .m2) (i .rows .n1) (z .m2) (z .n1) (omega (arith, z .both, z .all));
+    left = fits-of ρ (suc (setting (i .σ) .roots .dw)) (setting (i .σ) .roots .dr) (i .rows .m1) (i .rows .n2) (z .m1) (z .n2) (omega (arith, z .both, z .all));
+    right = fits-of ρ (suc (setting (i .σ) .roots .dr)) (setting (i .σ) .roots .dw) (i .rows .m2) (i .rows .n1) (z .m2) (z .n1) (omega (arith, z .both, z .all));
   }
 
   -- G, H and G H, each no larger than G H
@@ -141,10 +140,10 @@ module _ {p cap : ℕ} {g h gh : List ℕ} {ie : ℕ} {b : Seven} (i : Generator
   by-gh = record { is-row = i .hgh; low = d.has-up (ρ .𝓥) (suc (i .σ .degG + i .σ .degH)) gh-has (omega arith) }
 
   pub m1-by : {y : List ℕ} → Factor y → MulIn p (b .m1) y
-  m1-by f = room (suc (setting (i .σ) .dw)) (suc (i .σ .degG + i .σ .degH)) (i .rows .m1) (f .is-row) (z .m1) (f .low) (omega (arith, z .both, z .r-pos, z .all))
+  m1-by f = room (suc (setting (i .σ) .roots .dw)) (suc (i .σ .degG + i .σ .degH)) (i .rows .m1) (f .is-row) (z .m1) (f .low) (omega (arith, z .both, z .r-pos, z .all))
 
   pub m2-by : {y : List ℕ} → Factor y → MulIn p (b .m2) y
-  m2-by f = room (suc (setting (i .σ) .dr)) (suc (i .σ .degG + i .σ .degH)) (i .rows .m2) (f .is-row) (z .m2) (f .low) (omega (arith, z .both, z .w-pos, z .all))
+  m2-by f = room (suc (setting (i .σ) .roots .dr)) (suc (i .σ .degG + i .σ .degH)) (i .rows .m2) (f .is-row) (z .m2) (f .low) (omega (arith, z .both, z .w-pos, z .all))
 
   -- ---- every row ends before cap
   ends : {x : List ℕ} (k : ℕ) → Row p x → Lt (ρ .𝓥) (row ρ x) k → k ≤ cap → Cut x cap
@@ -154,19 +153,19 @@ module _ {p cap : ℕ} {g h gh : List ℕ} {ie : ℕ} {b : Seven} (i : Generator
   m0-ends = ends (suc (i .σ .degG + i .σ .degH)) (i .rows .m0) (z .m0) (let q : i .σ .degG + i .σ .degH < cap = i .past in omega arith)
 
   pub m1-ends : Cut (b .m1) cap
-  m1-ends = ends (suc (setting (i .σ) .dw)) (i .rows .m1) (z .m1) (omega (arith, z .both, z .r-pos, i .past))
+  m1-ends = ends (suc (setting (i .σ) .roots .dw)) (i .rows .m1) (z .m1) (omega (arith, z .both, z .r-pos, i .past))
 
   pub m2-ends : Cut (b .m2) cap
-  m2-ends = ends (suc (setting (i .σ) .dr)) (i .rows .m2) (z .m2) (omega (arith, z .both, z .w-pos, i .past))
+  m2-ends = ends (suc (setting (i .σ) .roots .dr)) (i .rows .m2) (z .m2) (omega (arith, z .both, z .w-pos, i .past))
 
   pub n0-ends : Cut (b .n0) cap
   n0-ends = ends (i .σ .degG + i .σ .degH) (i .rows .n0) (z .n0) (let q : i .σ .degG + i .σ .degH < cap = i .past in omega arith)
 
   pub n1-ends : Cut (b .n1) cap
-  n1-ends = ends (setting (i .σ) .dw) (i .rows .n1) (z .n1) (omega (arith, z .both, z .r-pos, i .past))
+  n1-ends = ends (setting (i .σ) .roots .dw) (i .rows .n1) (z .n1) (omega (arith, z .both, z .r-pos, i .past))
 
   pub n2-ends : Cut (b .n2) cap
-  n2-ends = ends (setting (i .σ) .dr) (i .rows .n2) (z .n2) (omega (arith, z .both, z .w-pos, i .past))
+  n2-ends = ends (setting (i .σ) .roots .dr) (i .rows .n2) (z .n2) (omega (arith, z .both, z .w-pos, i .past))
 
   pub u-ends : Cut (b .u) cap
   u-ends =

@@ -17,7 +17,7 @@ use Rattle.math_rows.specs.Made.{reading}
 use Rattle.math_rows.specs.Row.{Row, Size, row}
 use Rattle.poly_rows.specs.Terms.{Ready}
 use Rattle.math_ideals.specs.Basis.{Good}
-use Rattle.math_chain.proofs.Parts.{Parts, Cut, x1, y1, base}
+use Rattle.math_chain.specs.Parts.{Parts, Cut, x1, y1, base}
 use Rattle.field_open.specs.Refusal.{Accepted}
 use Rattle.basis_record.specs.Record.{setting, polyOf}
 use Rattle.step_divide.specs.Rows.{Seven, AreRows, rowsOf, Holds}

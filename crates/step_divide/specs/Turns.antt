@@ -10,9 +10,8 @@ use Prim.Native.Nat.{ℕ}
 use lib.ListN.{replicate}
 use Rattle.math_rows.specs.Row.{Row, Size}
 use Rattle.poly_rows.specs.Terms.{Ready}
-use Rattle.math_ideals.specs.Element.{O}
-use Rattle.math_ideals.proofs.Check.{Coords}
-use Rattle.math_ideals.proofs.Tests.{times-r, times-w}
+use Rattle.math_ideals.specs.Element.{O, times-r, times-w}
+use Rattle.math_ideals.specs.Ideal.{Coords}
 use Rattle.field_open.specs.Refusal.{Accepted}
 use Rattle.basis_record.specs.Record.{setting, polyOf}
 use Rattle.step_divide.specs.Rows.{Seven, rowsOf, Holds}

@@ -24,11 +24,10 @@ use Rattle.math_ideals.specs.Next.{Next}
 use Rattle.math_ideals.proofs.Degrees.{small}
 use Rattle.math_ideals.proofs.Divided.{ev-M}
 use Rattle.math_chain.specs.Chain.{Degree}
-use Rattle.math_chain.proofs.Parts.{Parts, Cut, x1, y1, base}
-use Rattle.math_chain.proofs.Changed.{Pair, Changed}
-use Rattle.math_chain.proofs.Moved.{changed-of}
+use Rattle.math_chain.specs.Parts.{x1, y1, base}
+use Rattle.math_chain.proofs.Changed.{Pair, Changed, changed-of}
 use Rattle.math_chain.proofs.Frame.{pair, off, Framed, Rebased}
-use Rattle.math_chain.proofs.Correct.{Ends, base-framed, step-correct}
+use Rattle.math_chain.proofs.Correct.{base-framed, step-correct}
 use Rattle.basis_record.specs.Record.{part, setting, polyOf, basisOf, IsRecord}
 use Rattle.step_divide.specs.Rows.{Seven, seven, AreRows, rowsOf}
 use Rattle.step_divide.proofs.Products.{sizes}
@@ -66,21 +65,6 @@ module _ {p : ℕ} {G H : List ℕ} (A : Accepted p G H) {g h gh : List ℕ} {n 
   }
 
   module _ (e : BasedAt (meaning A k) (pairOf o) (o .u) (o .x) (o .y) B′) where
-    ends : Ends (setting A) (basisOf A B′)
-    ends = record {
-      u = e .u;
-      x = e .x;
-      y = e .y;
-      U-lead = e .U-lead;
-      X-M = e .X-M;
-      Y-N = e .Y-N;
-      u≤y = e .u≤y;
-      X-N = e .X-N;
-      Y-M = e .Y-M;
-      Z-M = e .Z-M;
-      Z-N = e .Z-N;
-    }
-
     rebased : Rebased (setting A) (polyOf A (o .x)) (polyOf A (o .y)) base₁ (basisOf A B′)
     rebased = record {
       old = subst (λ z. Framed (setting A) (polyOf A (o .x)) (polyOf A (o .y)) z) (sym same-base)
@@ -97,7 +81,7 @@ module _ {p : ℕ} {G H : List ℕ} (A : Accepted p G H) {g h gh : List ℕ} {n 
         (subst (λ z. Rebased (setting A) z (y1 (setting A) (rowsOf A b) (m .k)) base₀ (basisOf A B′)) (m .x-is)
         (subst (λ z. Rebased (setting A) (polyOf A (o .x)) z base₀ (basisOf A B′)) (m .y-is)
         (subst (λ z. Rebased (setting A) (polyOf A (o .x)) (polyOf A (o .y)) z (basisOf A B′)) same-base rebased)))
-        ends
+        (e .numbers)
 
 -- ---- the degree of m
 pub degree-of : {p : ℕ} {G H : List ℕ} (A : Accepted p G H) (b : Seven) → AreRows p b → Good (setting A) (rowsOf A b) → (lm lu : ℕ) → Size (b .m0) lm → Size (b .u) lu
@@ -128,7 +112,7 @@ module _ {p : ℕ} {g h gh : List ℕ} {n dr dw : ℕ} {r w B : List ℕ} (i : A
 
   pub gh-size : Size gh (n + 1)
   gh-size = subst (Size gh) (omega (arith, i .keeps .known A .n-is))
-      (size-of (reading p (A .prime)) (i .keeps .hgh) (d.has-eq (reading p (A .prime) .𝓥) (d.has-mul (reading p (A .prime) .𝓥) (setting A .G-deg) (setting A .H-deg)) (sym (i .keeps .known A .holds .gh-is))))
+      (size-of (reading p (A .prime)) (i .keeps .hgh) (d.has-eq (reading p (A .prime) .𝓥) (d.has-mul (reading p (A .prime) .𝓥) (setting A .roots .G-deg) (setting A .roots .H-deg)) (sym (i .keeps .known A .holds .gh-is))))
 
   -- G H leads at n
   lead-at : (m : ℕ) → Size gh m → getD gh n 0 ≡ getD gh (m - 1) 0
@@ -165,11 +149,11 @@ module _ {p : ℕ} {g h gh : List ℕ} {n dr dw : ℕ} {r w B : List ℕ} (i : A
 
   pub g-size : Size g (2 * dw + 1 - dr)
   g-size = subst (Size g) (omega (arith, i .keeps .known A .dr-is, i .keeps .known A .dw-is, sizes A b good-rows .two-r, sizes A b good-rows .both))
-      (size-of (reading p (A .prime)) (i .keeps .hg) (d.has-eq (reading p (A .prime) .𝓥) (setting A .G-deg) (sym (i .keeps .known A .holds .g-is))))
+      (size-of (reading p (A .prime)) (i .keeps .hg) (d.has-eq (reading p (A .prime) .𝓥) (setting A .roots .G-deg) (sym (i .keeps .known A .holds .g-is))))
 
   pub h-size : Size h (2 * dr + 1 - dw)
   h-size = subst (Size h) (omega (arith, i .keeps .known A .dr-is, i .keeps .known A .dw-is, sizes A b good-rows .two-r, sizes A b good-rows .both))
-      (size-of (reading p (A .prime)) (i .keeps .hh) (d.has-eq (reading p (A .prime) .𝓥) (setting A .H-deg) (sym (i .keeps .known A .holds .h-is))))
+      (size-of (reading p (A .prime)) (i .keeps .hh) (d.has-eq (reading p (A .prime) .𝓥) (setting A .roots .H-deg) (sym (i .keeps .known A .holds .h-is))))
 
   pub shorter : (lm lu : ℕ) → Size (b .m0) lm → Size (b .u) lu → lu ≤ lm
   shorter lm lu sm su = degree-of A b are-rows good-rows lm lu sm su .0

@@ -19,6 +19,7 @@ use Rattle.math_rows.specs.Made.{reading}
 use Rattle.math_rows.specs.Row.{Row, Size, row}
 use Rattle.math_rows.proofs.Rows.{size-le, size-has}
 use Rattle.math_rows.proofs.Floors.{sized, zero-row}
+use Rattle.math_triple.specs.Sizes.{sizeX, sizeY}
 use Rattle.math_turns.specs.Points.{Pt}
 use Rattle.math_turns.proofs.Turn.{b-lt, c-lt}
 use Rattle.field_open.specs.Refusal.{Accepted}
@@ -27,7 +28,8 @@ use Rattle.math_ideals.specs.Ideal.{det}
 use Rattle.math_ideals.specs.Basis.{Good}
 use Rattle.math_ideals.specs.Element.{X, Y}
 use Rattle.math_ideals.proofs.Degrees.{small}
-use Rattle.math_chain.proofs.Parts.{Parts, Cut, base, base-d}
+use Rattle.math_chain.specs.Parts.{base}
+use Rattle.math_chain.proofs.Parts.{base-d}
 use Rattle.math_chain.proofs.Room.{Room, room}
 use Rattle.basis_record.specs.Record.{setting, polyOf}
 use Rattle.step_divide.specs.Rows.{Seven, rowsOf}
@@ -68,13 +70,13 @@ module _ {p : ℕ} {G H : List ℕ} (A : Accepted p G H) {g h gh : List ℕ} {n 
   abbrev pub meaning : Meaning (frame p r w dr dw)
   meaning = record {
     prime = A .prime;
-    r = setting A .r;
-    w = setting A .w;
-    r-deg = subst (Has (reading p (A .prime) .𝓥) (setting A .r)) (sym (k .dr-is)) (setting A .r-deg);
-    w-deg = subst (Has (reading p (A .prime) .𝓥) (setting A .w)) (sym (k .dw-is)) (setting A .w-deg);
+    r = setting A .roots .r;
+    w = setting A .roots .w;
+    r-deg = subst (Has (reading p (A .prime) .𝓥) (setting A .roots .r)) (sym (k .dr-is)) (setting A .roots .r-deg);
+    w-deg = subst (Has (reading p (A .prime) .𝓥) (setting A .roots .w)) (sym (k .dw-is)) (setting A .roots .w-deg);
     r-reads = k .r-reads;
     w-reads = k .w-reads;
-    two = setting A .two≢;
+    two = setting A .roots .two≢;
   }
 
 module _ {p : ℕ} {G H : List ℕ} (A : Accepted p G H) {g h gh : List ℕ} {n dr dw : ℕ} {r w : List ℕ} (kp : Keeps p G H g h gh n dr dw r w)
@@ -108,7 +110,7 @@ module _ {p : ℕ} {G H : List ℕ} (A : Accepted p G H) {g h gh : List ℕ} {n 
       ap₂ (λ x y. q .add (q .mul x s) (q .neg (q .mul y t))) eu ev ∙ ap₂ (λ x y. q .add x (q .neg y)) (rg.zero-mul′ (ρ .𝓥 .L) s) (rg.zero-mul′ (ρ .𝓥 .L) t) ∙ ρ .𝓥 .L .laws .add-neg (q .𝟎)
 
   -- the degree of the common factor lies below dr and dw
-  γ-dr : rm .γ < setting A .dr
+  γ-dr : rm .γ < setting A .roots .dr
   γ-dr =
       let nr = r-narrow (setting A) (rowsOf A b) (small (setting A) (rowsOf A b) good) good (m .k .of-r) in
       elim (factor-low (m .c .g) (m .k .of-r .α) (m .c .a0) (rm .g-has) (m .c .x0-eq) (nr .α-lt)) [
@@ -119,7 +121,7 @@ module _ {p : ℕ} {G H : List ℕ} (A : Accepted p G H) {g h gh : List ℕ} {n 
         ]
       ]
 
-  γ-dw : rm .γ < setting A .dw
+  γ-dw : rm .γ < setting A .roots .dw
   γ-dw =
       let nr = w-narrow (setting A) (rowsOf A b) (small (setting A) (rowsOf A b) good) good (m .k .of-w) in
       let q = ρ .𝓥 .L .ops in
@@ -136,12 +138,6 @@ module _ {p : ℕ} {G H : List ℕ} (A : Accepted p G H) {g h gh : List ℕ} {n 
   μ = meaning A (kp .known A)
 
   -- the sizes of the two elements
-  combine : (s t s′ t′ : ρ .𝓥 .L .El) → s ≡ s′ → t ≡ t′ → (let q = ρ .𝓥 .L .ops in q .add (q .mul s (setting A .r)) (q .mul t (setting A .w)) ≡ q .add (q .mul s′ (setting A .r)) (q .mul t′ (setting A .w)))
-  combine s t s′ t′ e f = let q = ρ .𝓥 .L .ops in ap₂ (λ x y. q .add (q .mul x (setting A .r)) (q .mul y (setting A .w))) e f
-
-  subtract : (s t s′ t′ : ρ .𝓥 .L .El) → s ≡ s′ → t ≡ t′ → (let q = ρ .𝓥 .L .ops in q .add (q .mul s (setting A .r)) (q .neg (q .mul t (setting A .w))) ≡ q .add (q .mul s′ (setting A .r)) (q .neg (q .mul t′ (setting A .w))))
-  subtract s t s′ t′ e f = let q = ρ .𝓥 .L .ops in ap₂ (λ x y. q .add (q .mul x (setting A .r)) (q .neg (q .mul y (setting A .w)))) e f
-
   mb-is : base (setting A) (rowsOf A b) (m .k) (m .c) .M .b .0 ≡ row ρ (o .mb)
   mb-is = sym (ap (λ t. t .0) (m .mb-is))
 
@@ -158,22 +154,28 @@ module _ {p : ℕ} {G H : List ℕ} (A : Accepted p G H) {g h gh : List ℕ} {n 
   at x y = record { b = row ρ x; c = row ρ y }
 
   abbrev Xₐ : List ℕ → List ℕ → ρ .𝓥 .L .El
-  Xₐ x y = let q = ρ .𝓥 .L .ops in q .add (q .mul (row ρ x) (setting A .r)) (q .mul (row ρ y) (setting A .w))
+  Xₐ x y = sizeX (ρ .𝓥 .L .ops) (setting A .roots .r) (setting A .roots .w) (row ρ x) (row ρ y)
 
   abbrev Yₐ : List ℕ → List ℕ → ρ .𝓥 .L .El
-  Yₐ x y = let q = ρ .𝓥 .L .ops in q .add (q .mul (row ρ x) (setting A .r)) (q .neg (q .mul (row ρ y) (setting A .w)))
+  Yₐ x y = sizeY (ρ .𝓥 .L .ops) (setting A .roots .r) (setting A .roots .w) (row ρ x) (row ρ y)
+
+  X-is : {b c : ρ .𝓥 .L .El} {x y : List ℕ} → b ≡ row ρ x → c ≡ row ρ y → sizeX (ρ .𝓥 .L .ops) (setting A .roots .r) (setting A .roots .w) b c ≡ Xₐ x y
+  X-is e f = ap₂ (sizeX (ρ .𝓥 .L .ops) (setting A .roots .r) (setting A .roots .w)) e f
+
+  Y-is : {b c : ρ .𝓥 .L .El} {x y : List ℕ} → b ≡ row ρ x → c ≡ row ρ y → sizeY (ρ .𝓥 .L .ops) (setting A .roots .r) (setting A .roots .w) b c ≡ Yₐ x y
+  Y-is e f = ap₂ (sizeY (ρ .𝓥 .L .ops) (setting A .roots .r) (setting A .roots .w)) e f
 
   lx1 : Lt (ρ .𝓥) (Xₐ (o .mb) (o .mc)) (suc (rm .a))
-  lx1 = d.lt-eq (ρ .𝓥) (rm .P-below .X-lt) (combine _ _ _ _ mb-is mc-is)
+  lx1 = d.lt-eq (ρ .𝓥) (rm .P-below .X-lt) (X-is mb-is mc-is)
 
   ly1 : Lt (ρ .𝓥) (Yₐ (o .mb) (o .mc)) (suc (rm .a))
-  ly1 = d.lt-eq (ρ .𝓥) (rm .P-below .Y-lt) (subtract _ _ _ _ mb-is mc-is)
+  ly1 = d.lt-eq (ρ .𝓥) (rm .P-below .Y-lt) (Y-is mb-is mc-is)
 
   lx2 : Lt (ρ .𝓥) (Xₐ (o .nb) (o .nc)) (suc (rm .b))
-  lx2 = d.lt-eq (ρ .𝓥) (rm .Q-below .X-lt) (combine _ _ _ _ nb-is nc-is)
+  lx2 = d.lt-eq (ρ .𝓥) (rm .Q-below .X-lt) (X-is nb-is nc-is)
 
   ly2 : Lt (ρ .𝓥) (Yₐ (o .nb) (o .nc)) (suc (rm .b))
-  ly2 = d.lt-eq (ρ .𝓥) (rm .Q-below .Y-lt) (subtract _ _ _ _ nb-is nc-is)
+  ly2 = d.lt-eq (ρ .𝓥) (rm .Q-below .Y-lt) (Y-is nb-is nc-is)
 
   -- the numbers
   whole : suc (rm .s) ≡ n + 1 - o .cut
@@ -192,27 +194,27 @@ module _ {p : ℕ} {G H : List ℕ} (A : Accepted p G H) {g h gh : List ℕ} {n 
   dr-low =
       let z = sizes A b good in
       let e : rm .s + rm .γ ≡ A .degG + A .degH = rm .whole in
-      let q : setting A .dr + setting A .dw ≡ A .degG + A .degH = z .both in
-      let f : dr ≡ setting A .dr = k .dr-is in
-      let l : rm .γ < setting A .dw = γ-dw in
+      let q : setting A .roots .dr + setting A .roots .dw ≡ A .degG + A .degH = z .both in
+      let f : dr ≡ setting A .roots .dr = k .dr-is in
+      let l : rm .γ < setting A .roots .dw = γ-dw in
       omega (arith, e, q, f, l)
 
   dw-low : dw ≤ suc (rm .s)
   dw-low =
       let z = sizes A b good in
       let e : rm .s + rm .γ ≡ A .degG + A .degH = rm .whole in
-      let q : setting A .dr + setting A .dw ≡ A .degG + A .degH = z .both in
-      let f : dw ≡ setting A .dw = k .dw-is in
-      let l : rm .γ < setting A .dr = γ-dr in
+      let q : setting A .roots .dr + setting A .roots .dw ≡ A .degG + A .degH = z .both in
+      let f : dw ≡ setting A .roots .dw = k .dw-is in
+      let l : rm .γ < setting A .roots .dr = γ-dr in
       omega (arith, e, q, f, l)
 
   short-b : (x y : List ℕ) {i : ℕ} → Row p x → i ≤ rm .s → Lt (ρ .𝓥) (Xₐ x y) (suc i) → Lt (ρ .𝓥) (Yₐ x y) (suc i) → Short p x (suc (rm .s) - dr)
   short-b x y {i} hx l lx ly = row-short ρ (suc (rm .s) - dr) hx
-      (b-lt ρ (setting A .r) (setting A .w) {a = at x y} dr (suc (rm .s) - dr) (setting A .two≢) (μ .r-deg) lx ly (let q : dr ≤ suc (rm .s) = dr-low in omega arith))
+      (b-lt ρ (setting A .roots .r) (setting A .roots .w) {a = at x y} dr (suc (rm .s) - dr) (setting A .roots .two≢) (μ .r-deg) lx ly (let q : dr ≤ suc (rm .s) = dr-low in omega arith))
 
   short-c : (x y : List ℕ) {i : ℕ} → Row p y → i ≤ rm .s → Lt (ρ .𝓥) (Xₐ x y) (suc i) → Lt (ρ .𝓥) (Yₐ x y) (suc i) → Short p y (suc (rm .s) - dw)
   short-c x y {i} hy l lx ly = row-short ρ (suc (rm .s) - dw) hy
-      (c-lt ρ (setting A .r) (setting A .w) {a = at x y} dw (suc (rm .s) - dw) (setting A .two≢) (μ .w-deg) lx ly (let q : dw ≤ suc (rm .s) = dw-low in omega arith))
+      (c-lt ρ (setting A .roots .r) (setting A .roots .w) {a = at x y} dw (suc (rm .s) - dw) (setting A .roots .two≢) (μ .w-deg) lx ly (let q : dw ≤ suc (rm .s) = dw-low in omega arith))
 
   clear-in : ClearIn (frame p r w dr dw) (pairOf o) (suc (rm .s)) (suc (rm .u))
   clear-in = record {
@@ -248,7 +250,7 @@ module _ {p : ℕ} {G H : List ℕ} (A : Accepted p G H) {g h gh : List ℕ} {n 
     ly1 = ly1;
     ly2 = ly2;
     det = d.has-eq (ρ .𝓥) (rm .det-has) (let q = ρ .𝓥 .L .ops in
-        ap₂ (λ s t. q .add s (q .neg t)) (ap₂ (q .mul) (combine _ _ _ _ mb-is mc-is) (subtract _ _ _ _ nb-is nc-is)) (ap₂ (q .mul) (combine _ _ _ _ nb-is nc-is) (subtract _ _ _ _ mb-is mc-is)));
+        ap₂ (λ s t. q .add s (q .neg t)) (ap₂ (q .mul) (X-is mb-is mc-is) (Y-is nb-is nc-is)) (ap₂ (q .mul) (X-is nb-is nc-is) (Y-is mb-is mc-is)));
   }
 
   u-has : Has (ρ .𝓥) (row ρ (o .u)) (rm .u)

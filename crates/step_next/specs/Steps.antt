@@ -20,10 +20,10 @@ use Rattle.step_next.specs.declared.Advance.{Advance}
 pub record Known {p : ℕ} {G H : List ℕ} (A : Accepted p G H) (g h gh : List ℕ) (n dr dw : ℕ) (r w : List ℕ) : Type 0 where
   pub holds : Holds A g h gh
   pub n-is : n ≡ A .degG + A .degH
-  pub dr-is : dr ≡ setting A .dr
-  pub dw-is : dw ≡ setting A .dw
-  pub r-reads : Reads (reading p (A .prime)) r dr (setting A .r)
-  pub w-reads : Reads (reading p (A .prime)) w dw (setting A .w)
+  pub dr-is : dr ≡ setting A .roots .dr
+  pub dw-is : dw ≡ setting A .roots .dw
+  pub r-reads : Reads (reading p (A .prime)) r dr (setting A .roots .r)
+  pub w-reads : Reads (reading p (A .prime)) w dw (setting A .roots .w)
 
 pub record Keeps (p : ℕ) (G H g h gh : List ℕ) (n dr dw : ℕ) (r w : List ℕ) : Type 0 where
   pub accepted : Accepted p G H
