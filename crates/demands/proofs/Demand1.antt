@@ -18,7 +18,7 @@ use Rattle.pair_agree.specs.Answer as pairs
 use Rattle.pair_agree.proofs.Once.{compares-one}
 use Rattle.door_transfer.specs.Transfer as transfer
 use Rattle.door_transfer.proofs.Once.{transfers-one}
-use Rattle.book_body.specs.Said.{Said}
+use Rattle.base_answers.specs.Said.{Said}
 use Rattle.book_body.specs.Body.{Body}
 use Rattle.book_body.specs.Code as code
 use Rattle.book_body.proofs.One.{list-one}

@@ -15,8 +15,8 @@ use Rattle.pair_agree.proofs.Once.{refusals-one}
 use Rattle.pair_theory.proofs.Shared as theory
 use Rattle.door_transfer.proofs.Back.{transfers-back}
 use Rattle.pair_answers.proofs.Alike as answers
-use Rattle.book_bytes.specs.Decides.{Decides}
-use Rattle.book_body.specs.Said.{Said, refused}
+use Rattle.base_answers.specs.Decides.{Decides}
+use Rattle.base_answers.specs.Said.{Said, refused}
 use Rattle.book_body.specs.Body as body
 use Rattle.book_check.specs.Book as book
 use Rattle.book_check.specs.Answer as says

@@ -26,7 +26,7 @@ use Rattle.door_unit.specs.Unit.{Makes}
 use Rattle.pair_agree.specs.declared.Compared.{Compared}
 use Rattle.pair_agree.specs.Answer.{Refusals, Compares}
 use Rattle.door_transfer.specs.Transfer.{Transfers}
-use Rattle.book_body.specs.Said.{Said}
+use Rattle.base_answers.specs.Said.{Said}
 use Rattle.book_body.specs.Body.{Body}
 use Rattle.book_body.specs.Code.{ListTells}
 use Rattle.book_write.specs.Write.{WriteTells}

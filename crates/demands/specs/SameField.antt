@@ -21,7 +21,7 @@ use Rattle.pair_theory.specs.Side.{side}
 use Rattle.pair_theory.specs.Shared.{Shared}
 use Rattle.door_transfer.specs.Transfer.{Transfers}
 use Rattle.pair_answers.specs.Alike.{Alike}
-use Rattle.book_body.specs.Said.{Said, refused}
+use Rattle.base_answers.specs.Said.{Said, refused}
 use Rattle.book_body.specs.Body as body
 use Rattle.book_check.specs.Book as book
 use Rattle.book_check.specs.Answer.{Tells}

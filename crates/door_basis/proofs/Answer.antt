@@ -27,7 +27,7 @@ use Rattle.field_series.specs.Answer.{Prefix}
 use Rattle.field_series.specs.declared.Cubic.{Cubic}
 use Rattle.basis_field.proofs.Ground.{frameOf, frame-is, degrees, dr-is, dw-is, odd, fine, meaningOf, r-reads, w-reads}
 use Rattle.door_basis.specs.declared.Ordered.{Ordered}
-use Rattle.book_bytes.specs.Decides.{Decides}
+use Rattle.base_answers.specs.Decides.{Decides}
 use Rattle.door_basis.specs.Answer.{IsFirst, First, Orders, Checks}
 
 module _ {p : ℕ} {G H : List ℕ} (A : Accepted p G H) (c : Cubic) (h : Prefix p G H c) where

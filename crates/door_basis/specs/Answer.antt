@@ -1,5 +1,4 @@
 -- What the public functions of bases answer (document 01: "the basis of the order", and refusal 9).
---   blank              119 zeros
 --   IsFirst p G H B    B is the record of the order O of the field p, G, H
 --   First c B          the same of an opened field
 --   Orders p G H o     the whole answer: the table's number; beside a refusal zeros; beside 0 the record of the order
@@ -9,16 +8,13 @@ use mathlib.Core.Path.{_≡_}
 use mathlib.Core.Logic.{_≢_, _⊎_}
 use mathlib.Core.List.{List}
 use Prim.Native.Nat.{ℕ}
-use lib.ListN.{replicate}
+use Rattle.base_answers.specs.Limits.{blank}
 use Rattle.field_open.specs.Refusal.{Refusal, Accepted}
 use Rattle.math_ideals.specs.Next.{Start}
 use Rattle.basis_record.specs.Record.{setting, basisOf, IsRecord}
 use Rattle.field_series.specs.Answer.{Prefix}
 use Rattle.field_series.specs.declared.Cubic.{Cubic}
 use Rattle.door_basis.specs.declared.Ordered.{Ordered}
-
-abbrev pub blank : List ℕ
-blank = replicate 119 0
 
 pub record IsFirst (p : ℕ) (G H B : List ℕ) : Type 0 where
   pub is-record : IsRecord p G H B

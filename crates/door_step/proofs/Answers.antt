@@ -15,7 +15,7 @@ use Rattle.basis_record.specs.Record.{IsRecord}
 use Rattle.field_series.specs.Answer.{Expands}
 use Rattle.field_series.specs.declared.Expanded.{Expanded}
 use Rattle.basis_field.specs.Known.{Known}
-use Rattle.book_bytes.specs.Decides.{Decides}
+use Rattle.base_answers.specs.Decides.{Decides}
 use Rattle.basis_accept.specs.Answer.{Accepts}
 use Rattle.step_next.specs.declared.Advance.{Advance}
 use Rattle.step_next.proofs.Once.{steps-one}

@@ -1,14 +1,14 @@
 -- What the step answers.
 --   NextIn c B            c is an opened field with the first coefficients of its series, and B a record of it
 --   NextOut c B o         o is the step from B, whatever accepted p, G, H it is opened from
---   blank, refused n      119 zeros; the answer beside the refusal n
+--   refused n             the answer beside the refusal n
 --   Answers p G H B s     the whole answer to a step from the record B: the refusals 1 to 8, then 9, then the step
 -- In proofs/Answers.antt: `answers-one`, two answers that meet it are equal.
 use mathlib.Core.Path.{_≡_}
 use mathlib.Core.Logic.{_≢_}
 use mathlib.Core.List.{List}
 use Prim.Native.Nat.{ℕ}
-use lib.ListN.{replicate}
+use Rattle.base_answers.specs.Limits.{blank}
 use Rattle.field_open.specs.Refusal.{Refusal, Accepted}
 use Rattle.basis_record.specs.Record.{IsRecord}
 use Rattle.field_series.specs.Answer.{Prefix}
@@ -24,9 +24,6 @@ pub record NextIn (c : Cubic) (B : List ℕ) : Type 0 where
 
 abbrev pub NextOut : Cubic → List ℕ → Advance → Type 0
 NextOut c B o = (p : ℕ) (G H : List ℕ) → Accepted p G H → Prefix p G H c → IsRecord p G H B → Steps p G H B o
-
-abbrev pub blank : List ℕ
-blank = replicate 119 0
 
 abbrev pub refused : ℕ → Stepped
 refused n = record { refusal = n; degree = 0; basis = blank }

@@ -12,12 +12,13 @@ use mathlib.Core.Logic.{_≢_}
 use mathlib.Core.List.{List}
 use Prim.Native.Nat.{ℕ, _*_, _≤_}
 use lib.ListN.{length}
+use Rattle.base_answers.specs.Limits.{longest}
 use Rattle.pair_agree.specs.OneField.{OneField}
 use Rattle.pair_agree.specs.Rows.{RowsCarry}
 use Rattle.pair_agree.specs.Answer.{Refusals}
 
 pub record Lent (c : ℕ) (rows : List ℕ) : Type 0 where
-  pub room : c ≤ 4096
+  pub room : c ≤ longest
   pub whole : length rows ≡ 6 * c
 
 module _ (p : ℕ) (G H G′ H′ rows : List ℕ) where

@@ -19,11 +19,13 @@ use Rattle.field_series.specs.declared.Expanded.{Expanded}
 use Rattle.basis_field.specs.Known.{Known}
 use Rattle.door_basis.specs.Answer.{IsFirst, First}
 use Rattle.walk_chain.specs.declared.Walked.{Walked}
-use Rattle.walk_chain.specs.Walk.{most, Closes, StaysOpen, Closed, Spent}
+use Rattle.walk_chain.specs.Walk.{Closes, StaysOpen, Closed, Spent}
+use Rattle.base_answers.specs.Limits.{most}
 use Rattle.door_walk.specs.Order.{WalkedIn, WalkedOut}
 use Rattle.door_walk.proofs.Order.{sum-even}
 use Rattle.door_unit.specs.declared.Made.{Made}
-use Rattle.door_unit.specs.Unit.{longest, refusal, Lent, Finds, Misses, Refused, Goes, bad, spent, narrow, made, Makes}
+use Rattle.door_unit.specs.Unit.{refusal, Lent, Finds, Misses, Refused, Goes, bad, spent, narrow, made, Makes}
+use Rattle.base_answers.specs.Limits.{longest}
 use Rattle.door_unit.specs.Making.{MakeIn, Making, Rule, Unfit}
 
 refused-is : (n : ℕ) (rows scratch : List ℕ) (m : Made) → m ≡ refusal n → Refused n rows scratch m rows scratch

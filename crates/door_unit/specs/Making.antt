@@ -28,8 +28,9 @@ use Rattle.field_series.specs.declared.Cubic.{Cubic}
 use Rattle.basis_field.specs.Known.{Known}
 use Rattle.door_basis.specs.Answer.{IsFirst}
 use Rattle.step_next.specs.declared.Advance.{Advance}
-use Rattle.walk_chain.specs.Walk.{most, Closes}
-use Rattle.door_unit.specs.Unit.{longest, six, Holds}
+use Rattle.walk_chain.specs.Walk.{Closes}
+use Rattle.door_unit.specs.Unit.{six, Holds}
+use Rattle.base_answers.specs.Limits.{most, longest, longest-six}
 
 abbrev pub Blank : List ℕ → Type 0
 Blank s = s ≡ replicate (length s) 0
@@ -149,7 +150,7 @@ pub record Making (f : Cubic) (B : List ℕ) (l d c : ℕ) (rows s rows′ s′ 
 
 -- ---- the rule of lengths and budget
 abbrev pub Rule : ℕ → ℕ → ℕ → Type 0
-Rule n m k = (m ≡ n) × (n % 6 ≡ 0) × (n ≤ 24576) × (k ≤ most)
+Rule n m k = (m ≡ n) × (n % 6 ≡ 0) × (n ≤ longest-six) × (k ≤ most)
 
 abbrev pub Unfit : ℕ → ℕ → ℕ → Bool → Type 0
 Unfit n m k true = Rule n m k → ⊥

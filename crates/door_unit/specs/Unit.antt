@@ -19,11 +19,8 @@ use Rattle.math_chain.specs.Chain.{Closing, Open}
 use Rattle.math_chain.specs.Unit.{UnitOf}
 use Rattle.basis_record.specs.Record.{setting, polyOf}
 use Rattle.unit_rows.specs.Six.{cut}
-use Rattle.walk_chain.specs.Walk.{most}
+use Rattle.base_answers.specs.Limits.{most, longest}
 use Rattle.door_unit.specs.declared.Made.{Made}
-
-abbrev pub longest : ℕ
-longest = 4096
 
 -- the answer beside a refusal
 abbrev pub refusal : ℕ → Made

@@ -10,11 +10,12 @@ use Rattle.field_open.specs.Refusal.{Refusal}
 use Rattle.basis_record.specs.Record.{IsRecord}
 use Rattle.field_series.specs.Answer.{Expands}
 use Rattle.field_series.specs.declared.Expanded.{Expanded}
-use Rattle.book_bytes.specs.Decides.{Decides}
+use Rattle.base_answers.specs.Decides.{Decides}
 use Rattle.basis_accept.specs.Answer.{Accepts}
 use Rattle.door_step.proofs.Answers.{field-of, known-of}
 use Rattle.walk_chain.specs.declared.Walked.{Walked}
-use Rattle.walk_chain.specs.Walk.{most, refused, Closed, Spent, Goes, budget, no-record, closed, spent, Walks}
+use Rattle.walk_chain.specs.Walk.{refused, Closed, Spent, Goes, budget, no-record, closed, spent, Walks}
+use Rattle.base_answers.specs.Limits.{most}
 use Rattle.door_walk.specs.Order.{WalkedIn, WalkedOut}
 
 module _ {p n : ℕ} {G H B : List ℕ} {e : Expanded} (opens : Expands p G H e) where

@@ -19,7 +19,8 @@ use Rattle.field_series.specs.declared.Expanded.{Expanded}
 use Rattle.door_step.proofs.Answers.{field-of, known-of}
 use Rattle.field_series.specs.declared.Cubic.{Cubic}
 use Rattle.walk_chain.specs.declared.Walked.{Walked}
-use Rattle.walk_chain.specs.Walk.{most, Closes, StaysOpen, Closed, Spent}
+use Rattle.walk_chain.specs.Walk.{Closes, StaysOpen, Closed, Spent}
+use Rattle.base_answers.specs.Limits.{most}
 use Rattle.walk_chain.proofs.Walk.{closes-one, not-both}
 use Rattle.door_walk.specs.declared.Told.{Told}
 use Rattle.door_walk.specs.Order.{WalkedIn, WalkedOut, refusal, Periodic, Goes, budget, closed, spent, FromOrder}

@@ -16,7 +16,8 @@ use Rattle.field_series.specs.declared.Cubic.{Cubic}
 use Rattle.basis_field.specs.Known.{Known}
 use Rattle.door_basis.specs.Answer.{IsFirst}
 use Rattle.walk_chain.specs.declared.Walked.{Walked}
-use Rattle.walk_chain.specs.Walk.{most, Closes, StaysOpen, Closed, Spent}
+use Rattle.walk_chain.specs.Walk.{Closes, StaysOpen, Closed, Spent}
+use Rattle.base_answers.specs.Limits.{most}
 use Rattle.door_walk.specs.declared.Told.{Told}
 
 pub record WalkedIn (c : Cubic) (B : List ℕ) (n : ℕ) : Type 0 where

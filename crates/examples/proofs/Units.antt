@@ -20,7 +20,7 @@ use Rattle.math_chain.specs.Chain.{Closing}
 use Rattle.math_chain.specs.Unit.{UnitOf}
 use Rattle.math_chain.proofs.Closing.{start-unique}
 use Rattle.basis_record.specs.Record.{setting, polyOf}
-use Rattle.walk_chain.specs.Walk.{most}
+use Rattle.base_answers.specs.Limits.{most}
 use Rattle.door_unit.specs.Unit as unitAnswer
 use Rattle.door_unit.specs.Unit.{six, Lent, Finds, Makes, Goes}
 use Rattle.door_unit.specs.declared.Made.{Made}

@@ -21,7 +21,8 @@ use Rattle.basis_record.specs.Record.{setting, polyOf}
 use Rattle.field_series.specs.Answer as filled
 use Rattle.door_basis.specs.Answer.{Orders}
 use Rattle.door_step.specs.Answer.{Answers}
-use Rattle.walk_chain.specs.Walk.{most, Walks}
+use Rattle.walk_chain.specs.Walk.{Walks}
+use Rattle.base_answers.specs.Limits.{most}
 use Rattle.door_walk.specs.Order as told
 use Rattle.door_walk.specs.Order.{FromOrder}
 use Rattle.door_unit.specs.Unit.{refusal, six, Makes}

@@ -1,7 +1,8 @@
 // Opening a field: the refusals 1 to 8, in the table's order, and what the layers above need of a field that is accepted.
 // specs/Refusal.antt has the table, specs/Opening.antt the contract of `open`.
 ghost use mathlib.Core.Path.{_≡_};
-ghost use Rattle.field_open.specs.Refusal.{End, Rows12, Rows36, Rows78, Refusal, Accepted};
+ghost use Rattle.base_answers.specs.Stage.{End};
+ghost use Rattle.field_open.specs.Refusal.{Rows12, Rows36, Rows78, Refusal, Accepted};
 ghost use Rattle.field_open.specs.Parts.{ListLength, Shaped, FreeTest, factorNumber};
 ghost use Rattle.poly_rows.specs.Factors.{OverBoth};
 ghost use Rattle.field_open.specs.Opening.{Held, nothing, Opens};

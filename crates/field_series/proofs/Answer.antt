@@ -18,7 +18,8 @@ use Rattle.field_roots.proofs.Only.{series-of-only}
 use Rattle.field_series.specs.declared.Cubic.{Cubic}
 use Rattle.field_series.specs.declared.Expanded.{Expanded}
 use Rattle.field_series.specs.Fill.{Grown}
-use Rattle.field_series.specs.Answer.{longest, Fits, Number, Answer, Prefix, Expands}
+use Rattle.field_series.specs.Answer.{Fits, Number, Answer, Prefix, Expands}
+use Rattle.base_answers.specs.Limits.{longest}
 
 module _ (p : ℕ) (G H r w : List ℕ) where
   number-one : {m n : ℕ} → Number p G H r w m → Number p G H r w n → m ≡ n

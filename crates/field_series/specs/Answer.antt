@@ -1,6 +1,5 @@
 -- What `series` and `open_with_series` answer.
---   longest                        the longest lists that are filled: 4,096
---   Fits r w                       the lent lists are equally long, and not over `longest`
+--   Fits r w                       the lent lists are equally long, and not over 4,096 long (`longest`)
 --   Number p G H r w n             the table's number: that of the first refusal of p, G, H; then 14 where the lists do not fit; else 0
 --   Answer p G H r w r′ w′ n       the whole outcome: the number; both lists as they were beside a refusal; beside 0 exactly the first
 --                                  coefficients of r and of w, as many as the lists have places
@@ -14,15 +13,13 @@ use mathlib.Core.Logic.{_≢_, _⊎_}
 use mathlib.Core.List.{List}
 use Prim.Native.Nat.{ℕ, _≤_}
 use lib.ListN.{length, replicate}
+use Rattle.base_answers.specs.Limits.{longest}
 use Rattle.field_open.specs.Refusal.{Refusal, Accepted}
 use Rattle.field_open.specs.declared.Field.{Field}
 use Rattle.field_open.specs.Opening as F
 use Rattle.field_roots.specs.SeriesOf.{SeriesOf}
 use Rattle.field_series.specs.declared.Cubic.{Cubic}
 use Rattle.field_series.specs.declared.Expanded.{Expanded}
-
-abbrev pub longest : ℕ
-longest = 4096
 
 pub record Fits (r w : List ℕ) : Type 0 where
   pub even : length w ≡ length r

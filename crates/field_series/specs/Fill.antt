@@ -17,18 +17,19 @@ use mathlib.Core.Path.{_≡_}
 use mathlib.Core.List.{List}
 use Prim.Native.Nat.{ℕ, suc, _+_, _*_, _%_, _<_, _≤_}
 use lib.ListN.{length}
+use Rattle.base_answers.specs.Limits.{longest}
 use Rattle.math_fp.specs.Fp.{Prime}
 use Rattle.field_open.specs.Refusal.{Degree, Accepted}
 use Rattle.field_roots.specs.SeriesOf.{entry, prod, SeriesOf}
 
 pub record Place (p i : ℕ) : Type 0 where
   pub pos : 0 < p
-  pub near : i < 4096
+  pub near : i < longest
 
 pub record Point (p i : ℕ) : Type 0 where
   pub pos : 0 < p
   pub small : p < 65536
-  pub near : i < 4096
+  pub near : i < longest
 
 pub record Entry (s : List ℕ) (i x : ℕ) : Type 0 where
   pub value : x ≡ entry s i
@@ -67,7 +68,7 @@ pub record Filling (p : ℕ) (g h : List ℕ) (u : ℕ) (r w : List ℕ) (i : �
   pub unit : (3 * (entry r 0 * entry r 0) * u) % p ≡ 1 % p
   pub some : 0 < i
   pub inside : i < length r
-  pub near : length r ≤ 4096
+  pub near : length r ≤ longest
   pub done : Filled p g h r w i
 
 pub record Turned (p : ℕ) (g h r w r′ w′ : List ℕ) (i : ℕ) : Type 0 where
@@ -83,7 +84,7 @@ pub record Filler (p : ℕ) (g h : List ℕ) (c u : ℕ) (r w : List ℕ) : Type
   pub unit : (3 * (c * c) * u) % p ≡ 1 % p
   pub cube : (c * c * c) % p ≡ (entry g 0 * (entry h 0 * entry h 0)) % p
   pub even : length w ≡ length r
-  pub near : length r ≤ 4096
+  pub near : length r ≤ longest
 
 pub record Made (p : ℕ) (g h : List ℕ) (c : ℕ) (r r′ w′ : List ℕ) : Type 0 where
   pub size : length r′ ≡ length r
@@ -116,7 +117,7 @@ pub record ThriceInverse (p c u : ℕ) : Type 0 where
 pub record Room (p : ℕ) (G H r w : List ℕ) : Type 0 where
   pub accepted : Accepted p G H
   pub even : length w ≡ length r
-  pub near : length r ≤ 4096
+  pub near : length r ≤ longest
 
 pub record Grown (p : ℕ) (G H r r′ w′ : List ℕ) : Type 0 where
   pub size : length r′ ≡ length r

@@ -7,7 +7,7 @@ use mathlib.Core.Logic.{inl, inr}
 use mathlib.Core.List.{List}
 use Prim.Native.Nat.{ℕ}
 use Rattle.field_open.proofs.Stages.{refusal-one}
-use Rattle.book_bytes.proofs.Tests.{settled}
+use Rattle.base_answers.proofs.Tests.{settled}
 use Rattle.pair_agree.specs.OneField.{OneField}
 use Rattle.pair_agree.specs.Answer.{Both, Pairs, Refusals, Compares, first, second, refused, compared}
 use Rattle.pair_agree.specs.declared.Pairing.{Pairing}

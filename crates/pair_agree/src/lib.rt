@@ -1,5 +1,5 @@
 // Two pairs of lists over one p: whether they are of one field.
-ghost use Rattle.book_bytes.specs.Decides.{Decides};
+ghost use Rattle.base_answers.specs.Decides.{Decides};
 ghost use Rattle.pair_agree.specs.OneField.{Agree, OneField};
 ghost use Rattle.pair_agree.specs.Answer.{AgreeIn, Both, Pairs, Refusals, Compares};
 

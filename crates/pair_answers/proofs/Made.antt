@@ -10,7 +10,8 @@ use native.Mathlib.Omega.{arith}
 use lib.ListN.{length, replicate}
 use Rattle.field_open.specs.Refusal.{Accepted}
 use Rattle.door_unit.specs.declared.Made.{Made}
-use Rattle.door_unit.specs.Unit.{longest, Lent, Refused, Goes, bad, spent, narrow, made, Makes}
+use Rattle.door_unit.specs.Unit.{Lent, Refused, Goes, bad, spent, narrow, made, Makes}
+use Rattle.base_answers.specs.Limits.{longest}
 use Rattle.door_unit.proofs.Once.{makes-one}
 use Rattle.pair_agree.specs.OneField.{OneField, Coefficients}
 use Rattle.pair_agree.specs.Rows.{RowsCarry}

@@ -17,7 +17,8 @@ use Rattle.math_chain.proofs.Walk.{same-chain, chain-then, prefix}
 use Rattle.field_open.proofs.Stages.{refusal-one, numbered}
 use Rattle.basis_record.specs.Record.{setting, basisOf, IsRecord}
 use Rattle.walk_chain.specs.declared.Walked.{Walked}
-use Rattle.walk_chain.specs.Walk.{most, refused, Closed, Spent, Goes, budget, no-record, closed, spent, Walks}
+use Rattle.walk_chain.specs.Walk.{refused, Closed, Spent, Goes, budget, no-record, closed, spent, Walks}
+use Rattle.base_answers.specs.Limits.{most}
 
 -- ---- of any chain
 module _ (S : Setting) (B₀ B₁ : Basis S) (good : Good S B₀) {n d : ℕ} (c : Chain S B₀ n d B₁) (open-to : Open S B₀ n) where

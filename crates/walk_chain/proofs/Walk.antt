@@ -14,7 +14,8 @@ use Rattle.math_chain.proofs.Walk.{same-chain, closing-unique, chain-then}
 use Rattle.basis_record.specs.Record.{setting, basisOf, IsRecord}
 use Rattle.basis_record.proofs.Unique.{basis-unique}
 use Rattle.walk_chain.specs.declared.Walked.{Walked}
-use Rattle.walk_chain.specs.Walk.{most, Reaches, Closes, StaysOpen, refused, Closed, Spent, Goes, budget, no-record, closed, spent, Walks}
+use Rattle.walk_chain.specs.Walk.{Reaches, Closes, StaysOpen, refused, Closed, Spent, Goes, budget, no-record, closed, spent, Walks}
+use Rattle.base_answers.specs.Limits.{most}
 
 -- an answer is its four parts
 walked-eq : (v w : Walked) → v .refusal ≡ w .refusal → v .steps ≡ w .steps → v .sum ≡ w .sum → v .basis ≡ w .basis → v ≡ w

@@ -1,7 +1,7 @@
 -- Answers of tests: how one is given, and that the statement settles it.
 use mathlib.Core.Path.{_≡_, refl, sym}
 use mathlib.Core.Bool.{Bool, true, false, true≢false}
-use Rattle.book_bytes.specs.Decides.{Decides}
+use Rattle.base_answers.specs.Decides.{Decides}
 
 pub answer-yes : {A : Type 0} → A → Decides true A
 answer-yes a = record { yes! = λ e. a; no! = λ e. absurd (true≢false e) }
