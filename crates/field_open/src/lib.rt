@@ -11,18 +11,14 @@ const LONGEST: usize = 13;
 
 const HIGHEST: usize = 16;
 
-// An opened field: G, H and G·H as rows, their numbers of coefficients, the degrees of r and w, and leading coefficients.
+// An opened field: G, H and G·H as rows, the degrees of r and w.
 pub struct Field {
     pub p: u64,
     pub g: [u64; 32],
     pub h: [u64; 32],
     pub gh: [u64; 32],
-    pub lg: usize,
-    pub lh: usize,
     pub dr: usize,
     pub dw: usize,
-    pub leadg: u64,
-    pub leadh: u64,
 }
 
 // The number of the refusal beside the field; with a refusal the field is all zeros.
@@ -169,12 +165,8 @@ fn field_of(p: u64, g: &[u64], h: &[u64]) -> Field
         g: x,
         h: y,
         gh: z,
-        lg: lg,
-        lh: lh,
         dr: (d + 2 * e) / 3,
         dw: (2 * d + e) / 3,
-        leadg: g[d],
-        leadh: h[e],
     }
 }
 
@@ -188,12 +180,8 @@ fn no_field() -> Field
         g: z,
         h: z,
         gh: z,
-        lg: 0,
-        lh: 0,
         dr: 0,
         dw: 0,
-        leadg: 0,
-        leadh: 0,
     }
 }
 
