@@ -15,8 +15,8 @@ use Rattle.math_fp.specs.Fp.{Prime}
 use Rattle.math_rows.specs.Made.{reading}
 use Rattle.field_open.specs.Refusal.{Accepted}
 use Rattle.pair_agree.specs.OneField.{OneField, Coefficients}
-use Rattle.pair_agree.specs.declared.Compared.{Compared}
-use Rattle.pair_agree.specs.Answer.{Compares}
+use Rattle.door_compare.specs.declared.Compared.{Compared}
+use Rattle.door_compare.specs.Answer.{Compares}
 use Rattle.pair_theory.specs.Side.{side}
 use Rattle.pair_theory.specs.Shared.{Shared}
 use Rattle.door_transfer.specs.Transfer.{Transfers}

@@ -2,15 +2,16 @@
 --   Reaches p G H B s d B′      s steps from the record B end in the record B′, and the degrees of the minima passed add up to d
 --   Closes p G H B s d B′       and s is the first count of steps after which U = 1
 --   StaysOpen p G H B n         no count from 1 to n closes
+--   refused n                   the answer beside the refusal n: zeros
 --   Walks p G H n B w           the whole answer to a walk from B with the budget n
 -- `walks-one` in proofs/Walk.antt: two answers that meet it are equal. `taken-up`: a walk that is taken up again where refusal 10 left it
 -- gives what one long walk gives.
 use mathlib.Core.Path.{_≡_}
-use mathlib.Core.Logic.{_≢_}
 use mathlib.Core.List.{List}
 use Prim.Native.Nat.{ℕ, _≤_, _<_}
 use Rattle.base_answers.specs.Limits.{most, blank}
-use Rattle.field_open.specs.Refusal.{Refusal, Accepted}
+use Rattle.field_open.specs.Refusal.{Accepted}
+use Rattle.field_open.specs.Door.{Door}
 use Rattle.math_chain.specs.Chain.{Chain, Closing, Open}
 use Rattle.basis_record.specs.Record.{setting, basisOf, IsRecord}
 use Rattle.walk_chain.specs.declared.Walked.{Walked}
@@ -52,8 +53,5 @@ module _ (p : ℕ) (G H : List ℕ) (n : ℕ) (B : List ℕ) where
     closed : n ≤ most → IsRecord p G H B → Closed w → Goes w
     spent : n ≤ most → IsRecord p G H B → Spent w → Goes w
 
-  pub record Walks (w : Walked) : Type 0 where
-    pub no : ℕ
-    pub first : Refusal p G H no
-    pub none : no ≢ 0 → w ≡ refused no
-    pub goes : no ≡ 0 → Goes w
+  abbrev pub Walks : Walked → Type 0
+  Walks w = Door p G H (λ k. w ≡ refused k) (Goes w)
