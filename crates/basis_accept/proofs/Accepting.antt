@@ -33,8 +33,8 @@ use Rattle.basis_scale.proofs.Loads.{rows-path, rows-good}
 use Rattle.basis_field.specs.Known.{Known}
 use Rattle.basis_field.proofs.Ground.{frameOf, frame-is, fine, r-reads, w-reads, modulus, dr-is, dw-is, room}
 use Rattle.basis_field.proofs.Lists.{field-holds, g-row, h-row, gh-row, holds-of}
-use Rattle.book_bytes.specs.Decides.{Decides}
-use Rattle.book_bytes.proofs.Tests.{answer-no, settled}
+use Rattle.base_answers.specs.Decides.{Decides}
+use Rattle.base_answers.proofs.Tests.{answer-no, settled}
 use Rattle.basis_lattice.specs.Closed.{Closed, Given, Room, UnderIn, Under}
 use Rattle.basis_shape.specs.Lengths.{Below, Narrow, NarrowIn}
 use Rattle.basis_accept.specs.Tests.{ShapedIn, Shaped, Numbers, AloneIn, Alone}

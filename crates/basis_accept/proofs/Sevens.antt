@@ -25,8 +25,8 @@ use Rattle.field_open.specs.Refusal.{Accepted}
 use Rattle.basis_record.specs.Record.{setting, polyOf}
 use Rattle.step_divide.specs.Rows.{Seven, rowsOf}
 use Rattle.step_divide.proofs.Leaves.{size-unit}
-use Rattle.book_bytes.specs.Decides.{Decides}
-use Rattle.book_bytes.proofs.Tests.{answer-yes, answer-no}
+use Rattle.base_answers.specs.Decides.{Decides}
+use Rattle.base_answers.proofs.Tests.{answer-yes, answer-no}
 use Rattle.basis_accept.specs.Tests.{Alone}
 
 -- a unit has one coefficient

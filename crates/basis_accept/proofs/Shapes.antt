@@ -22,7 +22,7 @@ use Rattle.math_rows.proofs.Rows.{size-lead-at}
 use Rattle.math_rows.proofs.Floors.{sized, floor-lt, floor-top, floor-has, floor-le, floor-lead}
 use Rattle.math_rows.proofs.Unique.{cast-inj}
 use Rattle.poly_rows.specs.Leaf.{CrossIn, Crossed}
-use Rattle.book_bytes.specs.Decides.{Decides}
+use Rattle.base_answers.specs.Decides.{Decides}
 use Rattle.step_divide.specs.Rows.{Seven}
 use Rattle.basis_reduce.specs.Frame.{Frame, Meaning, Short, rd, Ser, rowμ, pt, X, Y, Ltμ, Hasμ}
 use Rattle.basis_reduce.specs.Leaves.{PartIn, Parted}

@@ -12,7 +12,7 @@ use Rattle.basis_record.specs.Record.{setting, IsRecord}
 use Rattle.field_series.specs.Answer.{Prefix}
 use Rattle.field_series.specs.declared.Cubic.{Cubic}
 use Rattle.basis_field.specs.Known.{Known}
-use Rattle.book_bytes.specs.Decides.{Decides}
+use Rattle.base_answers.specs.Decides.{Decides}
 use Rattle.step_divide.specs.Rows.{Seven, rowsOf}
 use Rattle.basis_reduce.specs.Frame.{Short}
 

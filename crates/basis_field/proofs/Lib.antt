@@ -1,2 +1,4 @@
 pub mod Ground
 pub mod Lists
+pub mod Known
+pub mod First

@@ -26,7 +26,7 @@ use Rattle.math_rows.proofs.Quotient.{division-unique}
 use Rattle.num_residue.specs.Residue.{Modulus}
 use Rattle.poly_rows.specs.Leaf.{MulIn, Product, Summed, Difference}
 use Rattle.poly_rows.specs.Division.{DivIn, Divided}
-use Rattle.book_bytes.specs.Decides.{Decides}
+use Rattle.base_answers.specs.Decides.{Decides}
 use Rattle.step_divide.specs.Rows.{Seven}
 use Rattle.step_divide.specs.Quotients.{Inverts, Det}
 use Rattle.basis_reduce.specs.Frame.{Short}

@@ -19,8 +19,8 @@ use Rattle.field_open.specs.Refusal.{Accepted}
 use Rattle.basis_record.specs.Record.{setting}
 use Rattle.basis_reduce.specs.Frame.{Short}
 use Rattle.basis_scale.proofs.Place.{size-below, short-lt, row-short}
-use Rattle.book_bytes.specs.Decides.{Decides}
-use Rattle.book_bytes.proofs.Tests.{answer-no}
+use Rattle.base_answers.specs.Decides.{Decides}
+use Rattle.base_answers.proofs.Tests.{answer-no}
 use Rattle.step_divide.specs.Rows.{Seven, AreRows, rowsOf, Holds}
 use Rattle.step_divide.specs.Quotients.{Fits, Det}
 use Rattle.step_divide.proofs.Products.{quot-of, coords-from, times-g-is, times-h-is, times-gh-is}

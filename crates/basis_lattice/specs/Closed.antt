@@ -16,7 +16,7 @@ use Rattle.math_ideals.specs.Ideal.{Coords}
 use Rattle.field_open.specs.Refusal.{Accepted}
 use Rattle.basis_record.specs.Record.{setting, polyOf}
 use Rattle.basis_reduce.specs.Frame.{Short}
-use Rattle.book_bytes.specs.Decides.{Decides}
+use Rattle.base_answers.specs.Decides.{Decides}
 use Rattle.step_divide.specs.Rows.{Seven, rowsOf, Holds}
 use Rattle.step_divide.specs.Quotients.{Inverts, Det}
 

@@ -9,7 +9,7 @@ use Rattle.math_fp.specs.Fp.{Prime}
 use Rattle.num_residue.specs.Residue.{Modulus}
 use Rattle.math_rows.specs.Made.{reading}
 use Rattle.math_rows.specs.Row.{Row, row}
-use Rattle.book_bytes.specs.Decides.{Decides}
+use Rattle.base_answers.specs.Decides.{Decides}
 use Rattle.step_divide.specs.Rows.{Seven, AreRows}
 use Rattle.step_divide.specs.Quotients.{Fits, Inverts, Quotients}
 use Rattle.basis_reduce.specs.Frame.{Short}

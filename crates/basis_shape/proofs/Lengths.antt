@@ -13,7 +13,7 @@ use native.Mathlib.Decide.{decLt}
 use lib.ListN.{length, getD, List·getD-eq-default}
 use Rattle.math_rows.specs.Row.{Size}
 use Rattle.poly_rows.proofs.Leaf.{size-one}
-use Rattle.book_bytes.specs.Decides.{Decides}
+use Rattle.base_answers.specs.Decides.{Decides}
 use Rattle.basis_shape.specs.Lengths.{Ends, Ordered, Units, Shape}
 
 pub too-long : {l : List ℕ} {n k : ℕ} → Size l n → k < n → Ends l k → ⊥

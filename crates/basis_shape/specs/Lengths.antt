@@ -4,7 +4,7 @@
 --   Narrow            rows b end before kb, rows c before kc
 --   Ordered, Units    the inequalities of lengths; the leading coefficients
 --   Shape             both, of rows
--- A statement settles the answer of its test: `settled`, in crate book_bytes. What the shape of polynomial parts says of a basis: `shaped-of`, in
+-- A statement settles the answer of its test: `settled`, in crate base_answers. What the shape of polynomial parts says of a basis: `shaped-of`, in
 -- crate basis_accept.
 use mathlib.Core.Path.{_≡_}
 use mathlib.Core.Logic.{_⊎_}

@@ -2,7 +2,7 @@
 // they decide, proofs/Lengths.antt that lengths are settled. Crate accepts has what they say of an ideal.
 use poly_rows::size;
 ghost use mathlib.Core.Path.{_≡_};
-ghost use Rattle.book_bytes.specs.Decides.{Decides};
+ghost use Rattle.base_answers.specs.Decides.{Decides};
 ghost use Rattle.basis_shape.specs.Lengths.{Below, Narrow, NarrowIn, Ordered, Units, Shape, ShapeIn};
 
 fn wide(x: u16) -> u64

@@ -8,7 +8,7 @@ use lib.ListN.{length, take, drop, length-append, length-drop, List·getD-append
 use lib.Seq.{getD-append-seam, length-take-le, take-at}
 use Rattle.book_bytes.specs.Bytes.{le, Bytes}
 use Rattle.book_bytes.proofs.Read.{length-le2, length-le4}
-use Rattle.book_body.specs.Said.{Said}
+use Rattle.base_answers.specs.Said.{Said}
 use Rattle.book_body.specs.Body.{Body, Rule, FieldSays, OneField, bodyOf, Finished}
 use Rattle.book_check.specs.Book.{mark, width, count, lengthAt, entry, Accepted}
 use Rattle.book_check.specs.Value.{bookBytes, valueOf, none, at, Obeys}

@@ -5,7 +5,7 @@ use mathlib.Core.List.{List, _++_}
 use Prim.Native.Nat.{ℕ, _<_, _≤_}
 use lib.ListN.{length, take, drop}
 use Rattle.book_bytes.specs.Bytes.{Bytes}
-use Rattle.book_body.specs.Said.{passed, refused}
+use Rattle.base_answers.specs.Said.{passed, refused}
 use Rattle.book_check.specs.Answer.{reasonSays}
 use Rattle.book_check.specs.declared.Reason.{Reason}
 use Rattle.book_add.specs.Add.{newLength, AddTells, book, body, known, short, added}

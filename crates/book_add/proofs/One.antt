@@ -8,7 +8,7 @@ use mathlib.Core.List.{List}
 use Prim.Native.Nat.{ℕ, zero, suc, _-_, _<_, _≤_}
 use native.Mathlib.Omega.{arith}
 use lib.ListN.{length, take}
-use Rattle.book_body.specs.Said.{Said}
+use Rattle.base_answers.specs.Said.{Said}
 use Rattle.book_body.specs.Body.{Finished}
 use Rattle.book_check.specs.Book.{Accepted}
 use Rattle.book_check.proofs.One.{tells-one, body-one, finished-no, reason, reasonOf, reason-one}

@@ -13,7 +13,7 @@ use mathlib.Core.Logic.{_⊎_}
 use mathlib.Core.List.{List, [], _∷_, _++_}
 use Prim.Native.Nat.{ℕ, _+_, _<_, _≤_}
 use lib.ListN.{length, take, drop}
-use Rattle.book_body.specs.Said.{Said, passed, refused}
+use Rattle.base_answers.specs.Said.{Said, passed, refused}
 use Rattle.book_body.specs.Body.{OneField, bodyOf, Finished}
 use Rattle.book_check.specs.Book.{width, count, entry, Accepted}
 use Rattle.book_check.specs.Value.{bookBytes, valueOf}

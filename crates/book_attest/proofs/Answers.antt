@@ -3,7 +3,7 @@ use mathlib.Core.Path.{_≡_, refl, sym, ap, subst}
 use mathlib.Core.List.{List}
 use Prim.Native.Nat.{ℕ, _<_}
 use native.Mathlib.Omega.{arith}
-use Rattle.book_body.specs.Said.{Said, passed, refused}
+use Rattle.base_answers.specs.Said.{Said, passed, refused}
 use Rattle.book_body.specs.Body.{bodyOf, Finished}
 use Rattle.book_check.specs.Book.{count, part, Accepted}
 use Rattle.book_check.specs.Answer as asking

@@ -5,7 +5,7 @@ use mathlib.Core.Path.{_≡_, refl, sym, ap, _∙_}
 use mathlib.Core.List.{List}
 use Prim.Native.Nat.{ℕ, zero, suc, _-_}
 use native.Mathlib.Omega.{arith}
-use Rattle.book_body.specs.Said.{Said}
+use Rattle.base_answers.specs.Said.{Said}
 use Rattle.book_check.proofs.One.{tells-one, reason, reasonOf}
 use Rattle.book_check.specs.declared.Reason.{Reason}
 use Rattle.book_check.specs.declared.Reason.the-variants.{Mark, Contents, BodyRule, Field, Twice}

@@ -16,7 +16,7 @@ use Rattle.math_valued.specs.Val.{Valued}
 use Rattle.math_rows.specs.Reading.{Reading}
 use Rattle.math_rows.specs.Made.{reading}
 use Rattle.math_rows.specs.Row.{row}
-use Rattle.book_body.specs.Said.{Said, passed, refused}
+use Rattle.base_answers.specs.Said.{Said, passed, refused}
 use Rattle.book_body.specs.Body.{Body}
 use Rattle.book_check.specs.Book.{count, entry, Accepted}
 use Rattle.book_check.specs.Answer.{reasonSays, Tells}

@@ -10,7 +10,7 @@ use poly_long::size;
 use poly_long::times;
 ghost use mathlib.Core.Path.{_≡_};
 ghost use Prim.Native.Nat.{_<_};
-ghost use Rattle.book_bytes.specs.Decides.{Decides};
+ghost use Rattle.base_answers.specs.Decides.{Decides};
 ghost use Rattle.book_body.specs.Body.{bodyOf, Finished};
 ghost use Rattle.book_attest.specs.Attest.{Attested, attestSays, AttestTells};
 ghost use Rattle.book_attest.specs.Code.{LoadIn, Loaded, SquareIn, Square, CubesIn, Cubes, NormIn, Norm, BodyNormIn, BodyNorm};

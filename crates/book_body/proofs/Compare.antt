@@ -15,7 +15,7 @@ use Rattle.field_open.proofs.Accept.{accepted}
 use Rattle.pair_agree.specs.OneField as pairs
 use Rattle.pair_agree.specs.Answer.{Both}
 use Rattle.book_bytes.specs.Bytes.{u2}
-use Rattle.book_bytes.specs.Decides.{Decides}
+use Rattle.base_answers.specs.Decides.{Decides}
 use Rattle.book_bytes.proofs.Lists.{length-list}
 use Rattle.book_body.specs.Body.{FieldSays, OneField, listAt, bodyOf}
 use Rattle.book_body.specs.Code.{BothOver}

@@ -7,10 +7,10 @@ use native.Mathlib.Omega.{arith}
 use lib.ListN.{length, getD, take, drop}
 use lib.Seq.{sets-eq, take-at}
 use Rattle.book_bytes.specs.Bytes.{u2, u4, Put}
-use Rattle.book_bytes.specs.Decides.{Decides}
+use Rattle.base_answers.specs.Decides.{Decides}
 use Rattle.book_bytes.proofs.Lists.{length-list}
 use Rattle.book_body.specs.Body.{UnitList, First, FirstList, listStart, listAt, bodyOf, Formed}
-use Rattle.book_body.specs.Said.{passed}
+use Rattle.base_answers.specs.Said.{passed}
 use Rattle.book_body.specs.Code.{ListTells, read}
 
 -- ---- a list's rule

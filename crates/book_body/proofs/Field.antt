@@ -11,7 +11,7 @@ use lib.Seq.{ext-getD, getD-take, length-take-le, take-all}
 use Rattle.math_rows.specs.Row.{tab}
 use Rattle.math_rows.proofs.Tab.{at-tab, length-tab}
 use Rattle.field_open.specs.Refusal.{Fault3, Refusal, Accepted}
-use Rattle.field_open.proofs.Stages.{later}
+use Rattle.base_answers.proofs.Stages.{later}
 use Rattle.field_open.proofs.Accept.{accepted}
 use Rattle.book_bytes.specs.Bytes.{u2, Small}
 use Rattle.book_bytes.proofs.Lists.{length-list}

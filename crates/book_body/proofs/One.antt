@@ -5,7 +5,7 @@ use mathlib.Core.Path.{_≡_, refl, sym, ap, _∙_}
 use mathlib.Core.List.{List}
 use Prim.Native.Nat.{ℕ, zero, suc, _-_}
 use native.Mathlib.Omega.{arith}
-use Rattle.book_body.specs.Said.{Said}
+use Rattle.base_answers.specs.Said.{Said}
 use Rattle.book_body.specs.Code.{gotSays, ListTells, read, none, short}
 use Rattle.book_body.specs.declared.Got.{Got}
 use Rattle.book_body.specs.declared.Got.the-variants.{Length, Short, NoList}

@@ -17,6 +17,7 @@ use mathlib.Core.Logic.{_≢_}
 use mathlib.Core.List.{List, [], _∷_, _++_}
 use Prim.Native.Nat.{ℕ, _-_, _%_, _<_, _≤_}
 use lib.ListN.{length, getD}
+use Rattle.base_answers.specs.Limits.{most, longest}
 use Rattle.field_open.specs.Refusal.{Refusal}
 use Rattle.pair_agree.specs.OneField as pairs
 use Rattle.book_bytes.specs.Bytes.{le, words, u2, u4}
@@ -34,7 +35,7 @@ pub record Body : Type 0 where
 
 pub record UnitList (p : ℕ) (l : List ℕ) : Type 0 where
   pub some : 0 < length l
-  pub short : length l ≤ 4096
+  pub short : length l ≤ longest
   pub each : (i : ℕ) → i < length l → getD l i 0 < p
   pub last : getD l (length l - 1) 0 ≢ 0
 
@@ -48,7 +49,7 @@ FirstList l = First (length l) (getD l (length l - 1) 0)
 
 pub record Rule (b : Body) : Type 0 where
   pub from : 1 ≤ b .period
-  pub to : b .period ≤ 1000000
+  pub to : b .period ≤ most
   pub row0 : UnitList (b .p) (b .E0)
   pub row1 : UnitList (b .p) (b .E1)
   pub row2 : UnitList (b .p) (b .E2)

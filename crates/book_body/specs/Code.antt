@@ -8,7 +8,7 @@ use mathlib.Core.List.{List, _++_}
 use Prim.Native.Nat.{ℕ, _<_, _≤_}
 use lib.ListN.{length, drop}
 use Rattle.book_bytes.specs.Bytes.{u2}
-use Rattle.book_body.specs.Said.{Said, passed, refused}
+use Rattle.base_answers.specs.Said.{Said, passed, refused}
 use Rattle.book_body.specs.Body.{FieldSays, listAt, bodyOf}
 use Rattle.book_body.specs.declared.Got.{Got}
 use Rattle.book_body.specs.declared.Got.the-variants.{Length, Short, NoList}

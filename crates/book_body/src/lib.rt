@@ -4,7 +4,7 @@ ghost use Prim.Native.Nat.{_+_, _*_, _<_};
 ghost use lib.ListN.{getD};
 ghost use Rattle.math_rows.specs.Row.{tab};
 ghost use Rattle.book_bytes.specs.Bytes.{u2};
-ghost use Rattle.book_bytes.specs.Decides.{Decides};
+ghost use Rattle.base_answers.specs.Decides.{Decides};
 ghost use Rattle.book_body.specs.Body.{UnitList, First, FirstList, FieldSays, OneField, listAt, bodyOf, Formed};
 ghost use Rattle.book_body.specs.Code.{BothSold, BothOver, Clipped, gotSays, ListTells};
 

@@ -1,4 +1,3 @@
-pub mod Tests
 pub mod Read
 pub mod Lists
 pub mod Write

@@ -3,7 +3,7 @@ use mathlib.Core.Path.{_≡_, refl, ap, subst}
 use mathlib.Core.List.{List, []}
 use Prim.Native.Nat.{ℕ, _<_}
 use native.Mathlib.Omega.{arith}
-use Rattle.book_body.specs.Said.{Said}
+use Rattle.base_answers.specs.Said.{Said}
 use Rattle.book_check.specs.Book.{Accepted, count}
 use Rattle.book_check.specs.Answer.{reasonSays, answerSays, requestSays, Tells, AskTells, AskedPart, book, no-entry, there, empty}
 use Rattle.book_check.specs.Code.{Ready}

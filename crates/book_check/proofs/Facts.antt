@@ -7,7 +7,7 @@ use native.Mathlib.Numerals.{add-one}
 use native.Mathlib.Omega.{arith}
 use lib.ListN.{length, getD, take, drop}
 use lib.Seq.{ext-getD, getD-take, length-take-le}
-use Rattle.book_body.specs.Said.{Said}
+use Rattle.base_answers.specs.Said.{Said}
 use Rattle.book_body.specs.Body.{FieldSays, OneField, bodyOf, Formed}
 use Rattle.book_check.specs.Book.{mark, Marked, Listed, count, startAt, lengthAt, ends, part, entry, Sound, Accepted}
 use Rattle.book_check.specs.Answer as says

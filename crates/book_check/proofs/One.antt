@@ -10,7 +10,7 @@ use Prim.Native.Nat.{ℕ, zero, suc, _<_, _≤_}
 use native.Mathlib.Omega.{arith}
 use native.Mathlib.Decide.{decLt}
 use Rattle.field_open.proofs.Stages.{refusal-one}
-use Rattle.book_body.specs.Said.{Said, malformed}
+use Rattle.base_answers.specs.Said.{Said, malformed}
 use Rattle.book_body.specs.Body.{Body, FieldSays, bodyOf, Finished}
 use Rattle.book_check.specs.Book.{Sound, Accepted, entry}
 use Rattle.book_check.specs.Code.{Earliest, JudgeTells}

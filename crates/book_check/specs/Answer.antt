@@ -11,7 +11,7 @@ use mathlib.Core.Path.{_≡_}
 use mathlib.Core.Logic.{_≢_}
 use mathlib.Core.List.{List, []}
 use Prim.Native.Nat.{ℕ, _<_, _≤_}
-use Rattle.book_body.specs.Said.{Said, passed, refused, malformed}
+use Rattle.base_answers.specs.Said.{Said, passed, refused, malformed}
 use Rattle.book_body.specs.Body.{FieldSays, OneField, bodyOf, Formed}
 use Rattle.book_check.specs.Book.{Marked, Listed, count, part, entry, Sound, Accepted}
 use Rattle.book_check.specs.declared.Reason.{Reason}

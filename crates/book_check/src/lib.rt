@@ -1,7 +1,7 @@
 // The book of units, PCF1: a check of the whole book, and the part that an entry names.
 ghost use mathlib.Core.Path.{_≡_};
 ghost use Prim.Native.Nat.{_<_};
-ghost use Rattle.book_bytes.specs.Decides.{Decides};
+ghost use Rattle.base_answers.specs.Decides.{Decides};
 ghost use Rattle.book_body.specs.Body.{bodyOf};
 ghost use Rattle.book_check.specs.Book.{Marked, Listed, count, part};
 ghost use Rattle.book_check.specs.Answer.{answerSays, requestSays, Tells, AskTells, AskedPart};

@@ -3,7 +3,7 @@
 -- In proofs/Same.antt: the numbers of what is the same are the same.
 use mathlib.Core.List.{List, [], _∷_}
 use Prim.Native.Nat.{ℕ}
-use Rattle.book_body.specs.Said.{Said}
+use Rattle.base_answers.specs.Said.{Said}
 
 abbrev pub numbers : Said → List ℕ
 numbers x = x .number ∷ x .reason ∷ x .entry ∷ x .other ∷ x .result ∷ []

@@ -4,7 +4,7 @@ use mathlib.Core.List.{List}
 use Prim.Native.Nat.{ℕ, _<_}
 use native.Mathlib.Omega.{arith}
 use lib.ListN.{getD}
-use Rattle.book_body.specs.Said.{Said}
+use Rattle.base_answers.specs.Said.{Said}
 use Rattle.book_check.specs.Book.{Accepted, count, startAt, lengthAt}
 use Rattle.book_check.specs.Answer.{AskTells}
 use Rattle.book_check.proofs.Facts.{few-of}

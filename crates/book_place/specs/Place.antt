@@ -5,7 +5,7 @@
 use mathlib.Core.Path.{_≡_}
 use mathlib.Core.List.{List}
 use Prim.Native.Nat.{ℕ, _<_}
-use Rattle.book_body.specs.Said.{Said}
+use Rattle.base_answers.specs.Said.{Said}
 use Rattle.book_check.specs.Book.{Accepted, count, startAt, lengthAt}
 use Rattle.book_check.specs.Answer.{AskTells}
 use Rattle.book_numbers.specs.Numbers.{numbers}

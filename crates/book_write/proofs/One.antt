@@ -6,7 +6,7 @@ use mathlib.Core.List.{List}
 use Prim.Native.Nat.{ℕ, _≤_}
 use native.Mathlib.Omega.{arith}
 use Rattle.field_open.proofs.Stages.{refusal-one}
-use Rattle.book_body.specs.Said.{Said, refused}
+use Rattle.base_answers.specs.Said.{Said, refused}
 use Rattle.book_body.specs.Body.{Body, FieldSays}
 use Rattle.book_write.specs.Write.{wroteSays, WriteTells, Numbered, field, rule, short, done}
 use Rattle.book_write.specs.declared.Wrote.{Wrote}

@@ -11,7 +11,7 @@ use Rattle.field_open.proofs.Stages.{numbered}
 use Rattle.book_bytes.specs.Bytes.{le, words, Put}
 use Rattle.book_bytes.proofs.Read.{length-words}
 use Rattle.book_bytes.proofs.Write.{andThen}
-use Rattle.book_body.specs.Said.{passed, refused}
+use Rattle.base_answers.specs.Said.{passed, refused}
 use Rattle.book_body.specs.Body.{Body, Rule, FieldSays, bodyBytes}
 use Rattle.book_body.proofs.Field.{Fits, fits}
 use Rattle.book_write.specs.Write.{bodyFrom, WriteTells, field, done}

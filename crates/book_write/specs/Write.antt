@@ -10,7 +10,7 @@ use mathlib.Core.Logic.{_≢_}
 use mathlib.Core.List.{List, _++_}
 use Prim.Native.Nat.{ℕ, _<_, _≤_}
 use lib.ListN.{length, drop}
-use Rattle.book_body.specs.Said.{Said, passed, refused, malformed}
+use Rattle.base_answers.specs.Said.{Said, passed, refused, malformed}
 use Rattle.book_body.specs.Body.{Body, Rule, FieldSays, bodyBytes}
 use Rattle.book_write.specs.declared.Wrote.{Wrote}
 use Rattle.book_write.specs.declared.Wrote.the-variants.{Length, FieldRefused, RuleBroken, Short}

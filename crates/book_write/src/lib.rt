@@ -2,7 +2,7 @@
 ghost use mathlib.Core.List.{[]};
 ghost use Prim.Native.Nat.{_+_, _*_, _<_};
 ghost use Rattle.book_bytes.specs.Bytes.{Put};
-ghost use Rattle.book_bytes.specs.Decides.{Decides};
+ghost use Rattle.base_answers.specs.Decides.{Decides};
 ghost use Rattle.book_body.specs.Body.{Rule};
 ghost use Rattle.book_write.specs.Code.{Head, headBytes, Lists, listBytes, listLong};
 ghost use Rattle.book_write.specs.Write.{bodyFrom, wroteSays, WriteTells, Numbered};

@@ -22,8 +22,8 @@ use Rattle.capi_walk.proofs.Once.{puts-one}
 use Rattle.door_walk.specs.declared.Told.{Told}
 use Rattle.door_walk.proofs.Order.{from-order-one}
 use Rattle.door_unit.proofs.Once.{makes-one}
-use Rattle.pair_agree.specs.declared.Compared.{Compared}
-use Rattle.pair_agree.proofs.Once.{compares-one}
+use Rattle.door_compare.specs.declared.Compared.{Compared}
+use Rattle.door_compare.proofs.Once.{compares-one}
 use Rattle.capi.specs.Told.{Left, OrderTells, StepTells, WalkTells, FromOrderTells, UnitTells, asNumber, OneFieldTells}
 use Rattle.capi.specs.Books.{CheckSays, ListSays, WriteSays, AddSays, AttestSays}
 

@@ -23,8 +23,8 @@ use Rattle.door_walk.specs.declared.Told.{Told}
 use Rattle.door_walk.specs.Order.{FromOrder}
 use Rattle.door_unit.specs.declared.Made.{Made}
 use Rattle.door_unit.specs.Unit.{Makes}
-use Rattle.pair_agree.specs.declared.Compared.{Compared}
-use Rattle.pair_agree.specs.Answer.{Compares}
+use Rattle.door_compare.specs.declared.Compared.{Compared}
+use Rattle.door_compare.specs.Answer.{Compares}
 
 pub record Left (n : ℕ) (before after x : List ℕ) : Type 0 where
   pub stored : n ≡ 0 → after ≡ x

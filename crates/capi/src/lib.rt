@@ -146,7 +146,7 @@ pub extern "C" fn zaminuk_one_field(
 ) -> u32
     ensures { λ n. ⌜ OneFieldTells p (now (g .entry)) (now (h .entry)) (now (g2 .entry)) (now (h2 .entry)) n (now (same .exit)) ⌝ }
 {
-    let a = pair_agree::compare(p, g, h, g2, h2);
+    let a = door_compare::compare(p, g, h, g2, h2);
     let b = a.same;
     *same = if b { 1 } else { 0 };
     a.refusal

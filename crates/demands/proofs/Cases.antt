@@ -4,36 +4,33 @@
 --   unit-made success-unit   a unit answered with 0 was made, and the rows are that unit
 --   unit-spent unit-narrow   with 10 the budget was spent, with 11 the room was too little
 --   told-accepted unit-accepted   then the field is accepted
-use mathlib.Core.Path.{_≡_, sym, ap, subst}
-use mathlib.Core.Logic.{_⊎_, inl, inr}
+use mathlib.Core.Path.{_≡_, sym, ap, _∙_, subst}
 use mathlib.Core.List.{List}
 use Prim.Native.Nat.{ℕ, _+_, _≤_}
 use native.Mathlib.Omega.{arith}
-use Rattle.field_open.specs.Refusal.{Accepted, Refusal}
-use Rattle.field_open.proofs.Accept.{accepted}
+use Rattle.field_open.specs.Refusal.{Accepted}
+use Rattle.field_open.proofs.Door.{door-out}
 use Rattle.math_ideals.specs.Ideal.{Basis}
 use Rattle.math_ideals.specs.Next.{Start}
 use Rattle.math_chain.specs.Unit.{UnitOf}
 use Rattle.basis_record.specs.Record.{setting}
-use Rattle.door_basis.specs.Answer.{IsFirst}
+use Rattle.basis_field.specs.First.{IsFirst}
 use Rattle.walk_chain.specs.declared.Walked.{Walked}
 use Rattle.walk_chain.specs.Walk as walk
 use Rattle.door_walk.specs.declared.Told.{Told}
 use Rattle.door_walk.specs.Order as walks
 use Rattle.door_unit.specs.declared.Made.{Made}
 use Rattle.door_unit.specs.Unit as unit
-use Rattle.demands.proofs.Numbered.{passes}
+use Rattle.door_unit.proofs.Once.{refused-number}
+use Rattle.unit_make.specs.Rows.{six}
 
 -- ---- the walk
 module _ (p n : ℕ) (G H B : List ℕ) (w : Walked) (h : walk.Walks p G H n B w) where
   walk-number : {k : ℕ} → w ≡ walk.refused k → w .refusal ≡ k
   walk-number e = ap (λ (x : Walked). x .refusal) e
 
-  walk-goes : (w .refusal ≡ 0) ⊎ (9 ≤ w .refusal) → h .no ≡ 0
-  walk-goes = passes p G H (h .first) (λ f. walk-number (h .none f))
-
   pub walk-closed : w .refusal ≡ 0 → walk.Closed p G H n B w
-  walk-closed z = case (h .goes (walk-goes (inl z)))
+  walk-closed z = door-out (λ k f l e. let q = walk-number e in absurd (f (sym q ∙ z))) (λ A. case) h
     where
       case : walk.Goes p G H n B w → walk.Closed p G H n B w
       case (walk.budget l e) = let k = walk-number e in absurd (omega arith)
@@ -42,7 +39,7 @@ module _ (p n : ℕ) (G H B : List ℕ) (w : Walked) (h : walk.Walks p G H n B w
       case (walk.spent l r s) = let k = s .number in absurd (omega arith)
 
   pub walk-spent : w .refusal ≡ 10 → walk.Spent p G H n B w
-  walk-spent z = case (h .goes (walk-goes (inr (omega arith))))
+  walk-spent z = door-out (λ k f l e. let q = walk-number e in absurd (omega arith)) (λ A. case) h
     where
       case : walk.Goes p G H n B w → walk.Spent p G H n B w
       case (walk.budget l e) = let k = walk-number e in absurd (omega arith)
@@ -61,11 +58,8 @@ module _ (p n : ℕ) (G H : List ℕ) (o : Told) (h : walks.FromOrder p G H n o)
   abbrev Spent : Type 0
   Spent = (B : List ℕ) × IsFirst p G H B × walk.StaysOpen p G H B n
 
-  told-goes : (o .refusal ≡ 0) ⊎ (9 ≤ o .refusal) → h .no ≡ 0
-  told-goes = passes p G H (h .first) (λ f. told-number (h .none f))
-
   pub told-closed : o .refusal ≡ 0 → Closed
-  told-closed z = case (h .goes (told-goes (inl z)))
+  told-closed z = door-out (λ k f l e. let q = told-number e in absurd (f (sym q ∙ z))) (λ A. case) h
     where
       case : walks.Goes p G H n o → Closed
       case (walks.budget l e) = let k = told-number e in absurd (omega arith)
@@ -73,7 +67,7 @@ module _ (p n : ℕ) (G H : List ℕ) (o : Told) (h : walks.FromOrder p G H n o)
       case (walks.spent l B f g e) = let k = told-number e in absurd (omega arith)
 
   pub told-spent : o .refusal ≡ 10 → Spent
-  told-spent z = case (h .goes (told-goes (inr (omega arith))))
+  told-spent z = door-out (λ k f l e. let q = told-number e in absurd (omega arith)) (λ A. case) h
     where
       case : walks.Goes p G H n o → Spent
       case (walks.budget l e) = let k = told-number e in absurd (omega arith)
@@ -81,7 +75,7 @@ module _ (p n : ℕ) (G H : List ℕ) (o : Told) (h : walks.FromOrder p G H n o)
       case (walks.spent l B f g e) = (B, f, g)
 
   pub told-accepted : o .refusal ≡ 0 → Accepted p G H
-  told-accepted z = accepted p G H (subst (Refusal p G H) (told-goes (inl z)) (h .first))
+  told-accepted z = door-out (λ k f l e. let q = told-number e in absurd (f (sym q ∙ z))) (λ A _. A) h
 
 -- ---- the unit
 module _ (p n : ℕ) (G H rows scratch rows′ scratch′ : List ℕ) (m : Made) (h : unit.Makes p G H n rows scratch m rows′ scratch′) where
@@ -91,43 +85,40 @@ module _ (p n : ℕ) (G H rows scratch rows′ scratch′ : List ℕ) (m : Made)
   abbrev Narrow : Type 0
   Narrow = (c l d : ℕ) × unit.Lent c rows scratch n × unit.Finds p G H l d × (c ≤ d)
 
-  unit-goes : (m .refusal ≡ 0) ⊎ (9 ≤ m .refusal) → h .no ≡ 0
-  unit-goes = passes p G H (h .first) (λ f. h .none f .number)
-
   pub unit-made : m .refusal ≡ 0 → Done
-  unit-made z = case (h .goes (unit-goes (inl z)))
+  unit-made z = door-out (λ k f l e. let q = refused-number e in absurd (f (sym q ∙ z))) (λ A. case) h
     where
       case : unit.Goes p G H n rows scratch m rows′ scratch′ → Done
-      case (unit.bad f r) = let k = r .number in absurd (omega arith)
-      case (unit.spent c b f r) = let k = r .number in absurd (omega arith)
-      case (unit.narrow c l d b s f g r) = let k = r .number in absurd (omega arith)
+      case (unit.bad f r) = let k = refused-number r in absurd (omega arith)
+      case (unit.spent c b f r) = let k = refused-number r in absurd (omega arith)
+      case (unit.narrow c l d b s f g r) = let k = refused-number r in absurd (omega arith)
       case (unit.made c l d b s f g r) = (c, l, d, f, r)
 
   pub unit-spent : m .refusal ≡ 10 → unit.Misses p G H n
-  unit-spent z = case (h .goes (unit-goes (inr (omega arith))))
+  unit-spent z = door-out (λ k f l e. let q = refused-number e in absurd (omega arith)) (λ A. case) h
     where
       case : unit.Goes p G H n rows scratch m rows′ scratch′ → unit.Misses p G H n
-      case (unit.bad f r) = let k = r .number in absurd (omega arith)
+      case (unit.bad f r) = let k = refused-number r in absurd (omega arith)
       case (unit.spent c b f r) = f
-      case (unit.narrow c l d b s f g r) = let k = r .number in absurd (omega arith)
+      case (unit.narrow c l d b s f g r) = let k = refused-number r in absurd (omega arith)
       case (unit.made c l d b s f g r) = let k = r .number in absurd (omega arith)
 
   pub unit-narrow : m .refusal ≡ 11 → Narrow
-  unit-narrow z = case (h .goes (unit-goes (inr (omega arith))))
+  unit-narrow z = door-out (λ k f l e. let q = refused-number e in absurd (omega arith)) (λ A. case) h
     where
       case : unit.Goes p G H n rows scratch m rows′ scratch′ → Narrow
-      case (unit.bad f r) = let k = r .number in absurd (omega arith)
-      case (unit.spent c b f r) = let k = r .number in absurd (omega arith)
+      case (unit.bad f r) = let k = refused-number r in absurd (omega arith)
+      case (unit.spent c b f r) = let k = refused-number r in absurd (omega arith)
       case (unit.narrow c l d b s f g r) = (c, l, d, b, f, g)
       case (unit.made c l d b s f g r) = let k = r .number in absurd (omega arith)
 
   pub unit-accepted : m .refusal ≡ 0 → Accepted p G H
-  unit-accepted z = accepted p G H (subst (Refusal p G H) (unit-goes (inl z)) (h .first))
+  unit-accepted z = door-out (λ k f l e. let q = refused-number e in absurd (f (sym q ∙ z))) (λ A _. A) h
 
 -- the rows are the unit of the chain, with the period and the regulator told
 pub success-unit : (p : ℕ) (G H rows : List ℕ) (m : Made) {l d c : ℕ} {scratch scratch′ : List ℕ} → unit.Success p G H l d c scratch m rows scratch′ →
     (A : Accepted p G H) (B₀ : Basis (setting A)) → Start (setting A) B₀ →
-    UnitOf (setting A) B₀ (m .period .0) (m .regulator .0 + m .regulator .0) (unit.six A c 0 rows) (unit.six A c (c + c + c) rows)
+    UnitOf (setting A) B₀ (m .period .0) (m .regulator .0 + m .regulator .0) (six A c 0 rows) (six A c (c + c + c) rows)
 success-unit p G H rows m {l} {d} {c} r A B₀ st =
-    subst (λ x. UnitOf (setting A) B₀ x (m .regulator .0 + m .regulator .0) (unit.six A c 0 rows) (unit.six A c (c + c + c) rows)) (sym (r .period))
-    (subst (λ x. UnitOf (setting A) B₀ l x (unit.six A c 0 rows) (unit.six A c (c + c + c) rows)) (sym (r .regulator)) (r .rows-hold .unit A B₀ st))
+    subst (λ x. UnitOf (setting A) B₀ x (m .regulator .0 + m .regulator .0) (six A c 0 rows) (six A c (c + c + c) rows)) (sym (r .period))
+    (subst (λ x. UnitOf (setting A) B₀ l x (six A c 0 rows) (six A c (c + c + c) rows)) (sym (r .regulator)) (r .rows-hold .unit A B₀ st))

@@ -3,10 +3,11 @@ use mathlib.Core.Path.{_≡_, ap}
 use mathlib.Core.Logic.{_≢_}
 use mathlib.Core.List.{List}
 use Prim.Native.Nat.{ℕ, _≤_}
-use native.Mathlib.Decide.{ℕ-discrete}
+use native.Mathlib.Omega.{arith}
 use Rattle.field_open.proofs.Stages.{refusal-one, numbered}
+use Rattle.field_open.proofs.Door.{door-out}
 use Rattle.field_open.proofs.Opening.{opens-one}
-use Rattle.field_series.proofs.Answer.{answer-one}
+use Rattle.field_series.proofs.Answer.{answer-one, answer-kept}
 use Rattle.door_basis.proofs.Answer.{orders-one, checks-one}
 use Rattle.door_step.proofs.Answers.{answers-one}
 use Rattle.walk_chain.proofs.Walk.{walks-one}
@@ -14,11 +15,12 @@ use Rattle.door_walk.proofs.Order.{from-order-one}
 use Rattle.door_unit.specs.declared.Made.{Made}
 use Rattle.door_unit.specs.Unit as unit
 use Rattle.door_unit.proofs.Once.{makes-one}
-use Rattle.pair_agree.specs.Answer as pairs
-use Rattle.pair_agree.proofs.Once.{compares-one}
+use Rattle.door_compare.specs.Answer as pairs
+use Rattle.door_compare.proofs.Doors.{doors-out}
+use Rattle.door_compare.proofs.Once.{compares-one}
 use Rattle.door_transfer.specs.Transfer as transfer
 use Rattle.door_transfer.proofs.Once.{transfers-one}
-use Rattle.book_body.specs.Said.{Said}
+use Rattle.base_answers.specs.Said.{Said}
 use Rattle.book_body.specs.Body.{Body}
 use Rattle.book_body.specs.Code as code
 use Rattle.book_body.proofs.One.{list-one}
@@ -45,20 +47,17 @@ module _ (p n : ℕ) (G H rows scratch rows′ scratch′ : List ℕ) (m : Made)
   goes-kept (unit.made c l d b h g k r) = absurd (f (r .number))
 
   unit-kept : unit.Makes p G H n rows scratch m rows′ scratch′ → Untouched
-  unit-kept h = go (ℕ-discrete (h .no) 0)
-    where
-      go : Dec (h .no ≡ 0) → Untouched
-      go (yes e) = goes-kept (h .goes e)
-      go (no g) = (h .none g .rows-same, h .none g .scratch-same)
+  unit-kept = door-out (λ k g l r. (r .rows-same, r .scratch-same)) (λ A. goes-kept)
 
 pairs-numbered : (p : ℕ) (G H G′ H′ : List ℕ) (n : ℕ) → pairs.Refusals p G H G′ H′ n → n ≤ 8
-pairs-numbered p G H G′ H′ n (pairs.first f r) = numbered p G H n r
-pairs-numbered p G H G′ H′ n (pairs.second r s) = numbered p G′ H′ n s
+pairs-numbered p G H G′ H′ n = doors-out (λ k f l e. omega arith) (λ t e. omega arith)
 
 transfer-kept : {p n : ℕ} {G H G′ H′ rows rows′ : List ℕ} → transfer.Transfers p G H G′ H′ rows n rows′ → n ≢ 0 → rows′ ≡ rows
-transfer-kept (transfer.refused f r e) g = e
-transfer-kept (transfer.unfit r u k e) g = e
-transfer-kept (transfer.carried r c l k m w) g = absurd (g k)
+transfer-kept {p} {n} {G} {H} {G′} {H′} {rows} {rows′} h g = doors-out (λ k f l e. e .kept) (λ t. goes) h
+  where
+    goes : transfer.Goes p G H G′ H′ rows n rows′ → rows′ ≡ rows
+    goes (transfer.unfit u e) = e .kept
+    goes (transfer.carried c l k m w) = absurd (g k)
 
 list-kept : {k : ℕ} {s d d′ : List ℕ} {x : Said} → code.ListTells s k d x d′ → x .number ≢ 0 → d′ ≡ d
 list-kept (code.read h l e q) f = absurd (f (number-of e))
@@ -83,7 +82,7 @@ pub demand-1 : Demand1
 demand-1 = record {
   field-numbered = numbered;
   pairs-numbered = pairs-numbered;
-  series-kept = λ h f. h .kept f;
+  series-kept = answer-kept;
   unit-kept = λ m h f. unit-kept _ _ _ _ _ _ _ _ m f h;
   transfer-kept = transfer-kept;
   list-kept = list-kept;

@@ -4,8 +4,8 @@ use mathlib.Core.Logic.{_⊎_, inl, inr}
 use mathlib.Core.List.{List}
 use Prim.Native.Nat.{ℕ, _+_, _≤_}
 use native.Mathlib.Omega.{arith}
-use native.Mathlib.Decide.{ℕ-discrete}
 use Rattle.field_open.specs.Refusal.{Accepted}
+use Rattle.field_open.proofs.Door.{door-out}
 use Rattle.math_ideals.specs.Setting.{Setting}
 use Rattle.math_ideals.specs.Ideal.{Basis}
 use Rattle.math_ideals.specs.Next.{Next, Start}
@@ -15,6 +15,7 @@ use Rattle.math_chain.proofs.Walk.{chain-good}
 use Rattle.math_chain.proofs.Closing.{start-unique, closing-start}
 use Rattle.basis_record.specs.Record.{setting, basisOf, IsRecord}
 use Rattle.basis_record.proofs.Unique.{record-unique}
+use Rattle.door_basis.proofs.Answer.{orders-first}
 use Rattle.door_step.specs.declared.Stepped.{Stepped}
 use Rattle.door_step.specs.Answer as stepped
 use Rattle.walk_chain.specs.declared.Walked.{Walked}
@@ -23,6 +24,7 @@ use Rattle.door_walk.specs.declared.Told.{Told}
 use Rattle.door_walk.specs.Order as walks
 use Rattle.door_unit.specs.declared.Made.{Made}
 use Rattle.door_unit.specs.Unit as unit
+use Rattle.unit_make.specs.Rows.{six}
 use Rattle.book_check.proofs.Value.{book-back, book-obeys}
 use Rattle.book_check.proofs.Written.{writing-accepted, written-count, reads-back, one-value}
 use Rattle.demands.specs.Meaning.{BackFirst, Demand2}
@@ -38,11 +40,7 @@ module _ (p : ℕ) (G H B : List ℕ) (s : Stepped) (z : s .refusal ≡ 0) where
   step-goes (stepped.taken r n t) = (t .is-record, t .next)
 
   step-basis : stepped.Answers p G H B s → Stepping
-  step-basis h = go (ℕ-discrete (h .no) 0)
-    where
-      go : Dec (h .no ≡ 0) → Stepping
-      go (yes e) = step-goes (h .goes e)
-      go (no f) = let n = ap (λ (x : Stepped). x .refusal) (h .none f) in absurd (f (sym n ∙ z))
+  step-basis = door-out (λ k f l e. let n = ap (λ (x : Stepped). x .refusal) e in absurd (f (sym n ∙ z))) (λ A. step-goes)
 
 -- ---- the walk
 module _ (p n : ℕ) (G H B : List ℕ) (w : Walked) (h : walk.Walks p G H n B w) where
@@ -73,7 +71,7 @@ period-back p n G H o h z A B₀ st =
 -- ---- the unit
 module _ (p n : ℕ) (G H rows scratch rows′ scratch′ : List ℕ) (m : Made) where
   abbrev Unit-is : Type 0
-  Unit-is = (c : ℕ) × ((A : Accepted p G H) (B₀ : Basis (setting A)) → Start (setting A) B₀ → UnitOf (setting A) B₀ (m .period .0) (m .regulator .0 + m .regulator .0) (unit.six A c 0 rows′) (unit.six A c (c + c + c) rows′))
+  Unit-is = (c : ℕ) × ((A : Accepted p G H) (B₀ : Basis (setting A)) → Start (setting A) B₀ → UnitOf (setting A) B₀ (m .period .0) (m .regulator .0 + m .regulator .0) (six A c 0 rows′) (six A c (c + c + c) rows′))
 
   unit-is : unit.Makes p G H n rows scratch m rows′ scratch′ → m .refusal ≡ 0 → Unit-is
   unit-is h z = let (c, l, d, f, r) = unit-made p n G H rows scratch rows′ scratch′ m h z in (c, λ A B₀ st. success-unit p G H rows′ m r A B₀ st)
@@ -81,7 +79,7 @@ module _ (p n : ℕ) (G H rows scratch rows′ scratch′ : List ℕ) (m : Made)
 pub demand-2 : Demand2
 demand-2 = record {
   one-basis = λ A B B′ h h′ s. record-unique A B B′ h h′ s;
-  order-basis = λ o h z. h .first z;
+  order-basis = λ o h z. orders-first h z .1;
   step-basis = λ s h z. step-basis _ _ _ _ s z h;
   walk-basis = λ w h z. walk-basis _ _ _ _ _ w h z;
   period = λ o h z A B₀ st. period-back _ _ _ _ o h z A B₀ st;

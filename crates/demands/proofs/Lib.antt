@@ -1,4 +1,3 @@
-pub mod Numbered
 pub mod Cases
 pub mod Demand1
 pub mod Demand2

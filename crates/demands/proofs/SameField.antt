@@ -8,15 +8,15 @@ use lib.ListN.{length, take}
 use Rattle.field_open.specs.Refusal.{Accepted}
 use Rattle.field_open.proofs.Accept.{accepted-none}
 use Rattle.pair_agree.specs.OneField.{OneField}
-use Rattle.pair_agree.specs.declared.Compared.{Compared}
-use Rattle.pair_agree.specs.Answer as pairs
+use Rattle.door_compare.specs.declared.Compared.{Compared}
+use Rattle.door_compare.specs.Answer as pairs
 use Rattle.pair_agree.proofs.Relation as relation
-use Rattle.pair_agree.proofs.Once.{refusals-one}
+use Rattle.door_compare.proofs.Doors.{doors-through}
 use Rattle.pair_theory.proofs.Shared as theory
 use Rattle.door_transfer.proofs.Back.{transfers-back}
 use Rattle.pair_answers.proofs.Alike as answers
-use Rattle.book_bytes.specs.Decides.{Decides}
-use Rattle.book_body.specs.Said.{Said, refused}
+use Rattle.base_answers.specs.Decides.{Decides}
+use Rattle.base_answers.specs.Said.{Said, refused}
 use Rattle.book_body.specs.Body as body
 use Rattle.book_check.specs.Book as book
 use Rattle.book_check.specs.Answer as says
@@ -31,9 +31,7 @@ yes-of false d a = absurd (d .no! refl a)
 
 compared : {p : ℕ} {G H G′ H′ : List ℕ} → Accepted p G H → Accepted p G′ H′ → (a : Compared) → pairs.Compares p G H G′ H′ a →
     OneField p G H G′ H′ → (a .refusal ≡ 0) × (a .same ≡ true)
-compared {p} {G} {H} {G′} {H′} A A′ a (pairs.refused f r e) o =
-    absurd (f (refusals-one r (pairs.second (accepted-none p G H A) (accepted-none p G′ H′ A′))))
-compared A A′ a (pairs.compared e r d) o = (e, yes-of (a .same) d o)
+compared A A′ a h o = let (e, d) = doors-through (record { first = A; second = A′ }) h in (e, yes-of (a .same) d o)
 
 number-of : {x y : Said} → x ≡ y → x .number ≡ y .number
 number-of e = ap (λ (x : Said). x .number) e

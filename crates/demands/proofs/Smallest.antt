@@ -13,14 +13,15 @@ use Rattle.math_fundamental.proofs.Fundamental.{unit-fundamental, unit-smallest
 use Rattle.math_fundamental.proofs.Agree.{least-one, smallest-one, constant-norm}
 use Rattle.basis_record.specs.Record.{setting, basisOf}
 use Rattle.pair_theory.proofs.Least.{least-agree}
-use Rattle.door_basis.specs.Answer.{IsFirst}
+use Rattle.basis_field.specs.First.{IsFirst}
 use Rattle.walk_chain.specs.Walk as walk
 use Rattle.walk_chain.proofs.Walk.{closes-one}
 use Rattle.door_walk.specs.declared.Told.{Told}
 use Rattle.door_walk.specs.Order as walks
-use Rattle.door_walk.proofs.Order.{first-one}
+use Rattle.basis_field.proofs.First.{first-one}
 use Rattle.door_unit.specs.declared.Made.{Made}
-use Rattle.door_unit.specs.Unit.{Makes, Success, six}
+use Rattle.door_unit.specs.Unit.{Makes, Success}
+use Rattle.unit_make.specs.Rows.{six}
 use Rattle.demands.specs.Smallest.{SmallestRows, SmallestUnit}
 use Rattle.demands.proofs.Cases.{walk-closed, walk-spent, told-closed, told-spent, told-accepted, unit-made, unit-spent, unit-narrow, unit-accepted, success-unit}
 

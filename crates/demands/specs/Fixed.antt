@@ -23,10 +23,10 @@ use Rattle.door_walk.specs.declared.Told.{Told}
 use Rattle.door_walk.specs.Order.{FromOrder}
 use Rattle.door_unit.specs.declared.Made.{Made}
 use Rattle.door_unit.specs.Unit.{Makes}
-use Rattle.pair_agree.specs.declared.Compared.{Compared}
-use Rattle.pair_agree.specs.Answer.{Refusals, Compares}
+use Rattle.door_compare.specs.declared.Compared.{Compared}
+use Rattle.door_compare.specs.Answer.{Refusals, Compares}
 use Rattle.door_transfer.specs.Transfer.{Transfers}
-use Rattle.book_body.specs.Said.{Said}
+use Rattle.base_answers.specs.Said.{Said}
 use Rattle.book_body.specs.Body.{Body}
 use Rattle.book_body.specs.Code.{ListTells}
 use Rattle.book_write.specs.Write.{WriteTells}

@@ -19,7 +19,8 @@ use Rattle.math_chain.specs.Chain.{Chain}
 use Rattle.math_chain.specs.Unit.{UnitOf}
 use Rattle.basis_record.specs.Record.{setting, basisOf, IsRecord}
 use Rattle.door_basis.specs.declared.Ordered.{Ordered}
-use Rattle.door_basis.specs.Answer.{Orders, IsFirst}
+use Rattle.door_basis.specs.Answer.{Orders}
+use Rattle.basis_field.specs.First.{IsFirst}
 use Rattle.door_step.specs.declared.Stepped.{Stepped}
 use Rattle.door_step.specs.Answer.{Answers}
 use Rattle.walk_chain.specs.declared.Walked.{Walked}
@@ -27,7 +28,8 @@ use Rattle.walk_chain.specs.Walk.{Walks, Reaches}
 use Rattle.door_walk.specs.declared.Told.{Told}
 use Rattle.door_walk.specs.Order.{FromOrder}
 use Rattle.door_unit.specs.declared.Made.{Made}
-use Rattle.door_unit.specs.Unit.{Makes, six}
+use Rattle.door_unit.specs.Unit.{Makes}
+use Rattle.unit_make.specs.Rows.{six}
 use Rattle.book_bytes.specs.Bytes.{Bytes}
 use Rattle.book_body.specs.Body.{Body}
 use Rattle.book_check.specs.Book as book

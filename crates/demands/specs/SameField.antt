@@ -15,13 +15,13 @@ use Rattle.math_fp.specs.Fp.{Prime}
 use Rattle.math_rows.specs.Made.{reading}
 use Rattle.field_open.specs.Refusal.{Accepted}
 use Rattle.pair_agree.specs.OneField.{OneField, Coefficients}
-use Rattle.pair_agree.specs.declared.Compared.{Compared}
-use Rattle.pair_agree.specs.Answer.{Compares}
+use Rattle.door_compare.specs.declared.Compared.{Compared}
+use Rattle.door_compare.specs.Answer.{Compares}
 use Rattle.basis_record.specs.Setting.{roots}
 use Rattle.pair_theory.specs.Shared.{Shared}
 use Rattle.door_transfer.specs.Transfer.{Transfers}
 use Rattle.pair_answers.specs.Alike.{Alike}
-use Rattle.book_body.specs.Said.{Said, refused}
+use Rattle.base_answers.specs.Said.{Said, refused}
 use Rattle.book_body.specs.Body as body
 use Rattle.book_check.specs.Book as book
 use Rattle.book_check.specs.Answer.{Tells}

@@ -23,13 +23,14 @@ use Rattle.math_fundamental.specs.Complete.{Completeness}
 use Rattle.math_fundamental.specs.Smallest.{NoneBetween, LeastDegree, Smallest, Fundamental}
 use Rattle.basis_record.specs.Record.{setting}
 use Rattle.pair_agree.specs.OneField.{OneField}
-use Rattle.door_basis.specs.Answer.{IsFirst}
+use Rattle.basis_field.specs.First.{IsFirst}
 use Rattle.walk_chain.specs.declared.Walked.{Walked}
 use Rattle.walk_chain.specs.Walk.{Walks}
 use Rattle.door_walk.specs.declared.Told.{Told}
 use Rattle.door_walk.specs.Order.{FromOrder}
 use Rattle.door_unit.specs.declared.Made.{Made}
-use Rattle.door_unit.specs.Unit.{Makes, six}
+use Rattle.door_unit.specs.Unit.{Makes}
+use Rattle.unit_make.specs.Rows.{six}
 
 pub record SmallestRows (p : ℕ) (G H : List ℕ) (m : Made) (rows : List ℕ) : Type 0 where
   -- six rows of c numbers: E0, E1, E2, F0, F1, F2

@@ -7,20 +7,20 @@ use Rattle.field_open.specs.Refusal.{Accepted}
 use Rattle.basis_record.specs.Record.{IsRecord}
 use Rattle.field_series.specs.declared.Cubic.{Cubic}
 use Rattle.basis_field.specs.Known.{Known}
-use Rattle.door_basis.specs.Answer.{First}
+use Rattle.basis_field.specs.First.{First}
 use Rattle.step_next.specs.Steps.{AdvanceIn, Advanced}
 use Rattle.step_next.specs.declared.Advance.{Advance}
 use Rattle.step_next.proofs.Once.{steps-one}
-use Rattle.door_step.specs.Answer.{NextIn, NextOut}
+use Rattle.step_next.specs.InField.{NextIn, NextOut}
 use Rattle.walk_chain.specs.declared.Walked.{Walked}
 use Rattle.walk_chain.specs.Walk.{Closed, Spent}
 use Rattle.walk_chain.specs.Going.{GoIn, Gone}
 use Rattle.walk_chain.proofs.Walk.{reaches-one, closes-one, not-both}
-use Rattle.door_walk.specs.Order.{WalkedIn, WalkedOut}
-use Rattle.door_walk.proofs.Order as order
+use Rattle.walk_chain.specs.InField.{WalkedIn, WalkedOut}
+use Rattle.basis_field.proofs.First as first
 
 pub first-one : {c : Cubic} {B B′ : List ℕ} → Known c → First c B → First c B′ → B ≡ B′
-first-one {c} {B} {B′} g h k = order.first-one (g .accepted) B B′ (h (g .p) (g .G) (g .H) (g .accepted) (g .prefix)) (k (g .p) (g .G) (g .H) (g .accepted) (g .prefix))
+first-one {c} {B} {B′} g h k = first.first-one (g .accepted) B B′ (h (g .p) (g .G) (g .H) (g .accepted) (g .prefix)) (k (g .p) (g .G) (g .H) (g .accepted) (g .prefix))
 
 pub advanced-one : {p : ℕ} {g h gh : List ℕ} {n dr dw : ℕ} {r w B : List ℕ} (o o′ : Advance) → AdvanceIn p g h gh n dr dw r w B
     → Advanced p g h gh n dr dw r w B o → Advanced p g h gh n dr dw r w B o′ → o ≡ o′

@@ -4,8 +4,8 @@ use mathlib.Core.Path.{_≡_}
 use mathlib.Core.Bool.{Bool}
 use mathlib.Core.List.{List}
 use Prim.Native.Nat.{ℕ}
-use Rattle.book_bytes.specs.Decides.{Decides}
-use Rattle.book_bytes.proofs.Tests.{settled}
+use Rattle.base_answers.specs.Decides.{Decides}
+use Rattle.base_answers.proofs.Tests.{settled}
 use Rattle.field_open.specs.Refusal.{Accepted}
 use Rattle.step_divide.specs.Rows.{Seven, Holds}
 use Rattle.basis_lattice.specs.Closed.{Under}

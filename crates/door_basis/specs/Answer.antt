@@ -1,36 +1,28 @@
 -- What the public functions of bases answer (document 01: "the basis of the order", and refusal 9).
---   blank              119 zeros
---   IsFirst p G H B    B is the record of the order O of the field p, G, H
---   First c B          the same of an opened field
---   Orders p G H o     the whole answer: the table's number; beside a refusal zeros; beside 0 the record of the order
---   Checks p G H B n   n is the number of the first refusal of p, G, H; then 9 where B is no record of the field; else 0
+--   refused n          the answer beside the refusal n: zeros
+--   Orders p G H o     the whole answer: refusals 1 to 8, then the record of the order
+--   Checks p G H B n   the number: refusals 1 to 8, then 9 where B is no record of the field, else 0
 -- In proofs/Answer.antt: `orders-one` and `checks-one`, two answers that meet it are equal.
 use mathlib.Core.Path.{_≡_}
-use mathlib.Core.Logic.{_≢_, _⊎_}
 use mathlib.Core.List.{List}
 use Prim.Native.Nat.{ℕ}
-use lib.ListN.{replicate}
-use Rattle.field_open.specs.Refusal.{Refusal, Accepted}
-use Rattle.math_ideals.specs.Next.{Start}
-use Rattle.basis_record.specs.Record.{setting, basisOf, IsRecord}
-use Rattle.field_series.specs.Answer.{Prefix}
-use Rattle.field_series.specs.declared.Cubic.{Cubic}
+use Rattle.base_answers.specs.Limits.{blank}
+use Rattle.field_open.specs.Door.{Door}
+use Rattle.basis_record.specs.Record.{IsRecord}
+use Rattle.basis_field.specs.First.{IsFirst}
 use Rattle.door_basis.specs.declared.Ordered.{Ordered}
 
-abbrev pub blank : List ℕ
-blank = replicate 119 0
+abbrev pub refused : ℕ → Ordered
+refused n = record { refusal = n; basis = blank }
 
-pub record IsFirst (p : ℕ) (G H B : List ℕ) : Type 0 where
-  pub is-record : IsRecord p G H B
-  pub start : (A : Accepted p G H) → Start (setting A) (basisOf A B)
+abbrev pub Orders : ℕ → List ℕ → List ℕ → Ordered → Type 0
+Orders p G H o = Door p G H (λ n. o ≡ refused n) ((o .refusal ≡ 0) × IsFirst p G H (o .basis))
 
-abbrev pub First : Cubic → List ℕ → Type 0
-First c B = (p : ℕ) (G H : List ℕ) → Accepted p G H → Prefix p G H c → IsFirst p G H B
+module _ (p : ℕ) (G H B : List ℕ) (n : ℕ) where
+  -- an accepted field: 9 for the record, else 0
+  pub data Goes : Type 0 where
+    no-record : (IsRecord p G H B → ⊥) → n ≡ 9 → Goes
+    is-record : IsRecord p G H B → n ≡ 0 → Goes
 
-pub record Orders (p : ℕ) (G H : List ℕ) (o : Ordered) : Type 0 where
-  pub number : Refusal p G H (o .refusal)
-  pub zeros : o .refusal ≢ 0 → o .basis ≡ blank
-  pub first : o .refusal ≡ 0 → IsFirst p G H (o .basis)
-
-abbrev pub Checks : ℕ → List ℕ → List ℕ → List ℕ → ℕ → Type 0
-Checks p G H B n = (Refusal p G H n × (n ≢ 0)) ⊎ (Refusal p G H 0 × (((IsRecord p G H B → ⊥) × (n ≡ 9)) ⊎ (IsRecord p G H B × (n ≡ 0))))
+  abbrev pub Checks : Type 0
+  Checks = Door p G H (λ k. n ≡ k) Goes

@@ -1,28 +1,10 @@
 // The public functions of bases. specs/Answer.antt has their contracts.
-ghost use Rattle.basis_field.specs.Known.{Known};
-ghost use Rattle.door_basis.specs.Answer.{First, Orders, Checks};
+ghost use Rattle.door_basis.specs.Answer.{Orders, Checks};
 
 // The number of the refusal beside the basis; with a refusal the rows are zeros.
 pub struct Ordered {
     pub refusal: u32,
     pub basis: [u16; 119],
-}
-
-// The basis of the order of an opened field.
-pub fn first(c: field_series::Cubic) -> [u16; 119]
-    requires { ⌜ Known c ⌝ }
-    ensures { λ b. ⌜ First c b ⌝ }
-{
-    let f = c.field;
-    let r = c.r;
-    let w = c.w;
-    let b = basis_reduce::Bounds {
-        p: f.p,
-        dr: f.dr,
-        dw: f.dw,
-        top: f.dr + f.dw + 1,
-    };
-    basis_scale::order(b, &r, &w)
 }
 
 // The basis of the order of the field p, G, H.
@@ -38,7 +20,7 @@ pub fn order(p: u64, g: &[u64], h: &[u64]) -> Ordered
             basis: z,
         };
     }
-    let b = first(e.cubic);
+    let b = basis_field::order_basis(e.cubic);
     Ordered {
         refusal: 0,
         basis: b,

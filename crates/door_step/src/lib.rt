@@ -1,29 +1,14 @@
-// The step from a record, in an opened field and with all its refusals. specs/Answer.antt has the contracts.
+// The step from a record, with all its refusals. specs/Answer.antt has the contract.
 use basis_accept::accepts;
-use step_next::Advance;
-use step_next::advanced;
+use step_next::next_in_field;
 ghost use mathlib.Core.Path.{_≡_};
-ghost use Rattle.door_step.specs.Answer.{NextIn, NextOut, refused, Answers};
+ghost use Rattle.door_step.specs.Answer.{refused, Answers};
 
 // The number of the refusal, the degree of the m divided by and the next record; with a refusal the others are 0.
 pub struct Stepped {
     pub refusal: u32,
     pub degree: u64,
     pub basis: [u16; 119],
-}
-
-// The step in an opened field.
-pub fn next(c: field_series::Cubic, b: [u16; 119]) -> Advance
-    requires { ⌜ NextIn c b ⌝ }
-    ensures { λ o. ⌜ NextOut c b o ⌝ }
-{
-    let f = c.field;
-    let r = c.r;
-    let w = c.w;
-    let g = f.g;
-    let h = f.h;
-    let gh = f.gh;
-    advanced(f.p, &g, &h, &gh, f.dr + f.dw, f.dr, f.dw, &r, &w, &b)
 }
 
 // A refusal of the step: the other results are 0.
@@ -50,7 +35,7 @@ pub fn step(p: u64, g: &[u64], h: &[u64], rows: [u16; 119]) -> Stepped
     let c = e.cubic;
     let good = accepts(c, rows);
     if good {
-        let o = next(c, rows);
+        let o = next_in_field(c, rows);
         let b = o.basis;
         Stepped {
             refusal: 0,

@@ -8,34 +8,37 @@ use mathlib.Core.List.{List}
 use Prim.Native.Nat.{ℕ, _*_, _/_, _%_, _≤_}
 use native.Mathlib.Omega.{arith}
 use lib.ListN.{length}
-use Rattle.pair_agree.specs.Answer.{Pairs, Refusals}
+use Rattle.base_answers.specs.Limits.{longest, longest-six}
+use Rattle.pair_agree.specs.Answer.{Both, Pairs}
+use Rattle.door_compare.specs.Answer.{Refusals}
 use Rattle.pair_agree.specs.Rows.{straight, crossed}
 use Rattle.pair_agree.specs.declared.Pairing.{Pairing}
 use Rattle.pair_agree.specs.declared.Pairing.the-variants.{Straight, Swapped, Apart}
-use Rattle.pair_agree.proofs.Outcomes.{both-of, apart-none}
+use Rattle.pair_agree.proofs.Outcomes.{apart-none}
+use Rattle.door_compare.proofs.Doors.{doors-goes, both-of}
 use Rattle.door_transfer.specs.Transfer.{Lent, Transfers, unfit, carried}
 use Rattle.door_transfer.specs.Code.{CarryIn, Carried, CarriedSwapped, Unfit}
 
 module _ (p : ℕ) (G H G′ H′ rows : List ℕ) {n : ℕ} (e : n ≡ 0) (r : Refusals p G H G′ H′ n) where
-  none : Refusals p G H G′ H′ 0
-  none = subst (Refusals p G H G′ H′) e r
+  both : Both p G H G′ H′
+  both = both-of e r
 
   -- six equal rows have one length
-  lent-rule : (c : ℕ) → Lent c rows → (length rows % 6 ≡ 0) × (length rows ≤ 24576)
-  lent-rule c t = let w : length rows ≡ 6 * c = t .whole in let l : c ≤ 4096 = t .room in (omega arith, omega arith)
+  lent-rule : (c : ℕ) → Lent c rows → (length rows % 6 ≡ 0) × (length rows ≤ longest-six)
+  lent-rule c t = let w : length rows ≡ 6 * c = t .whole in let l : c ≤ longest = t .room in (omega arith, omega arith)
 
   pub too-long : {b : Bool} → Unfit (length rows) b → b ≡ true → Transfers p G H G′ H′ rows 14 rows
-  too-long u f = unfit none (λ c t o. subst (Unfit (length rows)) f u (lent-rule c t)) refl refl
+  too-long u f = doors-goes both (unfit (λ c t o. subst (Unfit (length rows)) f u (lent-rule c t)) (record { number = refl; kept = refl }))
 
   module _ {b : Bool} (u : Unfit (length rows) b) (f : b ≡ false) where
-    rule : (length rows % 6 ≡ 0) × (length rows ≤ 24576)
+    rule : (length rows % 6 ≡ 0) × (length rows ≤ longest-six)
     rule = subst (Unfit (length rows)) f u
 
     lent : Lent (length rows / 6) rows
     lent = let (a, l) = rule in record { room = omega arith; whole = omega arith }
 
     pub carry-asks : CarryIn p G H G′ H′ (length rows / 6) rows
-    carry-asks = let t = both-of e r in record {
+    carry-asks = let t = both in record {
       modulus = record { prime = t .first .prime; kind = t .first .kind; small = omega (arith, t .first .high) };
       first = record { degG = t .first .degG; degH = t .first .degH; listG = t .first .listG; listH = t .first .listH };
       second = record { degG = t .second .degG; degH = t .second .degH; listG = t .second .listG; listH = t .second .listH };
@@ -44,14 +47,14 @@ module _ (p : ℕ) (G H G′ H′ rows : List ℕ) {n : ℕ} (e : n ≡ 0) (r : 
 
     module _ {k : Pairing} (w : Pairs p G H G′ H′ k) where
       pub apart : k ≡ Apart → Transfers p G H G′ H′ rows 14 rows
-      apart g = unfit none (λ c t. apart-none w g) refl refl
+      apart g = doors-goes both (unfit (λ c t. apart-none w g) (record { number = refl; kept = refl }))
 
       pub straight-done : k ≡ Straight → (rows′ : List ℕ) → Carried p G H G′ H′ (length rows / 6) rows rows′ → Transfers p G H G′ H′ rows 0 rows′
       straight-done g rows′ d =
           let (a, b) = subst (Pairs p G H G′ H′) g w in
-          carried none (length rows / 6) lent refl (d .size) (straight a b (d .x) (d .y) (d .law) (d .E) (d .F))
+          doors-goes both (carried (length rows / 6) lent refl (d .size) (straight a b (d .x) (d .y) (d .law) (d .E) (d .F)))
 
       pub swapped-done : k ≡ Swapped → (rows′ : List ℕ) → CarriedSwapped p G H G′ H′ (length rows / 6) rows rows′ → Transfers p G H G′ H′ rows 0 rows′
       swapped-done g rows′ d =
           let (a, b) = subst (Pairs p G H G′ H′) g w in
-          carried none (length rows / 6) lent refl (d .size) (crossed a b (d .x) (d .y) (d .law) (d .E) (d .F))
+          doors-goes both (carried (length rows / 6) lent refl (d .size) (crossed a b (d .x) (d .y) (d .law) (d .E) (d .F)))

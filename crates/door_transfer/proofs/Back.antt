@@ -2,7 +2,7 @@
 --   there-and-back    of rows
 --   transfers-back    of the function: what it carried over it carries back
 -- The numbers are to be below p: a number of p or more in E1, E2, F1 or F2 comes back as its remainder.
-use mathlib.Core.Path.{_≡_, refl, ap, _∙_, subst}
+use mathlib.Core.Path.{_≡_, sym, ap, _∙_, subst}
 use mathlib.Core.List.{List, [], _∷_}
 use Prim.Native.Nat.{ℕ, _+_, _%_, _<_}
 use Prim.Native.Nat as N
@@ -16,15 +16,13 @@ use Rattle.math_valued.specs.Val.{Valued}
 use Rattle.math_rows.specs.Reading.{Reading}
 use Rattle.math_rows.specs.Made.{reading}
 use Rattle.math_rows.proofs.Unique.{cast-inj}
-use Rattle.field_open.proofs.Accept.{accepted-none}
 use Rattle.pair_agree.specs.OneField.{leading}
 use Rattle.pair_agree.specs.Rows.{Stays, Times, Straight, Crossed, RowsCarry, straight, crossed}
-use Rattle.pair_agree.specs.Answer.{Both, Refusals, second}
+use Rattle.pair_agree.specs.Answer.{Both}
 use Rattle.pair_agree.proofs.Lists.{agree-sym, leading-not}
 use Rattle.pair_agree.proofs.Relation.{not-both, one-sym}
-use Rattle.pair_agree.proofs.Once.{refusals-one}
-use Rattle.pair_agree.proofs.Outcomes.{both-of}
-use Rattle.door_transfer.specs.Transfer.{Lent, Transfers, refused, unfit, carried}
+use Rattle.door_compare.proofs.Doors.{doors-out, doors-through}
+use Rattle.door_transfer.specs.Transfer.{Lent, Goes, unfit, carried, Transfers}
 use Rattle.pair_agree.proofs.Laws.{law-swap, law-back}
 use Rattle.door_transfer.proofs.Rows.{Three, six-ext, one-of}
 use Rattle.door_transfer.proofs.Once.{lent-one}
@@ -80,20 +78,12 @@ module _ {p : ℕ} {G H G′ H′ : List ℕ} (t : Both p G H G′ H′) where
 
 pub transfers-back : (p : ℕ) (G H G′ H′ rows rows′ rows″ : List ℕ) (n : ℕ) → ((i : ℕ) → i < length rows → getD rows i 0 < p)
     → Transfers p G H G′ H′ rows 0 rows′ → Transfers p G′ H′ G H rows′ n rows″ → (n ≡ 0) × (rows″ ≡ rows)
-transfers-back p G H G′ H′ rows rows′ rows″ n h (refused f s e) b = absurd (f refl)
-transfers-back p G H G′ H′ rows rows′ rows″ n h (unfit s u k e) b = absurd (omega arith)
-transfers-back p G H G′ H′ rows rows′ rows″ n h (carried s c t k m w) b = go b
+transfers-back p G H G′ H′ rows rows′ rows″ n h a b =
+    doors-out (λ k f l e. absurd (f (sym (e .number)))) (λ s k. back s k (doors-through (record { first = s .second; second = s .first }) b)) a
   where
-    both : Both p G H G′ H′
-    both = both-of refl s
-
-    back : Refusals p G′ H′ G H 0
-    back = second (accepted-none p G′ H′ (both .second)) (accepted-none p G H (both .first))
-
-    lent : Lent c rows′
-    lent = record { room = t .room; whole = m ∙ t .whole }
-
-    go : Transfers p G′ H′ G H rows′ n rows″ → (n ≡ 0) × (rows″ ≡ rows)
-    go (refused f s′ e) = absurd (f (refusals-one s′ back))
-    go (unfit s′ u k′ e) = absurd (u c lent (one-sym (one-of w)))
-    go (carried s′ c′ t′ k′ m′ w′) = (k′, there-and-back both c rows rows′ rows″ (t .whole) (m′ ∙ m) h w (subst (λ q. RowsCarry p G′ H′ G H q rows′ rows″) (lent-one t′ lent) w′))
+    back : Both p G H G′ H′ → Goes p G H G′ H′ rows 0 rows′ → Goes p G′ H′ G H rows′ n rows″ → (n ≡ 0) × (rows″ ≡ rows)
+    back s (unfit u e) k = absurd (let q : 0 ≡ 14 = e .number in omega arith)
+    back s (carried c t k m w) (unfit u e) = absurd (u c (record { room = t .room; whole = m ∙ t .whole }) (one-sym (one-of w)))
+    back s (carried c t k m w) (carried c′ t′ k′ m′ w′) =
+        let lent : Lent c rows′ = record { room = t .room; whole = m ∙ t .whole } in
+        (k′, there-and-back s c rows rows′ rows″ (t .whole) (m′ ∙ m) h w (subst (λ q. RowsCarry p G′ H′ G H q rows′ rows″) (lent-one t′ lent) w′))

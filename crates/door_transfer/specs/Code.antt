@@ -13,6 +13,7 @@ use mathlib.Core.List.{List}
 use mathlib.Core.Bool.{Bool, true, false}
 use Prim.Native.Nat.{ℕ, _+_, _*_, _%_, _<_, _≤_}
 use lib.ListN.{length, getD}
+use Rattle.base_answers.specs.Limits.{longest-six}
 use Rattle.math_fp.specs.Fp.{Prime}
 use Rattle.poly_long.specs.Long.{Storable}
 use Rattle.pair_agree.specs.OneField.{leading, Coefficients}
@@ -92,5 +93,5 @@ module _ (p : ℕ) (G H G′ H′ : List ℕ) (c : ℕ) (l l′ : List ℕ) wher
     pub F : Crossed p c x y l (c + c + c) l′
 
 abbrev pub Unfit : ℕ → Bool → Type 0
-Unfit n true = (n % 6 ≡ 0) × (n ≤ 24576) → ⊥
-Unfit n false = (n % 6 ≡ 0) × (n ≤ 24576)
+Unfit n true = (n % 6 ≡ 0) × (n ≤ longest-six) → ⊥
+Unfit n false = (n % 6 ≡ 0) × (n ≤ longest-six)

@@ -8,21 +8,28 @@
 -- In proofs/: Once (`transfers-one`: one outcome for each input), Back (`there-and-back`, `transfers-back`: rows carried over and back are the
 -- rows), Rows (`rows-one`: the pairs settle the rows; `carried-below`, `carried-each`: numbers below p).
 use mathlib.Core.Path.{_≡_}
-use mathlib.Core.Logic.{_≢_}
 use mathlib.Core.List.{List}
 use Prim.Native.Nat.{ℕ, _*_, _≤_}
 use lib.ListN.{length}
+use Rattle.base_answers.specs.Limits.{longest}
 use Rattle.pair_agree.specs.OneField.{OneField}
 use Rattle.pair_agree.specs.Rows.{RowsCarry}
-use Rattle.pair_agree.specs.Answer.{Refusals}
+use Rattle.door_compare.specs.Answer.{Doors}
 
 pub record Lent (c : ℕ) (rows : List ℕ) : Type 0 where
-  pub room : c ≤ 4096
+  pub room : c ≤ longest
   pub whole : length rows ≡ 6 * c
 
-module _ (p : ℕ) (G H G′ H′ rows : List ℕ) where
-  pub data Transfers (n : ℕ) (rows′ : List ℕ) : Type 0 where
-    refused : n ≢ 0 → Refusals p G H G′ H′ n → rows′ ≡ rows → Transfers n rows′
-    unfit : Refusals p G H G′ H′ 0 → ((c : ℕ) → Lent c rows → OneField p G H G′ H′ → ⊥) → n ≡ 14 → rows′ ≡ rows → Transfers n rows′
-    carried : Refusals p G H G′ H′ 0 → (c : ℕ) → Lent c rows → n ≡ 0 → length rows′ ≡ length rows → RowsCarry p G H G′ H′ c rows rows′
-        → Transfers n rows′
+-- the outcome beside the refusal k
+pub record Refused (rows : List ℕ) (n : ℕ) (rows′ : List ℕ) (k : ℕ) : Type 0 where
+  pub number : n ≡ k
+  pub kept : rows′ ≡ rows
+
+module _ (p : ℕ) (G H G′ H′ rows : List ℕ) (n : ℕ) (rows′ : List ℕ) where
+  -- two accepted pairs: 14 for the slice or the pairs, then the rows carried over
+  pub data Goes : Type 0 where
+    unfit : ((c : ℕ) → Lent c rows → OneField p G H G′ H′ → ⊥) → Refused rows n rows′ 14 → Goes
+    carried : (c : ℕ) → Lent c rows → n ≡ 0 → length rows′ ≡ length rows → RowsCarry p G H G′ H′ c rows rows′ → Goes
+
+  abbrev pub Transfers : Type 0
+  Transfers = Doors p G H G′ H′ (Refused rows n rows′) Goes

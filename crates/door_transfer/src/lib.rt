@@ -1,10 +1,10 @@
 // The rows of a unit carried over from one pair to another pair of the same field. specs/Transfer.antt says what the answer and the lent
 // slice are, specs/Code.antt what the parts do.
-use poly_long::scale;
-use pair_agree::Pairing;
 use num_residue::cube_root;
 use num_residue::inverse;
 use num_residue::mul;
+use pair_agree::Pairing;
+use poly_long::scale;
 ghost use Rattle.pair_agree.specs.Rows.{Law};
 ghost use Rattle.door_transfer.specs.Transfer.{Transfers};
 ghost use Rattle.door_transfer.specs.Code.{FactorsIn, ExchangeIn, Exchanged, PartIn, Part, MultiplyIn, Multiplied, CarryIn, Carried, CarriedSwapped, Unfit};
@@ -107,7 +107,7 @@ fn unfit(n: usize) -> bool
 pub fn transfer(p: u64, g: &[u64], h: &[u64], g2: &[u64], h2: &[u64], rows: &mut [u16]) -> u32
     ensures { λ n. ⌜ Transfers p (now (g .entry)) (now (h .entry)) (now (g2 .entry)) (now (h2 .entry)) (now (rows .entry)) n (now (rows .exit)) ⌝ }
 {
-    let n = pair_agree::refusal(p, g, h, g2, h2);
+    let n = door_compare::refusal(p, g, h, g2, h2);
     if n != 0 {
         return n;
     }

@@ -1,2 +1,2 @@
 pub mod Unit
-pub mod Making
+pub mod Fit

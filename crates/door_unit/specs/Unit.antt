@@ -1,36 +1,26 @@
 -- The answer to `unit` (document 01: "Unit", refusals 10, 11, 14, "All buffers, scratch too, stay untouched on refusal").
 --   refusal n               the answer beside the refusal n: the other results are 0
---   six c at l              the element whose rows are the three rows of c numbers of l from place at on
 --   Lent c rows scratch n   lengths and budget within their rule: two slices of 6 c numbers, c at most 4,096, the budget at most 1,000,000
 --   Finds p G H l d         from the order the chain closes after l steps with degree sum d
---   Holds p G H l d c rows  the first slice after success: E0, E1, E2, F0, F1, F2 of the unit, each c coefficients with zeros above
 --   Makes p G H n rows scratch m rows′ scratch′   the whole answer, and both slices after it
--- `makes-one` in proofs/Once.antt: two outcomes that meet it are equal.
+-- What the first slice holds after success is `Holds` of crate unit_make. `makes-one` in proofs/Once.antt: two outcomes that meet it are equal.
 use mathlib.Core.Path.{_≡_}
-use mathlib.Core.Logic.{_≢_}
 use mathlib.Core.List.{List}
 use Prim.Native.Nat.{ℕ, _+_, _*_, _<_, _≤_}
-use lib.ListN.{length, getD, replicate}
-use Rattle.field_open.specs.Refusal.{Refusal, Accepted}
-use Rattle.math_ideals.specs.Element.{O}
+use lib.ListN.{length, replicate}
+use Rattle.base_answers.specs.Limits.{most, longest}
+use Rattle.field_open.specs.Refusal.{Accepted}
+use Rattle.field_open.specs.Door.{Door}
 use Rattle.math_ideals.specs.Ideal.{Basis}
 use Rattle.math_ideals.specs.Next.{Start}
 use Rattle.math_chain.specs.Chain.{Closing, Open}
-use Rattle.math_chain.specs.Unit.{UnitOf}
-use Rattle.basis_record.specs.Record.{setting, polyOf}
-use Rattle.unit_rows.specs.Six.{cut}
-use Rattle.walk_chain.specs.Walk.{most}
+use Rattle.basis_record.specs.Record.{setting}
+use Rattle.unit_make.specs.Rows.{Holds}
 use Rattle.door_unit.specs.declared.Made.{Made}
-
-abbrev pub longest : ℕ
-longest = 4096
 
 -- the answer beside a refusal
 abbrev pub refusal : ℕ → Made
 refusal n = record { refusal = n; period = record { 0 = 0 }; regulator = record { 0 = 0 } }
-
-abbrev pub six : {p : ℕ} {G H : List ℕ} (A : Accepted p G H) (c at : ℕ) → List ℕ → O (setting A) .El
-six A c at l = record { a = polyOf A (cut at c l); b = polyOf A (cut (at + c) c l); c = polyOf A (cut (at + c + c) c l) }
 
 pub record Lent (c : ℕ) (rows scratch : List ℕ) (n : ℕ) : Type 0 where
   pub room : c ≤ longest
@@ -44,16 +34,9 @@ Finds p G H l d = (A : Accepted p G H) (B₀ : Basis (setting A)) → Start (set
 abbrev pub Misses : ℕ → List ℕ → List ℕ → ℕ → Type 0
 Misses p G H n = (A : Accepted p G H) (B₀ : Basis (setting A)) → Start (setting A) B₀ → Open (setting A) B₀ n
 
-pub record Holds (p : ℕ) (G H : List ℕ) (l d c : ℕ) (rows : List ℕ) : Type 0 where
-  pub whole : length rows ≡ 6 * c
-  pub each : (i : ℕ) → getD rows i 0 < p
-  pub unit : (A : Accepted p G H) (B₀ : Basis (setting A)) → Start (setting A) B₀ → UnitOf (setting A) B₀ l d (six A c 0 rows) (six A c (c + c + c) rows)
-
 -- "the other results with a refusal are 0"
 pub record Refused (no : ℕ) (rows scratch : List ℕ) (m : Made) (rows′ scratch′ : List ℕ) : Type 0 where
-  pub number : m .refusal ≡ no
-  pub period : m .period .0 ≡ 0
-  pub regulator : m .regulator .0 ≡ 0
+  pub answer : m ≡ refusal no
   pub rows-same : rows′ ≡ rows
   pub scratch-same : scratch′ ≡ scratch
 
@@ -73,8 +56,5 @@ module _ (p : ℕ) (G H : List ℕ) (n : ℕ) (rows scratch : List ℕ) where
     narrow : (c l d : ℕ) → Lent c rows scratch n → l ≤ n → Finds p G H l d → c ≤ d → Refused 11 rows scratch m rows′ scratch′ → Goes m rows′ scratch′
     made : (c l d : ℕ) → Lent c rows scratch n → l ≤ n → Finds p G H l d → d < c → Success p G H l d c scratch m rows′ scratch′ → Goes m rows′ scratch′
 
-  pub record Makes (m : Made) (rows′ scratch′ : List ℕ) : Type 0 where
-    pub no : ℕ
-    pub first : Refusal p G H no
-    pub none : no ≢ 0 → Refused no rows scratch m rows′ scratch′
-    pub goes : no ≡ 0 → Goes m rows′ scratch′
+  abbrev pub Makes : Made → List ℕ → List ℕ → Type 0
+  Makes m rows′ scratch′ = Door p G H (λ no. Refused no rows scratch m rows′ scratch′) (Goes m rows′ scratch′)

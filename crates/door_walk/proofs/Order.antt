@@ -1,41 +1,27 @@
 -- The walk from the order: what its answers mean, and that there is one.
-use mathlib.Core.Path.{_≡_, refl, sym, ap, _∙_, subst}
+use mathlib.Core.Path.{_≡_, refl, sym, _∙_, subst}
 use mathlib.Core.Logic.{_≢_, _⊎_, inl, inr}
 use mathlib.Core.List.{List}
 use Prim.Native.Nat.{ℕ, zero, suc, _+_, _/_, _≤_, _<_}
 use native.Mathlib.Omega.{arith}
-use native.Mathlib.Decide.{ℕ-discrete}
-use Rattle.field_open.specs.Refusal.{Refusal, Accepted}
-use Rattle.field_open.proofs.Stages.{refusal-one}
-use Rattle.field_open.proofs.Accept.{accepted}
-use Rattle.math_chain.specs.Chain.{Closing}
-use Rattle.math_chain.proofs.Closing.{start-unique}
-use Rattle.math_chain.proofs.Unit.{unit-exists, unit-degree}
-use Rattle.basis_record.specs.Record.{setting, basisOf, IsRecord}
-use Rattle.basis_record.proofs.Unique.{basis-unique}
-use Rattle.door_basis.specs.Answer.{IsFirst, First}
+use Rattle.base_answers.specs.Limits.{most}
+use Rattle.field_open.specs.Refusal.{Accepted}
+use Rattle.field_open.proofs.Door.{door-goes, door-unique}
+use Rattle.basis_record.specs.Record.{IsRecord}
 use Rattle.field_series.specs.Answer.{Prefix, Expands}
-use Rattle.field_series.specs.declared.Expanded.{Expanded}
-use Rattle.door_step.proofs.Answers.{field-of, known-of}
 use Rattle.field_series.specs.declared.Cubic.{Cubic}
+use Rattle.field_series.specs.declared.Expanded.{Expanded}
+use Rattle.field_series.proofs.Answer.{expands-number}
+use Rattle.basis_field.specs.First.{IsFirst, First}
+use Rattle.basis_field.proofs.First.{first-one}
+use Rattle.basis_field.proofs.Known.{field-of, prefix-of, known-of}
 use Rattle.walk_chain.specs.declared.Walked.{Walked}
-use Rattle.walk_chain.specs.Walk.{most, Closes, StaysOpen, Closed, Spent}
+use Rattle.walk_chain.specs.Walk.{Closes, StaysOpen, Closed, Spent}
+use Rattle.walk_chain.specs.InField.{WalkedIn, WalkedOut}
 use Rattle.walk_chain.proofs.Walk.{closes-one, not-both}
+use Rattle.walk_chain.proofs.Even.{sum-even}
 use Rattle.door_walk.specs.declared.Told.{Told}
-use Rattle.door_walk.specs.Order.{WalkedIn, WalkedOut, refusal, Periodic, Goes, budget, closed, spent, FromOrder}
-
--- the order has one record
-pub first-one : {p : ℕ} {G H : List ℕ} (A : Accepted p G H) (B B′ : List ℕ) → IsFirst p G H B → IsFirst p G H B′ → B ≡ B′
-first-one A B B′ a b = basis-unique A B B′ (a .is-record) (b .is-record) (start-unique (setting A) (basisOf A B) (basisOf A B′) (a .start A) (b .start A))
-
--- the degree sum of a closed walk from the order is even
-pub sum-even : {p : ℕ} {G H : List ℕ} (A : Accepted p G H) (B : List ℕ) → IsFirst p G H B → {s d : ℕ} {B′ : List ℕ} → Closes p G H B s d B′ → d / 2 + d / 2 ≡ d
-sum-even A B f c =
-    let (E, F, u) = unit-exists (setting A) (basisOf A B) (f .start A) (c .closing A) in
-    let q = unit-degree (setting A) (basisOf A B) (f .start A) u in
-    let h : ℕ = q .2 in
-    let e = q .3 in
-    omega arith
+use Rattle.door_walk.specs.Order.{refusal, Periodic, Goes, budget, closed, spent, FromOrder}
 
 told-eq : (v w : Told) → v .refusal ≡ w .refusal → v .period .0 ≡ w .period .0 → v .regulator .0 ≡ w .regulator .0 → v ≡ w
 told-eq v w a b c = λ i. record { refusal = a i; period = record { 0 = b i }; regulator = record { 0 = c i } }
@@ -83,37 +69,21 @@ module _ (p : ℕ) (G H : List ℕ) (A : Accepted p G H) (n : ℕ) where
 
 -- two answers to one walk from the order are equal
 pub from-order-one : (p : ℕ) (G H : List ℕ) (n : ℕ) (v w : Told) → FromOrder p G H n v → FromOrder p G H n w → v ≡ w
-from-order-one p G H n v w a b = go (ℕ-discrete (a .no) 0)
-  where
-    same : a .no ≡ b .no
-    same = refusal-one p G H (a .no) (b .no) (a .first) (b .first)
+from-order-one p G H n v w = door-unique (λ k e f. e ∙ sym f) (λ A. goes-one p G H A n v w)
 
-    go : Dec (a .no ≡ 0) → v ≡ w
-    go (yes e) = goes-one p G H (accepted p G H (subst (λ m. Refusal p G H m) e (a .first))) n v w (a .goes e) (b .goes (sym same ∙ e))
-    go (no f) = a .none f ∙ ap refusal same ∙ sym (b .none (λ e. f (same ∙ e)))
+-- what `from_order` answers in an opened field
+module _ (p : ℕ) (G H : List ℕ) (n : ℕ) (e : Expanded) (opens : Expands p G H e) (z : e .refusal ≡ 0)
+    (b : List ℕ) (first : First (e .cubic) b) (l : n ≤ most) where
+  first-at : IsFirst p G H b
+  first-at = first p G H (field-of opens z) (prefix-of opens z)
 
--- the cases of the code's answer
-module _ (p : ℕ) (G H : List ℕ) (n : ℕ) (e : Expanded) (opens : Expands p G H e) where
-  pub from-refused : (o : Told) → e .refusal ≢ 0 → o ≡ refusal (e .refusal) → FromOrder p G H n o
-  from-refused o f z = record { no = e .refusal; first = opens .number; none = λ g. z; goes = λ g. absurd (f g) }
+  pub walked-at : WalkedIn (e .cubic) b n
+  walked-at = record { known = known-of opens z; is-record = first-at .is-record; within = l }
 
-  module _ (z : e .refusal ≡ 0) where
-    from-goes : (o : Told) → Goes p G H n o → FromOrder p G H n o
-    from-goes o g = record { no = 0; first = subst (λ m. Refusal p G H m) z (opens .number); none = λ f. absurd (f refl); goes = λ f. g }
+  pub from-spent : (w : Walked) → WalkedOut (e .cubic) b n w → w .refusal ≢ 0 → (o : Told) → o ≡ refusal 10 → FromOrder p G H n o
+  from-spent w out f o q = door-goes (expands-number opens) z
+      (subst (λ (t : Told). Goes p G H n t) (sym q) (goes-spent p G H (field-of opens z) n (e .cubic) (prefix-of opens z) b first-at l w out f))
 
-    pub from-budget : (o : Told) → most < n → o ≡ refusal 14 → FromOrder p G H n o
-    from-budget o l w = from-goes o (budget l w)
-
-    module _ (b : List ℕ) (first : First (e .cubic) b) (l : n ≤ most) where
-      pub first-at : IsFirst p G H b
-      first-at = first p G H (field-of opens z) (opens .opened z)
-
-      pub walked-at : WalkedIn (e .cubic) b n
-      walked-at = record { known = known-of opens z; is-record = first-at .is-record; within = l }
-
-      pub from-spent : (w : Walked) → WalkedOut (e .cubic) b n w → w .refusal ≢ 0 → (o : Told) → o ≡ refusal 10 → FromOrder p G H n o
-      from-spent w out f o q = from-goes o (subst (λ (t : Told). Goes p G H n t) (sym q) (goes-spent p G H (field-of opens z) n (e .cubic) (opens .opened z) b first-at l w out f))
-
-      pub from-closed : (w : Walked) → WalkedOut (e .cubic) b n w → w .refusal ≡ 0
-          → FromOrder p G H n (record { refusal = 0; period = record { 0 = w .steps }; regulator = record { 0 = w .sum / 2 } })
-      from-closed w out f = from-goes _ (goes-closed p G H (field-of opens z) n (e .cubic) (opens .opened z) b first-at l w out f)
+  pub from-closed : (w : Walked) → WalkedOut (e .cubic) b n w → w .refusal ≡ 0
+      → FromOrder p G H n (record { refusal = 0; period = record { 0 = w .steps }; regulator = record { 0 = w .sum / 2 } })
+  from-closed w out f = door-goes (expands-number opens) z (goes-closed p G H (field-of opens z) n (e .cubic) (prefix-of opens z) b first-at l w out f)

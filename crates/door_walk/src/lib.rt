@@ -1,31 +1,18 @@
 // The public walks: from a record, and from the order. specs/ has their contracts.
-use basis_accept::accepts;
 use base_answers::Period;
 use base_answers::Regulator;
+use basis_accept::accepts;
 use walk_chain::Walked;
+use walk_chain::walk_in_field;
 ghost use mathlib.Core.Path.{_≡_};
 ghost use Rattle.walk_chain.specs.Walk as W;
-ghost use Rattle.door_walk.specs.Order.{WalkedIn, WalkedOut, FromOrder, refusal};
+ghost use Rattle.door_walk.specs.Order.{FromOrder, refusal};
 
 // The number of the refusal; 0 and the period and regulator of the field where the walk from the order closes.
 pub struct Told {
     pub refusal: u32,
     pub period: Period,
     pub regulator: Regulator,
-}
-
-// The walk in an opened field.
-pub fn walked(c: field_series::Cubic, b: [u16; 119], budget: u64) -> Walked
-    requires { ⌜ WalkedIn c b budget ⌝ }
-    ensures { λ o. ⌜ WalkedOut c b budget o ⌝ }
-{
-    let f = c.field;
-    let r = c.r;
-    let w = c.w;
-    let g = f.g;
-    let h = f.h;
-    let gh = f.gh;
-    walk_chain::go(f.p, &g, &h, &gh, f.dr + f.dw, f.dr, f.dw, &r, &w, b, budget)
 }
 
 // A refusal of the walk from the order: the other results are 0.
@@ -52,8 +39,8 @@ pub fn from_order(p: u64, g: &[u64], h: &[u64], budget: u64) -> Told
         return refused(14);
     }
     let c = e.cubic;
-    let b = door_basis::first(c);
-    let o = walked(c, b, budget);
+    let b = basis_field::order_basis(c);
+    let o = walk_in_field(c, b, budget);
     let k = o.refusal;
     if k != 0 {
         return refused(10);
@@ -93,7 +80,7 @@ pub fn walk(p: u64, g: &[u64], h: &[u64], rows: [u16; 119], budget: u64) -> Walk
     let c = e.cubic;
     let good = accepts(c, rows);
     if good {
-        walked(c, rows, budget)
+        walk_in_field(c, rows, budget)
     } else {
         no_walk(9)
     }

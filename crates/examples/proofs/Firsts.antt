@@ -14,6 +14,7 @@ use Rattle.num_prime.specs.Table.{largest}
 use Rattle.field_open.specs.Refusal.{Fault1, Refusal, Accepted}
 use Rattle.field_open.specs.Opening.{Opens, nothing}
 use Rattle.field_open.proofs.Accept.{accepted-none}
+use Rattle.field_open.proofs.Door.{door-refused}
 use Rattle.field_open.proofs.Opening.{opens-one}
 use Rattle.field_series.specs.Answer as filled
 use Rattle.field_series.proofs.Answer.{done, answer-one}
@@ -56,7 +57,7 @@ refused-some p (suc n) t e = omega arith
 
 pub refuses-one : (p n : ℕ) → T (refused p n) → (G H : List ℕ) → Refuses p G H n
 refuses-one p n t G H =
-    let m : Opens p G H (record { refusal = n; field = nothing }) = record { number = refused-is p n t G H; zeros = λ f. refl; opened = λ e. absurd (refused-some p n t e) } in
+    let m : Opens p G H (record { refusal = n; field = nothing }) = door-refused (refused-is p n t G H) (refused-some p n t) refl in
     record { meets = m; alone = λ o h. opens-one o (record { refusal = n; field = nothing }) h m }
 
 -- ---- series
@@ -66,7 +67,7 @@ series-sound k r w h t r₀ w₀ sr sw =
     let at : (i : ℕ) → T (getD list i true) = every-at list t in
     let A : Accepted (k .p) (k .G) (k .H) = accepted-of (k .p) (k .G) (k .H) (at 0) in
     let l : length r ≤ 4096 = leb→le (length r) 4096 (at 2) in
-    let m : filled.Answer (k .p) (k .G) (k .H) r₀ w₀ r w 0 = done (accepted-none (k .p) (k .G) (k .H) A) (record { even = sw ∙ sym sr; short = omega arith }) (record { size = sym sr; series = series-of (k .p) (k .G) (k .H) r w (at 1) }) in
+    let m : filled.Answer (k .p) (k .G) (k .H) r₀ w₀ r w 0 = done (accepted-none (k .p) (k .G) (k .H) A) refl (record { even = sw ∙ sym sr; short = omega arith }) (record { size = sym sr; series = series-of (k .p) (k .G) (k .H) r w (at 1) }) in
     record { meets = m; alone = λ o a. let (x, y, z) = answer-one (o .1) (o .2) r w a m in λ i. (x i, y i, z i) }
 
 -- ---- the book

@@ -14,7 +14,9 @@ use Rattle.math_ideals.specs.Ideal.{Basis}
 use Rattle.math_ideals.specs.Next.{Next, Start}
 use Rattle.math_chain.specs.Chain.{Degree, Chain, Closing, Open}
 use Rattle.basis_record.specs.Record.{setting, basisOf, IsRecord}
-use Rattle.door_basis.specs.Answer.{IsFirst, Orders}
+use Rattle.field_open.proofs.Door.{door-goes}
+use Rattle.door_basis.specs.Answer.{Orders}
+use Rattle.basis_field.specs.First.{IsFirst}
 use Rattle.door_basis.proofs.Answer.{orders-one}
 use Rattle.door_step.specs.Answer as stepped
 use Rattle.door_step.specs.Answer.{Answers}
@@ -57,11 +59,8 @@ module _ (k : Input) (h : Hints) where
   pub order-sound : (b : Rows) → T (decide (order k b) h) → Holds (order k b)
   order-sound b t =
       let q : (i : ℕ) → T (getD (orders k h b) i true) = every-at (orders k h b) t in
-      let m : Orders (k .p) (k .G) (k .H) (record { refusal = 0; basis = stored b }) = record {
-        number = accepted-none (k .p) (k .G) (k .H) (field-of (q 0));
-        zeros = λ f. absurd (f refl);
-        first = λ e. first-is b (q 0) (q 1) (q 2);
-      } in
+      let m : Orders (k .p) (k .G) (k .H) (record { refusal = 0; basis = stored b }) =
+      door-goes (accepted-none (k .p) (k .G) (k .H) (field-of (q 0))) refl (refl, first-is b (q 0) (q 1) (q 2)) in
       record { meets = m; alone = λ o u. orders-one o (record { refusal = 0; basis = stored b }) u m }
 
   -- ---- a step

@@ -20,9 +20,12 @@ use Rattle.math_chain.specs.Chain.{Closing}
 use Rattle.math_chain.specs.Unit.{UnitOf}
 use Rattle.math_chain.proofs.Closing.{start-unique}
 use Rattle.basis_record.specs.Record.{setting, polyOf}
-use Rattle.walk_chain.specs.Walk.{most}
+use Rattle.base_answers.specs.Limits.{most}
+use Rattle.field_open.proofs.Door.{door-goes}
 use Rattle.door_unit.specs.Unit as unitAnswer
-use Rattle.door_unit.specs.Unit.{six, Lent, Finds, Makes, Goes}
+use Rattle.door_unit.specs.Unit.{Lent, Finds, Makes, Goes}
+use Rattle.unit_make.specs.Rows as unitRows
+use Rattle.unit_make.specs.Rows.{six}
 use Rattle.door_unit.specs.declared.Made.{Made}
 use Rattle.door_unit.proofs.Once.{Same, makes-one}
 use Rattle.examples_lists.specs.Lists.{lists, alike}
@@ -73,7 +76,7 @@ module _ (k : Input) (h : Hints) where
 
     -- the whole answer, once the case is known
     answer-of : (n : ℕ) (rows scratch : List ℕ) (m : Made) (rows′ scratch′ : List ℕ) → Goes (k .p) (k .G) (k .H) n rows scratch m rows′ scratch′ → Makes (k .p) (k .G) (k .H) n rows scratch m rows′ scratch′
-    answer-of n rows scratch m rows′ scratch′ g = record { no = 0; first = accepted-none (k .p) (k .G) (k .H) (field-of k h (q 0)); none = λ f. absurd (f refl); goes = λ e. g }
+    answer-of n rows scratch m rows′ scratch′ g = door-goes (accepted-none (k .p) (k .G) (k .H) (field-of k h (q 0))) refl g
 
   -- ---- the unit
   module _ (c l e : ℕ) (E F : Tri (List ℕ)) (t : T (every (makes k h c l e E F))) where
@@ -103,7 +106,7 @@ module _ (k : Input) (h : Hints) where
       | no u ↦ let z : getD (sixRows c E F) i 0 ≡ 0 = List·getD-eq-default (sixRows c E F) 0 {n = i} (omega arith) in omega (arith, field-of k h (q c l (s 0) 0) .low)
     ]
 
-    rows-hold : unitAnswer.Holds (k .p) (k .G) (k .H) (length (h .passed)) (total (h .start) (h .passed)) c (sixRows c E F)
+    rows-hold : unitRows.Holds (k .p) (k .G) (k .H) (length (h .passed)) (total (h .start) (h .passed)) c (sixRows c E F)
     rows-hold = record {
       whole = eqb→eq (length (sixRows c E F)) (6 * c) (six-at 0);
       each = below-six;
@@ -148,4 +151,4 @@ module _ (k : Input) (h : Hints) where
       only k n rows scratch (unitAnswer.refusal 11) rows scratch
       (answer-of c l a n rows scratch (unitAnswer.refusal 11) rows scratch
       (unitAnswer.narrow c (length (h .passed)) (total (h .start) (h .passed)) (lent-of c l a n b rows scratch er es) (omega arith) (finds-of c l a) (leb→le c (total (h .start) (h .passed)) z)
-      (record { number = refl; period = refl; regulator = refl; rows-same = refl; scratch-same = refl })))
+      (record { answer = refl; rows-same = refl; scratch-same = refl })))

@@ -11,8 +11,8 @@ use lib.ListN.{length}
 use Rattle.math_triple.specs.Tri.{Tri, normT}
 use Rattle.math_fp.specs.Trial.{primeb}
 use Rattle.num_prime.specs.Table.{largest}
-use Rattle.field_series.specs.Answer.{longest}
-use Rattle.walk_chain.specs.Walk.{most}
+use Rattle.base_answers.specs.Limits.{longest}
+use Rattle.base_answers.specs.Limits.{most}
 use Rattle.unit_rows.specs.Six.{cut}
 use Rattle.examples_lists.specs.Lists.{lists, alike, alikeT}
 use Rattle.examples_tests.specs.Rows.{Rows, stored}

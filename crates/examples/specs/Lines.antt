@@ -21,10 +21,12 @@ use Rattle.basis_record.specs.Record.{setting, polyOf}
 use Rattle.field_series.specs.Answer as filled
 use Rattle.door_basis.specs.Answer.{Orders}
 use Rattle.door_step.specs.Answer.{Answers}
-use Rattle.walk_chain.specs.Walk.{most, Walks}
+use Rattle.walk_chain.specs.Walk.{Walks}
+use Rattle.base_answers.specs.Limits.{most}
 use Rattle.door_walk.specs.Order as told
 use Rattle.door_walk.specs.Order.{FromOrder}
-use Rattle.door_unit.specs.Unit.{refusal, six, Makes}
+use Rattle.door_unit.specs.Unit.{refusal, Makes}
+use Rattle.unit_make.specs.Rows.{six}
 use Rattle.door_unit.specs.declared.Made.{Made}
 use Rattle.book_check.specs.Answer.{answerSays, Tells}
 use Rattle.book_check.specs.declared.Answer.{Answer}

@@ -15,6 +15,8 @@ use native.Mathlib.Nat.{mod-lt}
 use native.Mathlib.Omega.{arith}
 use native.Mathlib.Decide.{decLe, ℕ-discrete}
 use lib.ListN.{length, getD, List·getD-eq-default}
+use Rattle.base_answers.specs.Stage.{End}
+use Rattle.base_answers.proofs.Stages.{later, past}
 use Rattle.math_fp.specs.Fp.{Prime}
 use Rattle.math_valued.specs.Val.{Valued}
 use Rattle.math_valued.specs.Degree.{Has, Leads}
@@ -25,9 +27,9 @@ use Rattle.math_rows.specs.Row.{row, Size}
 use Rattle.math_rows.proofs.Rows.{size-lead}
 use Rattle.num_prime.specs.Table.{largest}
 use Rattle.poly_rows.specs.Factors.{polynomial}
-use Rattle.field_open.specs.Refusal.{longest, highest, Degree, Fault1, Fault2, Fault3, Fault4, Fault5, Fault6, Fault7, Fault8, End, Rows12, Rows36, Rows78, Refusal, Accepted}
+use Rattle.field_open.specs.Refusal.{longest, highest, Degree, Fault1, Fault2, Fault3, Fault4, Fault5, Fault6, Fault7, Fault8, Rows12, Rows36, Rows78, Refusal, Accepted}
 use Rattle.field_open.specs.Parts.{Shaped}
-use Rattle.field_open.proofs.Stages.{later, past, degree-one}
+use Rattle.field_open.proofs.Stages.{degree-one}
 
 le-stable : (a b : ℕ) → ((a ≤ b → ⊥) → ⊥) → a ≤ b
 le-stable a b f = elim (decLe a b) [ yes h ↦ h | no h ↦ absurd (f h) ]

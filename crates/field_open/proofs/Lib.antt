@@ -1,5 +1,6 @@
 pub mod Stages
 pub mod Accept
+pub mod Door
 pub mod Parts
 pub mod Rows
 pub mod Factors

@@ -12,8 +12,9 @@ use Prim.Native.Nat.{ℕ, zero, suc, _+_, _-_, _%_, _<_, _≤_}
 use native.Mathlib.Omega.{arith}
 use native.Mathlib.Decide.{decLe}
 use lib.ListN.{length, getD}
+use Rattle.base_answers.specs.Stage.{End}
 use Rattle.num_prime.specs.Table.{largest, PrimeTest}
-use Rattle.field_open.specs.Refusal.{longest, highest, Degree, Fault1, Fault3, Fault4, Fault5, Fault6, End, Rows36}
+use Rattle.field_open.specs.Refusal.{longest, highest, Degree, Fault1, Fault3, Fault4, Fault5, Fault6, Rows36}
 use Rattle.field_open.specs.Parts.{ListLength}
 use Rattle.field_open.proofs.Stages.{degree-one}
 

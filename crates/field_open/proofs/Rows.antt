@@ -69,12 +69,8 @@ module _ {p : ℕ} {G H x y : List ℕ} (a : Accepted p G H) (u : Listed G x) (v
         g = x;
         h = y;
         gh = z;
-        lg = lg;
-        lh = lh;
         dr = (lg - 1 + 2 * (lh - 1)) / 3;
         dw = (2 * (lg - 1) + (lh - 1)) / 3;
-        leadg = getD G (lg - 1) 0;
-        leadh = getD H (lh - 1) 0;
       }
   field-holds {z} lg lh b c m d e g h =
       let i : lg ≡ suc d = length-of lg g b in
@@ -88,10 +84,6 @@ module _ {p : ℕ} {G H x y : List ℕ} (a : Accepted p G H) (u : Listed G x) (v
         rowH = padded h v;
         rowGH = m .is-row;
         product = λ pr. m .law pr ∙ ap₂ (λ r s. reading p pr .𝓥 .L .ops .mul r s) (u .law p pr) (v .law p pr);
-        sizeG = i;
-        sizeH = j;
         degR = ap₂ (λ r s. 3 * ((r + 2 * s) / 3)) i′ j′ ∙ (omega (arith, mod-add-div d 3, mod-add-div e 3, mod-add-div (d + 2 * e) 3));
         degW = ap₂ (λ r s. 3 * ((2 * r + s) / 3)) i′ j′ ∙ (omega (arith, mod-add-div d 3, mod-add-div e 3, mod-add-div (2 * d + e) 3));
-        topG = ap (λ n. getD G n 0) i′;
-        topH = ap (λ n. getD H n 0) j′;
       }

@@ -1,3 +1,4 @@
 pub mod Refusal
+pub mod Door
 pub mod Parts
 pub mod Opening

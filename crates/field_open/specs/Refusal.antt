@@ -17,6 +17,7 @@ use mathlib.Core.Logic.{_≢_, _⊎_}
 use mathlib.Core.List.{List}
 use Prim.Native.Nat.{ℕ, suc, _+_, _%_, _<_, _≤_}
 use lib.ListN.{length, getD}
+use Rattle.base_answers.specs.Stage.{Stage, End}
 use Rattle.math_fp.specs.Fp.{Prime}
 use Rattle.math_valued.specs.Val.{Valued}
 use Rattle.math_valued.specs.Polynomial.{Squarefree, Coprime}
@@ -64,13 +65,7 @@ module _ (p : ℕ) (G H : List ℕ) where
   abbrev pub Fault8 : Type 0
   Fault8 = (pr : Prime p) × CommonFactor (reading p pr .𝓥) (polynomial p pr G) (polynomial p pr H)
 
--- The table: at each row, either the fault is there and n is the row's number, or it is not and the rows below decide.
-abbrev pub Stage : ℕ → Type 0 → (ℕ → Type 0) → ℕ → Type 0
-Stage k Fault below n = (Fault × (n ≡ k)) ⊎ ((Fault → ⊥) × below n)
-
-abbrev pub End : ℕ → Type 0
-End n = n ≡ 0
-
+-- The table, row by row (`Stage` of crate base_answers).
 abbrev pub Rows12 : ℕ → (ℕ → Type 0) → ℕ → Type 0
 Rows12 p below = Stage 1 (Fault1 p) (Stage 2 (Fault2 p) below)
 

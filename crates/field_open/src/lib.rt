@@ -1,7 +1,8 @@
 // Opening a field: the refusals 1 to 8, in the table's order, and what the layers above need of a field that is accepted.
 // specs/Refusal.antt has the table, specs/Opening.antt the contract of `open`.
 ghost use mathlib.Core.Path.{_≡_};
-ghost use Rattle.field_open.specs.Refusal.{End, Rows12, Rows36, Rows78, Refusal, Accepted};
+ghost use Rattle.base_answers.specs.Stage.{End};
+ghost use Rattle.field_open.specs.Refusal.{Rows12, Rows36, Rows78, Refusal, Accepted};
 ghost use Rattle.field_open.specs.Parts.{ListLength, Shaped, FreeTest, factorNumber};
 ghost use Rattle.poly_rows.specs.Factors.{OverBoth};
 ghost use Rattle.field_open.specs.Opening.{Held, nothing, Opens};
@@ -10,18 +11,14 @@ const LONGEST: usize = 13;
 
 const HIGHEST: usize = 16;
 
-// An opened field: G, H and G·H as rows, their numbers of coefficients, the degrees of r and w, and leading coefficients.
+// An opened field: G, H and G·H as rows, the degrees of r and w.
 pub struct Field {
     pub p: u64,
     pub g: [u64; 32],
     pub h: [u64; 32],
     pub gh: [u64; 32],
-    pub lg: usize,
-    pub lh: usize,
     pub dr: usize,
     pub dw: usize,
-    pub leadg: u64,
-    pub leadh: u64,
 }
 
 // The number of the refusal beside the field; with a refusal the field is all zeros.
@@ -168,12 +165,8 @@ fn field_of(p: u64, g: &[u64], h: &[u64]) -> Field
         g: x,
         h: y,
         gh: z,
-        lg: lg,
-        lh: lh,
         dr: (d + 2 * e) / 3,
         dw: (2 * d + e) / 3,
-        leadg: g[d],
-        leadh: h[e],
     }
 }
 
@@ -187,12 +180,8 @@ fn no_field() -> Field
         g: z,
         h: z,
         gh: z,
-        lg: 0,
-        lh: 0,
         dr: 0,
         dw: 0,
-        leadg: 0,
-        leadh: 0,
     }
 }
 

@@ -13,7 +13,8 @@ use Rattle.text_read.proofs.Inverse.{text-numeral}
 use Rattle.text_read.proofs.Writings.{Small, line-is-text, reads-below}
 use Rattle.math_rows.proofs.Floors.{sized}
 use Rattle.math_rows.proofs.Tab.{length-tab, at-tab}
-use Rattle.field_open.proofs.Stages.{numbered}
+use Rattle.field_open.proofs.Door.{door-out}
+use Rattle.door_unit.proofs.Once.{refused-number}
 use Rattle.unit_rows.specs.Six.{cut}
 use Rattle.door_unit.specs.declared.Made.{Made}
 use Rattle.door_unit.specs.Unit.{Makes, Goes, bad, spent, narrow, made}
@@ -116,9 +117,9 @@ unit-made s m rows e l f =
     subst (λ t. length t ≤ room) (sym (made-unit s m rows e)) (omega arith)
 
 goes-short : (s : List ℕ) (p : ℕ) (G H : List ℕ) (m : Made) (rows scratch : List ℕ) → p < 100000 → length s ≤ 255 → Goes p G H budget blank blank m rows scratch → length (made-text s m rows) ≤ room
-goes-short s p G H m rows scratch b l (bad a x) = refused-made s m rows (x .number) (omega arith) (omega arith)
-goes-short s p G H m rows scratch b l (spent c t o x) = refused-made s m rows (x .number) (omega arith) (omega arith)
-goes-short s p G H m rows scratch b l (narrow c n d t u f k x) = refused-made s m rows (x .number) (omega arith) (omega arith)
+goes-short s p G H m rows scratch b l (bad a x) = refused-made s m rows (refused-number x) (omega arith) (omega arith)
+goes-short s p G H m rows scratch b l (spent c t o x) = refused-made s m rows (refused-number x) (omega arith) (omega arith)
+goes-short s p G H m rows scratch b l (narrow c n d t u f k x) = refused-made s m rows (refused-number x) (omega arith) (omega arith)
 goes-short s p G H m rows scratch b l (made c n d t u f k x) =
     let w : 6144 ≡ 6 * c = sym (length-replicate {A = ℕ} 6144 0) ∙ t .whole in
     let v : m .regulator .0 + m .regulator .0 ≡ d = x .regulator in
@@ -127,10 +128,8 @@ goes-short s p G H m rows scratch b l (made c n d t u f k x) =
 
 makes-short : (s : List ℕ) (p : ℕ) (G H : List ℕ) (m : Made) (rows scratch : List ℕ) → p < 100000 → length s ≤ 255 → Makes p G H budget blank blank m rows scratch
     → length (made-text s m rows) ≤ room
-makes-short s p G H m rows scratch b l x = elim (ℕ-discrete (x .no) 0) [
-  | yes e ↦ goes-short s p G H m rows scratch b l (x .goes e)
-  | no f ↦ let k = numbered p G H (x .no) (x .first) in refused-made s m rows (x .none f .number) (omega arith) (omega arith)
-]
+makes-short s p G H m rows scratch b l =
+    door-out (λ k f h x. refused-made s m rows (refused-number x) (omega arith) (omega arith)) (λ A. goes-short s p G H m rows scratch b l)
 
 pub lists-short : {line t : List ℕ} → Lists line t → length t ≤ room
 lists-short (malformed h) = let a = refused-short 12 (omega arith) in omega arith

@@ -2,16 +2,14 @@
 --   lists-in                  two lists of accepted pairs over one p can be compared
 --   first-apart, none-apart   not of one field: G agrees with G′, but H not with H′; G agrees with neither, or with H′, but H not with G′
 --   straight-one, swapped-one, apart-none   the order that is told says whether they are of one field
---   then-second, both-of      where the first pair is not refused, the second's number; no refusal: both are accepted
 use mathlib.Core.Path.{_≡_, subst}
 use mathlib.Core.Logic.{_⊎_, inl, inr}
 use mathlib.Core.List.{List}
 use Prim.Native.Nat.{ℕ}
 use native.Mathlib.Omega.{arith}
-use Rattle.field_open.specs.Refusal.{Degree, Refusal, Accepted}
-use Rattle.field_open.proofs.Accept.{accepted}
+use Rattle.field_open.specs.Refusal.{Degree, Accepted}
 use Rattle.pair_agree.specs.OneField.{Agree, OneField}
-use Rattle.pair_agree.specs.Answer.{AgreeIn, Both, Pairs, Refusals, first, second}
+use Rattle.pair_agree.specs.Answer.{AgreeIn, Both, Pairs}
 use Rattle.pair_agree.specs.declared.Pairing.{Pairing}
 use Rattle.pair_agree.specs.declared.Pairing.the-variants.{Straight, Swapped, Apart}
 use Rattle.pair_agree.proofs.Relation.{not-both}
@@ -38,10 +36,3 @@ module _ {p : ℕ} {G H G′ H′ : List ℕ} where
 
     pub apart-none : k ≡ Apart → OneField p G H G′ H′ → ⊥
     apart-none e = subst (Pairs p G H G′ H′) e w
-
-  pub then-second : {m n : ℕ} → m ≡ 0 → Refusal p G H m → Refusal p G′ H′ n → Refusals p G H G′ H′ n
-  then-second e r = second (subst (Refusal p G H) e r)
-
-  pub both-of : {n : ℕ} → n ≡ 0 → Refusals p G H G′ H′ n → Both p G H G′ H′
-  both-of e (first ne r) = absurd (ne e)
-  both-of e (second r r′) = record { first = accepted p G H r; second = accepted p G′ H′ (subst (Refusal p G′ H′) e r′) }

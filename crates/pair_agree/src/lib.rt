@@ -1,19 +1,13 @@
-// Two pairs of lists over one p: whether they are of one field.
-ghost use Rattle.book_bytes.specs.Decides.{Decides};
+// Two accepted pairs of lists over one p: whether they are of one field. The door, which refuses, is crate door_compare.
+ghost use Rattle.base_answers.specs.Decides.{Decides};
 ghost use Rattle.pair_agree.specs.OneField.{Agree, OneField};
-ghost use Rattle.pair_agree.specs.Answer.{AgreeIn, Both, Pairs, Refusals, Compares};
+ghost use Rattle.pair_agree.specs.Answer.{AgreeIn, Both, Pairs};
 
 // The order in which two pairs agree after all lists are made monic.
 pub enum Pairing {
     Straight,
     Swapped,
     Apart,
-}
-
-// The refusal's number (0: none), and whether the pairs are of one field.
-pub struct Compared {
-    pub refusal: u32,
-    pub same: bool,
 }
 
 // Do two lists agree after both are made monic? Each is multiplied by the other's leading coefficient, so that no inverse is needed.
@@ -73,34 +67,5 @@ pub fn one_field(p: u64, g: &[u64], h: &[u64], g2: &[u64], h2: &[u64]) -> bool
         Pairing::Straight => true,
         Pairing::Swapped => true,
         Pairing::Apart => false,
-    }
-}
-
-// The first pair's refusal, then the second's; 0 where both are accepted.
-pub fn refusal(p: u64, g: &[u64], h: &[u64], g2: &[u64], h2: &[u64]) -> u32
-    ensures { λ n. ⌜ Refusals p (now (g .entry)) (now (h .entry)) (now (g2 .entry)) (now (h2 .entry)) n ⌝ }
-{
-    let n = field_open::refusal(p, g, h);
-    if n != 0 {
-        return n;
-    }
-    field_open::refusal(p, g2, h2)
-}
-
-// Compares any two pairs: a refusal, or whether they are of one field.
-pub fn compare(p: u64, g: &[u64], h: &[u64], g2: &[u64], h2: &[u64]) -> Compared
-    ensures { λ a. ⌜ Compares p (now (g .entry)) (now (h .entry)) (now (g2 .entry)) (now (h2 .entry)) a ⌝ }
-{
-    let n = refusal(p, g, h, g2, h2);
-    if n != 0 {
-        return Compared {
-            refusal: n,
-            same: false,
-        };
-    }
-    let b = one_field(p, g, h, g2, h2);
-    Compared {
-        refusal: 0,
-        same: b,
     }
 }

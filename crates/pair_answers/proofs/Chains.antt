@@ -15,7 +15,7 @@ use Rattle.math_ideals.specs.Ideal.{Basis}
 use Rattle.math_ideals.specs.Next.{Next, Start}
 use Rattle.math_chain.specs.Chain.{Degree, Chain, Open, Closing}
 use Rattle.basis_record.specs.Record.{setting, basisOf}
-use Rattle.door_basis.specs.Answer.{IsFirst}
+use Rattle.basis_field.specs.First.{IsFirst}
 use Rattle.step_next.specs.Steps.{Steps}
 use Rattle.walk_chain.specs.Walk.{Reaches, Closes, StaysOpen}
 use Rattle.basis_record.specs.Setting.{roots}

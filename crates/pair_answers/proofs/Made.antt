@@ -2,7 +2,7 @@
 --   MadeOver, makes-over   the answer for the other pair
 --   Rows, made-rows        the rows after success
 --   made-same              the same refusal, period and regulator, and after success rows that carry over
-use mathlib.Core.Path.{_≡_, refl, sym, _∙_, subst}
+use mathlib.Core.Path.{_≡_, refl, sym, ap, _∙_, subst}
 use mathlib.Core.Logic.{_≢_}
 use mathlib.Core.List.{List}
 use Prim.Native.Nat.{ℕ, _*_, _≤_}
@@ -10,7 +10,8 @@ use native.Mathlib.Omega.{arith}
 use lib.ListN.{length, replicate}
 use Rattle.field_open.specs.Refusal.{Accepted}
 use Rattle.door_unit.specs.declared.Made.{Made}
-use Rattle.door_unit.specs.Unit.{longest, Lent, Refused, Goes, bad, spent, narrow, made, Makes}
+use Rattle.door_unit.specs.Unit.{Lent, Refused, Goes, bad, spent, narrow, made, Makes}
+use Rattle.base_answers.specs.Limits.{longest}
 use Rattle.door_unit.proofs.Once.{makes-one}
 use Rattle.pair_agree.specs.OneField.{OneField, Coefficients}
 use Rattle.pair_agree.specs.Rows.{RowsCarry}
@@ -47,8 +48,8 @@ module _ (p : ℕ) (G H G′ H′ : List ℕ) (n : ℕ) (x y x′ y′ : List �
   left f h k = record {
     rows = x′;
     scratch = y′;
-    answer = k (record { number = h .number; period = h .period; regulator = h .regulator; rows-same = refl; scratch-same = refl });
-    carried = λ z. absurd (f (sym (h .number) ∙ z));
+    answer = k (record { answer = h .answer; rows-same = refl; scratch-same = refl });
+    carried = λ z. absurd (f (sym (ap (λ m. m .refusal) (h .answer)) ∙ z));
   }
 
   goes-over : Accepted p G H → Way p G H G′ H′ → Goes p G H n x y v r s → MadeOver p G H G′ H′ v r (Goes p G′ H′ n x′ y′ v)

@@ -10,6 +10,7 @@ use Prim.Native.Nat.{ℕ}
 use native.Mathlib.Omega.{arith}
 use Rattle.field_open.specs.Refusal.{Accepted}
 use Rattle.field_open.proofs.Stages.{numbered}
+use Rattle.field_open.proofs.Door.{door-refused, door-goes}
 use Rattle.basis_record.specs.Record.{IsRecord}
 use Rattle.door_basis.specs.declared.Ordered.{Ordered}
 use Rattle.door_basis.specs.Answer.{Orders}
@@ -36,14 +37,14 @@ module _ (p : ℕ) {G H G′ H′ : List ℕ} where
   order-same s s′ one v w a b = let (u, k, h) = order-over in subst (OrderSame p G H G′ H′ v) (orders-one u w k b) h
     where
       order-over : (u : Ordered) × Orders p G′ H′ u × OrderSame p G H G′ H′ v u
-      order-over = split p s s′ one (v .refusal) (a .number)
-          (λ n r. (v, record { number = r; zeros = a .zeros; first = λ z. absurd (n z) }, record { number = refl; basis = λ z. absurd (n z) }))
+      order-over = split p s s′ one (a .no) (a .first)
+          (λ n r. (v, door-refused r n (a .none n), record { number = refl; basis = λ z. absurd (n (sym (ap (λ o. o .refusal) (a .none n)) ∙ z)) }))
           (λ z A A′ r.
           let q = way A A′ one in
-          let f = a .first z in
+          let (e, f) = a .goes z in
           let (B′, o) = over (v .basis) (f .is-record .each) q in (
             record { refusal = v .refusal; basis = B′ },
-            record { number = r; zeros = λ n. absurd (n z); first = λ _. first-over A q o f },
+            door-goes r z (e, first-over A q o f),
             record { number = refl; basis = λ _. counterpart q (f .is-record) o },
           ))
 
@@ -75,8 +76,8 @@ module _ (p : ℕ) {G H G′ H′ : List ℕ} (s : Coefficients p G H) (s′ : C
     where
       step-over : (u : Stepped) × stepped.Answers p G′ H′ B′ u × StepSame p G H G′ H′ v u
       step-over = split p s s′ (one-of q) (a .no) (a .first)
-          (λ n r. (v, record { no = a .no; first = r; none = a .none; goes = λ z. absurd (n z) }, step-refused v n (a .none n)))
-          (λ z A A′ r. let (u, g, h) = step-goes A A′ v (a .goes z) in (u, record { no = a .no; first = r; none = λ n. absurd (n z); goes = λ _. g }, h))
+          (λ n r. (v, door-refused r n (a .none n), step-refused v n (a .none n)))
+          (λ z A A′ r. let (u, g, h) = step-goes A A′ v (a .goes z) in (u, door-goes r z g, h))
 
   walk-refused : {m : ℕ} (v : Walked) → m ≢ 0 → m ≢ 10 → v ≡ walk.refused m → WalkSame p G H G′ H′ v v
   walk-refused v f g e = record {
@@ -109,5 +110,5 @@ module _ (p : ℕ) {G H G′ H′ : List ℕ} (s : Coefficients p G H) (s′ : C
     where
       walk-over : (u : Walked) × walk.Walks p G′ H′ n B′ u × WalkSame p G H G′ H′ v u
       walk-over = split p s s′ (one-of q) (a .no) (a .first)
-          (λ f r. (v, record { no = a .no; first = r; none = a .none; goes = λ z. absurd (f z) }, walk-refused v f (λ e. omega (arith, numbered p G H (a .no) (a .first))) (a .none f)))
-          (λ z A A′ r. let (u, g, h) = walk-goes A A′ n v (a .goes z) in (u, record { no = a .no; first = r; none = λ f. absurd (f z); goes = λ _. g }, h))
+          (λ f r. (v, door-refused r f (a .none f), walk-refused v f (λ e. omega (arith, numbered p G H (a .no) (a .first))) (a .none f)))
+          (λ z A A′ r. let (u, g, h) = walk-goes A A′ n v (a .goes z) in (u, door-goes r z g, h))

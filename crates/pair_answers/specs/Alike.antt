@@ -22,7 +22,8 @@ use Rattle.walk_chain.specs.Walk.{Walks}
 use Rattle.door_walk.specs.declared.Told.{Told}
 use Rattle.door_walk.specs.Order.{FromOrder}
 use Rattle.door_unit.specs.declared.Made.{Made}
-use Rattle.door_unit.specs.Unit.{Holds, Makes}
+use Rattle.door_unit.specs.Unit.{Makes}
+use Rattle.unit_make.specs.Rows.{Holds}
 use Rattle.pair_agree.specs.OneField.{OneField, Coefficients}
 use Rattle.pair_agree.specs.Rows.{RowsCarry, RecordCarries}
 use Rattle.door_transfer.specs.Transfer.{Transfers}

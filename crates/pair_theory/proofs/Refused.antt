@@ -6,6 +6,7 @@ use mathlib.Core.Logic.{_⊎_, inl, inr}
 use mathlib.Core.List.{List}
 use Prim.Native.Nat.{ℕ, _<_}
 use native.Mathlib.Nat.{add-comm}
+use Rattle.base_answers.proofs.Stages.{stage-carry}
 use Rattle.math_ring.specs.Ring.{Ops}
 use Rattle.math_fp.specs.Fp.{Prime}
 use Rattle.math_valued.specs.Val.{Valued}
@@ -74,11 +75,6 @@ module _ (p : ℕ) {G H G′ H′ : List ℕ} (s : Coefficients p G H) (s′ : C
       let (x, n, g, h) = common-more (reading p pr .𝓥) (polynomial p pr G) α (polynomial p pr H′) (polynomial p pr H) β (polynomial p pr G′) e f k in
       (pr, (x, n, h, g))
 
--- over types and not over `Stage`, so that every argument is found
-stage : {A B N M : Type 0} {n k : ℕ} → (A → B) → (B → A) → (N → M) → (A × (n ≡ k)) ⊎ ((A → ⊥) × N) → (B × (n ≡ k)) ⊎ ((B → ⊥) × M)
-stage f g h (inl (a, e)) = inl (f a, e)
-stage f g h (inr (a, e)) = inr (λ b. a (g b), h e)
-
 none : {p : ℕ} {l : List ℕ} {n : ℕ} {A : Type 0} → Degree p l n → Fault3 p l → A
 none h f = absurd (f _ h)
 
@@ -87,10 +83,10 @@ module _ (p : ℕ) {G H G′ H′ : List ℕ} (s : Coefficients p G H) (s′ : C
   unfolding Refusal
   refusal-carry n =
       let two : OneField p G′ H′ G H = one-sym one in
-      stage (λ f. f) (λ f. f) (stage (λ f. f) (λ f. f)
-      (stage (none (s .listG)) (none (s′ .listG)) (stage (none (s .listH)) (none (s′ .listH))
-      (stage (fault4 p s s′ one) (fault4 p s′ s two) (stage (fault5 p s s′ one) (fault5 p s′ s two) (stage (fault6 p s s′ one) (fault6 p s′ s two)
-      (stage (fault7 p s s′ one) (fault7 p s′ s two) (stage (fault8 p s s′ one) (fault8 p s′ s two) (λ e. e)))))))))
+      stage-carry (λ f. f) (λ f. f) (stage-carry (λ f. f) (λ f. f)
+      (stage-carry (none (s .listG)) (none (s′ .listG)) (stage-carry (none (s .listH)) (none (s′ .listH))
+      (stage-carry (fault4 p s s′ one) (fault4 p s′ s two) (stage-carry (fault5 p s s′ one) (fault5 p s′ s two) (stage-carry (fault6 p s s′ one) (fault6 p s′ s two)
+      (stage-carry (fault7 p s s′ one) (fault7 p s′ s two) (stage-carry (fault8 p s s′ one) (fault8 p s′ s two) (λ e. e)))))))))
 
   pub accept-carry : Accepted p G H → Accepted p G′ H′
   accept-carry A = accepted p G′ H′ (refusal-carry 0 (accepted-none p G H A))

@@ -1,3 +1,4 @@
 pub mod Reduction
 pub mod Made
 pub mod Once
+pub mod Kept

@@ -1,14 +1,15 @@
 // The step: from the record of a reduced ideal to that of the ideal divided by m, with the degree of m.
+use basis_reduce::Bounds;
 use basis_scale::load;
 use basis_scale::reduced_basis;
-use step_divide::divided;
 use poly_rows::Rapid;
 use poly_rows::rapid_of;
-use basis_reduce::Bounds;
+use step_divide::divided;
 ghost use Rattle.step_divide.specs.Quotients.{three};
 ghost use Rattle.step_divide.specs.Generated.{generators};
 ghost use Rattle.step_next.specs.Steps.{AdvanceIn, Advanced};
 ghost use Rattle.step_next.specs.Parting.{PartIn, Parting, AdvanceOn};
+ghost use Rattle.step_next.specs.InField.{NextIn, NextOut};
 
 // The degree of m, the degree of what the generators had in common, and the lengths of x1, y1 and of the denominator.
 pub struct Measures {
@@ -172,4 +173,18 @@ pub fn advanced(
         &mut mb,
         &mut d,
     )
+}
+
+// The step in an opened field.
+pub fn next_in_field(c: field_series::Cubic, b: [u16; 119]) -> Advance
+    requires { ⌜ NextIn c b ⌝ }
+    ensures { λ o. ⌜ NextOut c b o ⌝ }
+{
+    let f = c.field;
+    let r = c.r;
+    let w = c.w;
+    let g = f.g;
+    let h = f.h;
+    let gh = f.gh;
+    advanced(f.p, &g, &h, &gh, f.dr + f.dw, f.dr, f.dw, &r, &w, &b)
 }

@@ -9,6 +9,7 @@ use mathlib.Core.Logic.{_≢_}
 use mathlib.Core.List.{List, [], _∷_}
 use Prim.Native.Nat.{ℕ, _+_, _<_, _≤_}
 use lib.ListN.{length, getD, replicate}
+use Rattle.base_answers.specs.Limits.{longest, longest-six}
 use Rattle.math_fp.specs.Fp.{Prime}
 use Rattle.math_triple.specs.Tri.{Tri, normT, cofT}
 use Rattle.math_valued.specs.Degree.{Lt}
@@ -20,14 +21,14 @@ use Rattle.unit_rows.specs.Six.{cut}
 
 pub record PairIn (p c k x y v w : ℕ) (rows s : List ℕ) : Type 0 where
   pub modulus : Storable p
-  pub most : c ≤ 4096
+  pub most : c ≤ longest
   pub upto : k ≤ c
   pub x-room : x + c ≤ length rows
   pub y-room : y + c ≤ length rows
   pub v-room : v + c ≤ length rows
   pub w-room : w + c ≤ length rows
   pub s-room : k + k ≤ length s
-  pub short : length rows ≤ 24576
+  pub short : length rows ≤ longest-six
 
 pub record Pair (p c k x y v w : ℕ) (rows s s′ : List ℕ) : Type 0 where
   pub size : length s′ ≡ length s
@@ -36,8 +37,8 @@ pub record Pair (p c k x y v w : ℕ) (rows s s′ : List ℕ) : Type 0 where
 
 pub record CofactorIn (p c k x y v w : ℕ) (g f : List ℕ) (at : ℕ) (rows s : List ℕ) : Type 0 where
   pub pair : PairIn p c k x y v w rows s
-  pub g-most : length g ≤ 4096
-  pub f-most : length f ≤ 4096
+  pub g-most : length g ≤ longest
+  pub f-most : length f ≤ longest
   pub room : at + k ≤ length rows
 
 pub record Cofactor (p c k x y v w : ℕ) (g f : List ℕ) (at : ℕ) (rows s rows′ s′ : List ℕ) : Type 0 where
@@ -51,8 +52,8 @@ pub record Cofactor (p c k x y v w : ℕ) (g f : List ℕ) (at : ℕ) (rows s ro
 
 pub record NormIn (p c : ℕ) (gh rows : List ℕ) : Type 0 where
   pub modulus : Storable p
-  pub most : c ≤ 4096
-  pub gh-most : length gh ≤ 4096
+  pub most : c ≤ longest
+  pub gh-most : length gh ≤ longest
   pub room : length rows ≡ c + c + c + c + c + c
 
 pub record Norm (p c : ℕ) (gh rows : List ℕ) (r : ℕ) : Type 0 where
@@ -68,12 +69,12 @@ element ρ at c l = record { a = row ρ (cut at c l); b = row ρ (cut (at + c) c
 pub record InvertIn (p c k : ℕ) (g h gh ngh rows s : List ℕ) : Type 0 where
   pub modulus : Storable p
   pub prime : Prime p
-  pub most : c ≤ 4096
+  pub most : c ≤ longest
   pub upto : k ≤ c
-  pub g-most : length g ≤ 4096
-  pub h-most : length h ≤ 4096
-  pub gh-most : length gh ≤ 4096
-  pub ngh-most : length ngh ≤ 4096
+  pub g-most : length g ≤ longest
+  pub h-most : length h ≤ longest
+  pub gh-most : length gh ≤ longest
+  pub ngh-most : length ngh ≤ longest
   pub room : length rows ≡ c + c + c + c + c + c
   pub s-room : length s ≡ length rows
   pub each : (i : ℕ) → getD rows i 0 < p

@@ -16,7 +16,8 @@ use Rattle.step_next.specs.Steps.{Keeps, Steps, Advanced}
 use Rattle.step_next.specs.declared.Advance.{Advance}
 use Rattle.walk_chain.specs.declared.Walked.{Walked}
 use Rattle.walk_chain.specs.Closed.{ClosedIn, OnePart}
-use Rattle.walk_chain.specs.Walk.{most, Reaches, Closes, StaysOpen, Closed, Spent}
+use Rattle.walk_chain.specs.Walk.{Reaches, Closes, StaysOpen, Closed, Spent}
+use Rattle.base_answers.specs.Limits.{most}
 use Rattle.walk_chain.specs.Going.{GoIn, Gone, Going}
 
 -- U = 1, of numbers and of polynomials

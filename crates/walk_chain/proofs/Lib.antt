@@ -2,3 +2,5 @@ pub mod Walk
 pub mod TakenUp
 pub mod One
 pub mod Going
+pub mod Kept
+pub mod Even

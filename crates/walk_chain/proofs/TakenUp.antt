@@ -7,7 +7,7 @@ use mathlib.Core.Logic.{_≢_}
 use mathlib.Core.List.{List}
 use Prim.Native.Nat.{ℕ, _+_, _-_, _≤_, _<_}
 use native.Mathlib.Omega.{arith}
-use native.Mathlib.Decide.{decLe, ℕ-discrete}
+use native.Mathlib.Decide.{decLe}
 use Rattle.math_valued.specs.Polynomial.{polys}
 use Rattle.math_ideals.specs.Setting.{Setting}
 use Rattle.math_ideals.specs.Ideal.{Basis}
@@ -17,7 +17,8 @@ use Rattle.math_chain.proofs.Walk.{same-chain, chain-then, prefix}
 use Rattle.field_open.proofs.Stages.{refusal-one, numbered}
 use Rattle.basis_record.specs.Record.{setting, basisOf, IsRecord}
 use Rattle.walk_chain.specs.declared.Walked.{Walked}
-use Rattle.walk_chain.specs.Walk.{most, refused, Closed, Spent, Goes, budget, no-record, closed, spent, Walks}
+use Rattle.walk_chain.specs.Walk.{refused, Closed, Spent, Goes, budget, no-record, closed, spent, Walks}
+use Rattle.base_answers.specs.Limits.{most}
 
 -- ---- of any chain
 module _ (S : Setting) (B₀ B₁ : Basis S) (good : Good S B₀) {n d : ℕ} (c : Chain S B₀ n d B₁) (open-to : Open S B₀ n) where
@@ -97,16 +98,12 @@ module _ (p : ℕ) (G H : List ℕ) (n m : ℕ) (B : List ℕ) (v w : Walked) (w
 
   -- "a walk refused with 10 returns B, the degree sum and the basis reached, so it can be taken up again"
   pub taken-up : Walks p G H n B v → v .refusal ≡ 10 → Walks p G H m (v .basis) w → Walks p G H (n + m) B (joined n v w)
-  taken-up a t b = go (ℕ-discrete (a .no) 0)
-    where
-      same : a .no ≡ b .no
-      same = refusal-one p G H (a .no) (b .no) (a .first) (b .first)
-
-      go : Dec (a .no ≡ 0) → Walks p G H (n + m) B (joined n v w)
-      go (yes z) =
-          let (rec, sp) = was-spent (a .goes z) t in
-          record { no = a .no; first = a .first; none = λ f. absurd (f z); goes = λ _. goes-later rec sp (b .goes (sym same ∙ z)) }
-      go (no f) = absurd (
-          let l : a .no ≤ 8 = numbered p G H (a .no) (a .first) in
-          let e : a .no ≡ 10 = sym (ap (λ z. z .refusal) (a .none f)) ∙ t in
-          omega arith)
+  taken-up a t b = record {
+    no = a .no;
+    first = a .first;
+    none = λ f. absurd (
+        let l : a .no ≤ 8 = numbered p G H (a .no) (a .first) in
+        let e : a .no ≡ 10 = sym (ap (λ z. z .refusal) (a .none f)) ∙ t in
+        omega arith);
+    goes = λ z. let (rec, sp) = was-spent (a .goes z) t in goes-later rec sp (b .goes (refusal-one p G H (b .no) (a .no) (b .first) (a .first) ∙ z));
+  }

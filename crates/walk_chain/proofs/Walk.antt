@@ -1,20 +1,18 @@
 -- One answer to each walk, and walks that are taken up again.
-use mathlib.Core.Path.{_≡_, refl, sym, ap, _∙_, subst}
-use mathlib.Core.Logic.{_≢_}
+use mathlib.Core.Path.{_≡_, refl, sym, _∙_}
 use mathlib.Core.List.{List}
 use Prim.Native.Nat.{ℕ, zero, suc, _+_, _≤_, _<_}
 use native.Mathlib.Omega.{arith}
-use native.Mathlib.Decide.{ℕ-discrete}
-use Rattle.field_open.specs.Refusal.{Refusal, Accepted}
-use Rattle.field_open.proofs.Stages.{refusal-one}
-use Rattle.field_open.proofs.Accept.{accepted}
+use Rattle.field_open.specs.Refusal.{Accepted}
+use Rattle.field_open.proofs.Door.{door-unique}
 use Rattle.math_ideals.specs.Ideal.{Basis}
 use Rattle.math_chain.specs.Chain.{Chain, Closing, Open}
 use Rattle.math_chain.proofs.Walk.{same-chain, closing-unique, chain-then}
 use Rattle.basis_record.specs.Record.{setting, basisOf, IsRecord}
 use Rattle.basis_record.proofs.Unique.{basis-unique}
 use Rattle.walk_chain.specs.declared.Walked.{Walked}
-use Rattle.walk_chain.specs.Walk.{most, Reaches, Closes, StaysOpen, refused, Closed, Spent, Goes, budget, no-record, closed, spent, Walks}
+use Rattle.walk_chain.specs.Walk.{Reaches, Closes, StaysOpen, refused, Closed, Spent, Goes, budget, no-record, closed, spent, Walks}
+use Rattle.base_answers.specs.Limits.{most}
 
 -- an answer is its four parts
 walked-eq : (v w : Walked) → v .refusal ≡ w .refusal → v .steps ≡ w .steps → v .sum ≡ w .sum → v .basis ≡ w .basis → v ≡ w
@@ -63,11 +61,4 @@ module _ (p : ℕ) (G H : List ℕ) (A : Accepted p G H) (n : ℕ) (B : List ℕ
 
 -- two answers to one walk are equal
 pub walks-one : (p : ℕ) (G H : List ℕ) (n : ℕ) (B : List ℕ) (v w : Walked) → Walks p G H n B v → Walks p G H n B w → v ≡ w
-walks-one p G H n B v w a b = go (ℕ-discrete (a .no) 0)
-  where
-    same : a .no ≡ b .no
-    same = refusal-one p G H (a .no) (b .no) (a .first) (b .first)
-
-    go : Dec (a .no ≡ 0) → v ≡ w
-    go (yes e) = goes-one p G H (accepted p G H (subst (λ m. Refusal p G H m) e (a .first))) n B v w (a .goes e) (b .goes (sym same ∙ e))
-    go (no f) = a .none f ∙ ap refused same ∙ sym (b .none (λ e. f (same ∙ e)))
+walks-one p G H n B v w = door-unique (λ k e f. e ∙ sym f) (λ A. goes-one p G H A n B v w)

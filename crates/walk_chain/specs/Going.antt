@@ -9,7 +9,8 @@ use Prim.Native.Nat.{ℕ, _*_, _≤_}
 use Rattle.basis_record.specs.Record.{IsRecord}
 use Rattle.step_next.specs.Steps.{Keeps}
 use Rattle.walk_chain.specs.declared.Walked.{Walked}
-use Rattle.walk_chain.specs.Walk.{most, Reaches, StaysOpen, Closed, Spent}
+use Rattle.walk_chain.specs.Walk.{Reaches, StaysOpen, Closed, Spent}
+use Rattle.base_answers.specs.Limits.{most}
 
 module _ (p : ℕ) (g h gh : List ℕ) (n dr dw : ℕ) (r w B : List ℕ) (budget : ℕ) where
   pub record GoIn : Type 0 where

@@ -1,3 +1,4 @@
 pub mod Walk
 pub mod Closed
 pub mod Going
+pub mod InField

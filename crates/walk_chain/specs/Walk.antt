@@ -1,25 +1,20 @@
 -- What a walk answers (document 01: "Walk", refusals 10 and 14, "Order: 1 to 8, then 14, 9, 10, 11").
---   most                        the largest budget
 --   Reaches p G H B s d B′      s steps from the record B end in the record B′, and the degrees of the minima passed add up to d
 --   Closes p G H B s d B′       and s is the first count of steps after which U = 1
 --   StaysOpen p G H B n         no count from 1 to n closes
---   blank                       119 zeros
+--   refused n                   the answer beside the refusal n: zeros
 --   Walks p G H n B w           the whole answer to a walk from B with the budget n
 -- `walks-one` in proofs/Walk.antt: two answers that meet it are equal. `taken-up`: a walk that is taken up again where refusal 10 left it
 -- gives what one long walk gives.
 use mathlib.Core.Path.{_≡_}
-use mathlib.Core.Logic.{_≢_}
 use mathlib.Core.List.{List}
 use Prim.Native.Nat.{ℕ, _≤_, _<_}
-use lib.ListN.{replicate}
-use Rattle.field_open.specs.Refusal.{Refusal, Accepted}
+use Rattle.base_answers.specs.Limits.{most, blank}
+use Rattle.field_open.specs.Refusal.{Accepted}
+use Rattle.field_open.specs.Door.{Door}
 use Rattle.math_chain.specs.Chain.{Chain, Closing, Open}
 use Rattle.basis_record.specs.Record.{setting, basisOf, IsRecord}
 use Rattle.walk_chain.specs.declared.Walked.{Walked}
-
--- "B is 0 to 1,000,000"
-abbrev pub most : ℕ
-most = 1000000
 
 module _ (p : ℕ) (G H B : List ℕ) where
   pub record Reaches (s d : ℕ) (B′ : List ℕ) : Type 0 where
@@ -33,9 +28,6 @@ module _ (p : ℕ) (G H B : List ℕ) where
 
   abbrev pub StaysOpen : ℕ → Type 0
   StaysOpen n = (A : Accepted p G H) → Open (setting A) (basisOf A B) n
-
-abbrev pub blank : List ℕ
-blank = replicate 119 0
 
 abbrev pub refused : ℕ → Walked
 refused n = record { refusal = n; steps = 0; sum = 0; basis = blank }
@@ -61,8 +53,5 @@ module _ (p : ℕ) (G H : List ℕ) (n : ℕ) (B : List ℕ) where
     closed : n ≤ most → IsRecord p G H B → Closed w → Goes w
     spent : n ≤ most → IsRecord p G H B → Spent w → Goes w
 
-  pub record Walks (w : Walked) : Type 0 where
-    pub no : ℕ
-    pub first : Refusal p G H no
-    pub none : no ≢ 0 → w ≡ refused no
-    pub goes : no ≡ 0 → Goes w
+  abbrev pub Walks : Walked → Type 0
+  Walks w = Door p G H (λ k. w ≡ refused k) (Goes w)

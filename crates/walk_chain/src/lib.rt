@@ -1,7 +1,8 @@
-// The walk along the chain of minima, from a record or from the order.
+// The walk along the chain of minima, from a record; it asks for an accepted field. The doors are in crate door_walk.
 use step_next::advanced;
 ghost use Rattle.walk_chain.specs.Closed.{ClosedIn, OnePart};
 ghost use Rattle.walk_chain.specs.Going.{GoIn, Gone};
+ghost use Rattle.walk_chain.specs.InField.{WalkedIn, WalkedOut};
 
 // What a walk answers: the refusal's number (0: closed), the steps taken, the sum of the degrees passed, the last basis.
 pub struct Walked {
@@ -72,4 +73,18 @@ pub fn go(
         sum: sum,
         basis: b,
     }
+}
+
+// The walk in an opened field.
+pub fn walk_in_field(c: field_series::Cubic, b: [u16; 119], budget: u64) -> Walked
+    requires { ⌜ WalkedIn c b budget ⌝ }
+    ensures { λ o. ⌜ WalkedOut c b budget o ⌝ }
+{
+    let f = c.field;
+    let r = c.r;
+    let w = c.w;
+    let g = f.g;
+    let h = f.h;
+    let gh = f.gh;
+    go(f.p, &g, &h, &gh, f.dr + f.dw, f.dr, f.dw, &r, &w, b, budget)
 }

@@ -1,7 +1,7 @@
 -- `basis_lattice::inside` meets its contract: the last rest.
 use native.Mathlib.Omega.{arith}
 use borrow.Author.Needs.{needs}
-use Rattle.book_bytes.proofs.Tests.{answer-yes, answer-no}
+use Rattle.base_answers.proofs.Tests.{answer-yes, answer-no}
 use Rattle.basis_lattice.proofs.Members.{by-inverse, room-of, inside-yes, inside-no}
 use Rattle.basis_lattice.proofs.inside.Statement.{statement}
 use Rattle.basis_lattice.proofs.inside.Tie as tie

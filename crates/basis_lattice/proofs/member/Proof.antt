@@ -1,7 +1,7 @@
 -- `basis_lattice::member` meets its contract: three divisions.
 use native.Mathlib.Omega.{arith}
 use borrow.Author.Needs.{needs}
-use Rattle.book_bytes.proofs.Tests.{answer-no}
+use Rattle.base_answers.proofs.Tests.{answer-no}
 use Rattle.basis_lattice.proofs.Members.{by-inverse, member-first, member-second, member-of, member-in, carried}
 use Rattle.basis_lattice.proofs.member.Statement.{statement}
 use Rattle.basis_lattice.proofs.member.Tie as tie

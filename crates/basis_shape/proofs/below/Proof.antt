@@ -5,7 +5,7 @@ use lib.ListN.{length, getD}
 use borrow.Author.Count.{below-more}
 use native.Mathlib.Omega.{arith}
 use borrow.Author.Needs.{needs}
-use Rattle.book_bytes.proofs.Tests.{answer-yes, answer-no}
+use Rattle.base_answers.proofs.Tests.{answer-yes, answer-no}
 use Rattle.basis_shape.proofs.Lengths.{below-end}
 use Rattle.basis_shape.proofs.wide.Reads as wide-reads
 use Rattle.basis_shape.proofs.below.Statement.{statement}

@@ -1,7 +1,7 @@
 -- `basis_shape::narrow` meets its contract: the lengths.
 use native.Mathlib.Omega.{arith}
 use borrow.Author.Needs.{needs}
-use Rattle.book_bytes.proofs.Tests.{answer-yes, answer-no}
+use Rattle.base_answers.proofs.Tests.{answer-yes, answer-no}
 use Rattle.basis_shape.proofs.Lengths.{too-long, ends-at}
 use Rattle.basis_shape.proofs.narrow.Statement.{statement}
 use Rattle.basis_shape.proofs.narrow.Tie as tie

@@ -1,7 +1,7 @@
 -- `basis_shape::ordered` meets its contract: one comparison at a time.
 use mathlib.Core.Logic.{_⊎_, inl, inr}
 use native.Mathlib.Omega.{arith}
-use Rattle.book_bytes.proofs.Tests.{answer-yes, answer-no}
+use Rattle.base_answers.proofs.Tests.{answer-yes, answer-no}
 use Rattle.basis_shape.proofs.ordered.Statement.{statement}
 use Rattle.basis_shape.proofs.ordered.Tie as tie
 use Rattle.basis_shape.proofs.ordered.Reads as reads

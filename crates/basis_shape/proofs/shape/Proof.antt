@@ -1,7 +1,7 @@
 -- `basis_shape::shape` meets its contract: lengths are settled.
 use native.Mathlib.Omega.{arith}
 use borrow.Author.Needs.{needs}
-use Rattle.book_bytes.proofs.Tests.{answer-no}
+use Rattle.base_answers.proofs.Tests.{answer-no}
 use Rattle.basis_shape.proofs.Lengths.{shape-from, not-ordered}
 use Rattle.basis_shape.proofs.shape.Statement.{statement}
 use Rattle.basis_shape.proofs.shape.Tie as tie

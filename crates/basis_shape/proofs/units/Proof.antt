@@ -1,6 +1,6 @@
 -- `basis_shape::units` meets its contract: one comparison at a time.
 use native.Mathlib.Omega.{arith}
-use Rattle.book_bytes.proofs.Tests.{answer-yes, answer-no}
+use Rattle.base_answers.proofs.Tests.{answer-yes, answer-no}
 use Rattle.basis_shape.proofs.units.Statement.{statement}
 use Rattle.basis_shape.proofs.units.Tie as tie
 use Rattle.basis_shape.proofs.units.Reads as reads

@@ -1,6 +1,6 @@
 -- `book_attest::constant_norm` meets its contract.
 use native.Mathlib.Omega.{arith}
-use Rattle.book_bytes.proofs.Tests.{answer-yes, answer-no}
+use Rattle.base_answers.proofs.Tests.{answer-yes, answer-no}
 use Rattle.book_attest.proofs.Bodies.{attested-yes, attested-no}
 use borrow.Author.Needs.{needs}
 use Rattle.book_attest.proofs.constant_norm.Statement.{statement}

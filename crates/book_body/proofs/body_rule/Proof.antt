@@ -1,6 +1,6 @@
 -- `book_body::body_rule` meets its contract.
 use borrow.Author.Tests.{not-true, not-false}
-use Rattle.book_bytes.proofs.Tests.{answer-yes, answer-no}
+use Rattle.base_answers.proofs.Tests.{answer-yes, answer-no}
 use Rattle.book_body.proofs.Facts.{body-from, body-to, body-row0, body-row1, body-row2, body-first, body-yes, first-some}
 use native.Mathlib.Omega.{arith}
 use borrow.Author.Needs.{needs}

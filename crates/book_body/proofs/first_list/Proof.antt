@@ -1,6 +1,6 @@
 -- `book_body::first_list` meets its contract.
 use native.Mathlib.Omega.{arith}
-use Rattle.book_bytes.proofs.Tests.{answer-yes, answer-no}
+use Rattle.base_answers.proofs.Tests.{answer-yes, answer-no}
 use Rattle.book_body.proofs.first_list.Statement.{statement}
 use Rattle.book_body.proofs.first_list.Tie as tie
 

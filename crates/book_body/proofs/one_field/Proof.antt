@@ -1,7 +1,7 @@
 -- `book_body::one_field` meets its contract.
 use native.Mathlib.Omega.{arith}
 use borrow.Author.Needs.{needs}
-use Rattle.book_bytes.proofs.Tests.{answer-no}
+use Rattle.base_answers.proofs.Tests.{answer-no}
 use Rattle.book_body.proofs.Compare.{one-p-no}
 use Rattle.book_body.proofs.one_field.Statement.{statement}
 use Rattle.book_body.proofs.one_field.Tie as tie

@@ -3,7 +3,7 @@ use Prim.Native.Nat.{ℕ}
 use mathlib.Core.Path.{_≡_, refl}
 use native.Mathlib.Omega.{arith}
 use lib.ListN.{length, replicate}
-use Rattle.book_bytes.proofs.Tests.{answer-no}
+use Rattle.base_answers.proofs.Tests.{answer-no}
 use Rattle.book_body.proofs.Facts.{row-short, front-count, row-decided}
 use borrow.Author.Needs.{needs}
 use Rattle.book_body.proofs.unit_at.Statement.{statement}

@@ -1,6 +1,6 @@
 -- `book_check::marked` meets its contract.
 use borrow.Author.Count.{below-more}
-use Rattle.book_bytes.proofs.Tests.{answer-yes, answer-no}
+use Rattle.base_answers.proofs.Tests.{answer-yes, answer-no}
 use Rattle.book_check.specs.Book as book
 use Rattle.book_check.proofs.Facts.{mark-yes, mark-no}
 use Prim.Native.Nat.{ℕ, _≤_, _<_, _-_}

@@ -1,6 +1,6 @@
 -- `book_write::rule_of` meets its contract.
 use borrow.Author.Tests.{not-true, not-false}
-use Rattle.book_bytes.proofs.Tests.{answer-yes, answer-no}
+use Rattle.base_answers.proofs.Tests.{answer-yes, answer-no}
 use native.Mathlib.Omega.{arith}
 use borrow.Author.Needs.{needs}
 use Rattle.book_write.proofs.rule_of.Statement.{statement}

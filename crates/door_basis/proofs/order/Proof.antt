@@ -1,39 +1,31 @@
 -- `door_basis::order` meets its contract: zeros beside a refusal, the record of the order beside 0.
-use mathlib.Core.Path.{_≡_, refl, subst}
+use mathlib.Core.Path.{_≡_, refl}
 use native.Mathlib.Omega.{arith}
 use borrow.Author.Needs.{needs}
-use Rattle.field_open.specs.Refusal.{Refusal}
-use Rattle.field_open.proofs.Accept.{accepted}
+use Rattle.field_open.proofs.Door.{door-refused, door-goes}
+use Rattle.field_series.proofs.Answer.{expands-number}
+use Rattle.basis_field.proofs.Known.{field-of, prefix-of, known-of}
 use Rattle.door_basis.proofs.order.Statement.{statement}
 use Rattle.door_basis.proofs.order.Tie as tie
 use Rattle.door_basis.proofs.order.Reads as reads
 use Rattle.door_basis.proofs.order.Lts as lts
 use Rattle.field_series.proofs.open_with_series.Reads as open-with-series-reads
-use Rattle.door_basis.proofs.first.Reads as first-reads
+use Rattle.basis_field.proofs.order_basis.Reads as order-basis-reads
 
 open-with-series-requires : tie.Need-open-with-series-requires
 open-with-series-requires c κs = search needs
 
 returns : tie.Need-returns
-returns c = record {
-  number = c .before .open-with-series .ensures .number;
-  zeros = λ f. refl;
-  first = λ e. absurd (c .if1 .taken e);
-}
+returns c = door-refused (expands-number (c .before .open-with-series .ensures)) (c .if1 .taken) refl
 
-first-requires : tie.Need-first-requires
-first-requires c κs =
-    let o = c .before .open-with-series .ensures in
-    record { p = _; G = _; H = _; accepted = accepted _ _ _ (subst (Refusal _ _ _) (omega arith) (o .number)); prefix = o .opened (omega arith) }
+order-basis-requires : tie.Need-order-basis-requires
+order-basis-requires c κs = known-of (c .before .open-with-series .ensures) (omega arith)
 
 returns-2 : tie.Need-returns-2
 returns-2 c =
     let o = c .before .before .open-with-series .ensures in
-    record {
-      number = subst (Refusal _ _ _) (omega arith) (o .number);
-      zeros = λ f. absurd (omega arith);
-      first = λ e. c .first .ensures _ _ _ (accepted _ _ _ (subst (Refusal _ _ _) (omega arith) (o .number))) (o .opened (omega arith));
-    }
+    let z = c .before .if1 .left in
+    door-goes (expands-number o) z (refl, c .order-basis .ensures _ _ _ (field-of o z) (prefix-of o z))
 
 pub order-spec : {M : Type 1} → statement M
-order-spec = tie.close (tie.spec open-with-series-requires returns first-requires returns-2)
+order-spec = tie.close (tie.spec open-with-series-requires returns order-basis-requires returns-2)

@@ -1,6 +1,9 @@
 -- `door_step::step` meets its contract, case by case.
 use borrow.Author.Needs.{needs}
-use Rattle.door_step.proofs.Answers.{known-of, answers-refused, answers-no-record, next-of, answers-next}
+use Rattle.field_open.proofs.Door.{door-refused}
+use Rattle.field_series.proofs.Answer.{expands-number}
+use Rattle.basis_field.proofs.Known.{known-of}
+use Rattle.door_step.proofs.Answers.{answers-no-record, next-of, answers-next}
 use Rattle.door_step.proofs.step.Statement.{statement}
 use Rattle.door_step.proofs.step.Tie as tie
 use Rattle.door_step.proofs.step.Reads as reads
@@ -13,16 +16,16 @@ no-step-requires : tie.Need-no-step-requires
 no-step-requires c κs = search needs
 
 returns : tie.Need-returns
-returns c = answers-refused (c .before .before .open-with-series .ensures) (c .before .if1 .taken) (c .no-step .ensures)
+returns c = door-refused (expands-number (c .before .before .open-with-series .ensures)) (c .before .if1 .taken) (c .no-step .ensures)
 
 accepts-requires : tie.Need-accepts-requires
 accepts-requires c κs = known-of (c .before .before .open-with-series .ensures) (c .before .if1 .left)
 
-next-requires : tie.Need-next-requires
-next-requires c κs = next-of (c .before .before .before .before .open-with-series .ensures) (c .before .before .before .if1 .left) (c .before .accepts .ensures) (c .if2 .taken)
+next-in-field-requires : tie.Need-next-in-field-requires
+next-in-field-requires c κs = next-of (c .before .before .before .before .open-with-series .ensures) (c .before .before .before .if1 .left) (c .before .accepts .ensures) (c .if2 .taken)
 
 returns-2 : tie.Need-returns-2
-returns-2 c = answers-next (c .before .before .before .before .before .before .open-with-series .ensures) (c .before .before .before .before .before .if1 .left) (c .before .before .before .accepts .ensures) (c .before .before .if2 .taken) _ (c .before .next .ensures)
+returns-2 c = answers-next (c .before .before .before .before .before .before .open-with-series .ensures) (c .before .before .before .before .before .if1 .left) (c .before .before .before .accepts .ensures) (c .before .before .if2 .taken) _ (c .before .next-in-field .ensures)
 
 no-step-requires-2 : tie.Need-no-step-requires-2
 no-step-requires-2 c κs = search needs
@@ -31,4 +34,4 @@ returns-3 : tie.Need-returns-3
 returns-3 c = answers-no-record (c .before .before .before .before .before .open-with-series .ensures) (c .before .before .before .before .if1 .left) (c .before .before .accepts .ensures) (c .before .if2 .left) (c .no-step2 .ensures)
 
 pub step-spec : {M : Type 1} → statement M
-step-spec = tie.close (tie.spec open-with-series-requires no-step-requires returns accepts-requires next-requires no-step-requires-2 returns-2 returns-3)
+step-spec = tie.close (tie.spec open-with-series-requires no-step-requires returns accepts-requires next-in-field-requires no-step-requires-2 returns-2 returns-3)

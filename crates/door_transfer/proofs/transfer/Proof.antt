@@ -1,8 +1,7 @@
 -- `transfer` meets its contract, case by case: proofs/Answering.antt.
 use mathlib.Core.Path.{refl}
 use borrow.Author.Needs.{needs}
-use Rattle.pair_agree.proofs.Outcomes.{both-of}
-use Rattle.door_transfer.specs.Transfer.{refused}
+use Rattle.door_compare.proofs.Doors.{doors-refused, both-of}
 use Rattle.door_transfer.proofs.Answering.{too-long, carry-asks, apart, straight-done, swapped-done}
 use Rattle.door_transfer.proofs.transfer.Statement.{statement}
 use Rattle.door_transfer.proofs.transfer.Tie as tie
@@ -11,7 +10,7 @@ refusal-requires : tie.Need-refusal-requires
 refusal-requires c κs = search needs
 
 returns : tie.Need-returns
-returns c = refused (c .if1 .taken) (c .before .refusal .ensures) refl
+returns c = doors-refused (c .before .refusal .ensures) (c .if1 .taken) (record { number = refl; kept = refl })
 
 unfit-requires : tie.Need-unfit-requires
 unfit-requires c κs = search needs

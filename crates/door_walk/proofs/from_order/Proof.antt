@@ -1,7 +1,10 @@
 -- `from_order` meets its contract, case by case.
 use borrow.Author.Needs.{needs}
-use Rattle.door_step.proofs.Answers.{known-of}
-use Rattle.door_walk.proofs.Order.{from-refused, from-budget, walked-at, from-spent, from-closed}
+use Rattle.field_open.proofs.Door.{door-refused, door-goes}
+use Rattle.field_series.proofs.Answer.{expands-number}
+use Rattle.basis_field.proofs.Known.{known-of}
+use Rattle.door_walk.specs.Order.{budget}
+use Rattle.door_walk.proofs.Order.{walked-at, from-spent, from-closed}
 use Rattle.door_walk.proofs.from_order.Statement.{statement}
 use Rattle.door_walk.proofs.from_order.Tie as tie
 
@@ -12,30 +15,30 @@ refused-requires : tie.Need-refused-requires
 refused-requires c κs = search needs
 
 returns : tie.Need-returns
-returns c = from-refused _ _ _ _ _ (c .before .before .open-with-series .ensures) _ (c .before .if1 .taken) (c .refused .ensures)
+returns c = door-refused (expands-number (c .before .before .open-with-series .ensures)) (c .before .if1 .taken) (c .refused .ensures)
 
 refused-requires-2 : tie.Need-refused-requires-2
 refused-requires-2 c κs = search needs
 
 returns-2 : tie.Need-returns-2
-returns-2 c = from-budget _ _ _ _ _ (c .before .before .before .open-with-series .ensures) (c .before .before .if1 .left) _ (c .before .if2 .taken) (c .refused2 .ensures)
+returns-2 c = door-goes (expands-number (c .before .before .before .open-with-series .ensures)) (c .before .before .if1 .left) (budget (c .before .if2 .taken) (c .refused2 .ensures))
 
-first-requires : tie.Need-first-requires
-first-requires c κs = known-of (c .before .before .before .open-with-series .ensures) (c .before .before .if1 .left)
+order-basis-requires : tie.Need-order-basis-requires
+order-basis-requires c κs = known-of (c .before .before .before .open-with-series .ensures) (c .before .before .if1 .left)
 
-walked-requires : tie.Need-walked-requires
-walked-requires c κs = walked-at _ _ _ _ _ (c .before .before .before .before .open-with-series .ensures) (c .before .before .before .if1 .left) _ (c .first .ensures) (c .before .before .if2 .left)
+walk-in-field-requires : tie.Need-walk-in-field-requires
+walk-in-field-requires c κs = walked-at _ _ _ _ _ (c .before .before .before .before .open-with-series .ensures) (c .before .before .before .if1 .left) _ (c .order-basis .ensures) (c .before .before .if2 .left)
 
 refused-requires-3 : tie.Need-refused-requires-3
 refused-requires-3 c κs = search needs
 
 returns-3 : tie.Need-returns-3
 returns-3 c =
-    from-spent _ _ _ _ _ (c .before .before .before .before .before .before .before .open-with-series .ensures) (c .before .before .before .before .before .before .if1 .left) _ (c .before .before .before .first .ensures) (c .before .before .before .before .before .if2 .left) _ (c .before .before .walked .ensures) (c .before .if3 .taken) _ (c .refused3 .ensures)
+    from-spent _ _ _ _ _ (c .before .before .before .before .before .before .before .open-with-series .ensures) (c .before .before .before .before .before .before .if1 .left) _ (c .before .before .before .order-basis .ensures) (c .before .before .before .before .before .if2 .left) _ (c .before .before .walk-in-field .ensures) (c .before .if3 .taken) _ (c .refused3 .ensures)
 
 returns-4 : tie.Need-returns-4
 returns-4 c =
-    from-closed _ _ _ _ _ (c .before .before .before .before .before .before .before .open-with-series .ensures) (c .before .before .before .before .before .before .if1 .left) _ (c .before .before .before .first .ensures) (c .before .before .before .before .before .if2 .left) _ (c .before .before .walked .ensures) (c .before .if3 .left)
+    from-closed _ _ _ _ _ (c .before .before .before .before .before .before .before .open-with-series .ensures) (c .before .before .before .before .before .before .if1 .left) _ (c .before .before .before .order-basis .ensures) (c .before .before .before .before .before .if2 .left) _ (c .before .before .walk-in-field .ensures) (c .before .if3 .left)
 
 pub from-order-spec : {M : Type 1} → statement M
 from-order-spec =
@@ -46,8 +49,8 @@ from-order-spec =
     returns
     refused-requires-2
     returns-2
-    first-requires
-    walked-requires
+    order-basis-requires
+    walk-in-field-requires
     refused-requires-3
     returns-3
     returns-4)

@@ -1,7 +1,10 @@
 -- `door_walk::walk` meets its contract, case by case.
 use borrow.Author.Needs.{needs}
-use Rattle.door_step.proofs.Answers.{known-of}
-use Rattle.door_walk.proofs.FromRecord.{walks-refused, walks-budget, walks-no-record, walked-of, walks-goes}
+use Rattle.field_open.proofs.Door.{door-refused, door-goes}
+use Rattle.field_series.proofs.Answer.{expands-number}
+use Rattle.basis_field.proofs.Known.{known-of}
+use Rattle.walk_chain.specs.Walk.{budget}
+use Rattle.door_walk.proofs.FromRecord.{walks-no-record, walked-of, walks-goes}
 use Rattle.door_walk.proofs.walk.Statement.{statement}
 use Rattle.door_walk.proofs.walk.Tie as tie
 use Rattle.door_walk.proofs.walk.Reads as reads
@@ -14,22 +17,22 @@ no-walk-requires : tie.Need-no-walk-requires
 no-walk-requires c κs = search needs
 
 returns : tie.Need-returns
-returns c = walks-refused (c .before .before .open-with-series .ensures) (c .before .if1 .taken) (c .no-walk .ensures)
+returns c = door-refused (expands-number (c .before .before .open-with-series .ensures)) (c .before .if1 .taken) (c .no-walk .ensures)
 
 no-walk-requires-2 : tie.Need-no-walk-requires-2
 no-walk-requires-2 c κs = search needs
 
 returns-2 : tie.Need-returns-2
-returns-2 c = walks-budget (c .before .before .before .open-with-series .ensures) (c .before .before .if1 .left) (c .before .if2 .taken) (c .no-walk2 .ensures)
+returns-2 c = door-goes (expands-number (c .before .before .before .open-with-series .ensures)) (c .before .before .if1 .left) (budget (c .before .if2 .taken) (c .no-walk2 .ensures))
 
 accepts-requires : tie.Need-accepts-requires
 accepts-requires c κs = known-of (c .before .before .before .open-with-series .ensures) (c .before .before .if1 .left)
 
-walked-requires : tie.Need-walked-requires
-walked-requires c κs = walked-of (c .before .before .before .before .before .open-with-series .ensures) (c .before .before .before .before .if1 .left) (c .before .before .before .if2 .left) (c .before .accepts .ensures) (c .if3 .taken)
+walk-in-field-requires : tie.Need-walk-in-field-requires
+walk-in-field-requires c κs = walked-of (c .before .before .before .before .before .open-with-series .ensures) (c .before .before .before .before .if1 .left) (c .before .before .before .if2 .left) (c .before .accepts .ensures) (c .if3 .taken)
 
 returns-3 : tie.Need-returns-3
-returns-3 c = walks-goes (c .before .before .before .before .before .before .open-with-series .ensures) (c .before .before .before .before .before .if1 .left) (c .before .before .before .before .if2 .left) (c .before .before .accepts .ensures) (c .before .if3 .taken) _ (c .walked .ensures)
+returns-3 c = walks-goes (c .before .before .before .before .before .before .open-with-series .ensures) (c .before .before .before .before .before .if1 .left) (c .before .before .before .before .if2 .left) (c .before .before .accepts .ensures) (c .before .if3 .taken) _ (c .walk-in-field .ensures)
 
 no-walk-requires-3 : tie.Need-no-walk-requires-3
 no-walk-requires-3 c κs = search needs
@@ -47,7 +50,7 @@ walk-spec =
     no-walk-requires-2
     returns-2
     accepts-requires
-    walked-requires
+    walk-in-field-requires
     no-walk-requires-3
     returns-3
     returns-4)

@@ -50,21 +50,9 @@ mul-t18 c = let d = c .before .before .before .before .before in omega (arith, l
 add-t19 : tie.Need-add-t19
 add-t19 c = let d = c .before .before .before .before .before in omega (arith, left d, right d, d .before .before .before .before .pre .sum)
 
-mul-t21 : tie.Need-mul-t21
-mul-t21 c = let d = c .before .before .before .before .before in omega (arith, left d, right d, d .before .before .before .before .pre .sum)
-
-shared-slice-read-t23 : tie.Need-shared-slice-read-t23
-shared-slice-read-t23 c = let d = c .before .before .before .before .before .before in omega (arith, left d, d .before .before .before .before .pre .listG .whole)
-
-mul-t24 : tie.Need-mul-t24
-mul-t24 c = let d = c .before .before .before .before .before .before in omega (arith, left d, right d, d .before .before .before .before .pre .sum)
-
-shared-slice-read-t26 : tie.Need-shared-slice-read-t26
-shared-slice-read-t26 c = let d = c .before .before .before .before .before .before .before in omega (arith, right d, d .before .before .before .before .pre .listH .whole)
-
 returns : tie.Need-returns
 returns c =
-    let m = c .before .before in
+    let m = c in
     let f = m .before .before .before in
     let d = f .before .before in
     field-holds (d .before .before .before .before .pre) (f .before .from-list .ensures) (f .from-list2 .ensures) _ _
@@ -85,8 +73,4 @@ field-of-spec =
     add-t16
     mul-t18
     add-t19
-    mul-t21
-    shared-slice-read-t23
-    mul-t24
-    shared-slice-read-t26
     returns)

@@ -1,9 +1,11 @@
 -- `field_series::open_with_series` meets its contract: zeros beside a refusal, the field with its series beside 0.
-use mathlib.Core.Path.{subst}
+use mathlib.Core.Path.{refl, ap}
 use native.Mathlib.Omega.{arith}
 use borrow.Author.Needs.{needs}
-use Rattle.field_open.specs.Refusal.{Refusal}
-use Rattle.field_open.proofs.Accept.{accepted}
+use Rattle.field_open.proofs.Door.{door-refused, door-goes}
+use Rattle.field_open.proofs.Opening.{opens-number, opens-nothing, opens-held}
+use Rattle.field_series.specs.declared.Cubic.{Cubic}
+use Rattle.field_series.specs.declared.Expanded.{Expanded}
 use Rattle.field_series.proofs.open_with_series.Statement.{statement}
 use Rattle.field_series.proofs.open_with_series.Tie as tie
 use Rattle.field_series.proofs.open_with_series.Reads as reads
@@ -16,26 +18,18 @@ open-requires : tie.Need-open-requires
 open-requires c κs = search needs
 
 no-cubic-requires : tie.Need-no-cubic-requires
-no-cubic-requires c κs = c .before .before .open .ensures .zeros (c .if1 .taken)
+no-cubic-requires c κs = opens-nothing (c .before .before .open .ensures) (c .if1 .taken)
 
 returns : tie.Need-returns
-returns c = record {
-  number = c .before .before .before .open .ensures .number;
-  zeros = λ f. c .no-cubic .ensures;
-  opened = λ e. absurd (c .before .if1 .taken e);
-}
+returns c =
+    let o = c .before .before .before .open in
+    door-refused (opens-number (o .ensures)) (c .before .if1 .taken) (ap {B = Expanded} (λ (k : Cubic). record { refusal = o .result .refusal; cubic = k }) (c .no-cubic .ensures))
 
 with-series-requires : tie.Need-with-series-requires
-with-series-requires c κs =
-    let o = c .before .before .open .ensures in
-    record { accepted = accepted _ _ _ (subst (Refusal _ _ _) (omega arith) (o .number)); held = o .opened (omega arith) }
+with-series-requires c κs = let (A, h) = opens-held (c .before .before .open .ensures) (omega arith) in record { accepted = A; held = h }
 
 returns-2 : tie.Need-returns-2
-returns-2 c = record {
-  number = subst (Refusal _ _ _) (omega arith) (c .before .before .before .open .ensures .number);
-  zeros = λ f. absurd (omega arith);
-  opened = λ e. c .with-series .ensures;
-}
+returns-2 c = door-goes (opens-number (c .before .before .before .open .ensures)) (omega arith) (refl, c .with-series .ensures)
 
 pub open-with-series-spec : {M : Type 1} → statement M
 open-with-series-spec =

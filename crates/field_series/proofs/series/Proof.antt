@@ -12,7 +12,7 @@ use Rattle.field_series.proofs.series.Tie as tie
 use Rattle.field_series.proofs.series.Reads as reads
 use Rattle.field_series.proofs.series.Lts as lts
 use Rattle.field_open.proofs.refusal.Reads as refusal-reads
-use Rattle.field_series.proofs.grow.Reads as grow-reads
+use Rattle.field_fill.proofs.grow.Reads as grow-reads
 
 refusal-requires : tie.Need-refusal-requires
 refusal-requires c κs = search needs
@@ -21,10 +21,10 @@ returns : tie.Need-returns
 returns c = refused (c .before .refusal .ensures) (c .if1 .taken)
 
 returns-2 : tie.Need-returns-2
-returns-2 c = wrong (subst (Refusal _ _ _) (omega arith) (c .before .before .refusal .ensures)) (λ f. c .if2 .taken (f .even))
+returns-2 c = wrong (c .before .before .refusal .ensures) (omega arith) (λ f. c .if2 .taken (f .even))
 
 returns-3 : tie.Need-returns-3
-returns-3 c = wrong (subst (Refusal _ _ _) (omega arith) (c .before .before .before .refusal .ensures)) (λ f. omega (arith, f .short, c .if3 .taken))
+returns-3 c = wrong (c .before .before .before .refusal .ensures) (omega arith) (λ f. omega (arith, f .short, c .if3 .taken))
 
 grow-requires : tie.Need-grow-requires
 grow-requires c κs = record {
@@ -42,7 +42,7 @@ same-length-2 c = search needs
 returns-4 : tie.Need-returns-4
 returns-4 c =
     let a = c .before .before .before .before .before .before .before .before .before .before in
-    done (subst (Refusal _ _ _) (omega arith) (a .refusal .ensures)) (record { even = omega arith; short = omega arith }) (c .before .before .before .before .grow .ensures)
+    done (a .refusal .ensures) (omega arith) (record { even = omega arith; short = omega arith }) (c .before .before .before .before .grow .ensures)
 
 pub series-spec : {M : Type 1} → statement M
 series-spec =

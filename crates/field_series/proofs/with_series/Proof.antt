@@ -9,7 +9,7 @@ use Rattle.field_series.proofs.with_series.Statement.{statement}
 use Rattle.field_series.proofs.with_series.Tie as tie
 use Rattle.field_series.proofs.with_series.Reads as reads
 use Rattle.field_series.proofs.with_series.Lts as lts
-use Rattle.field_series.proofs.grow.Reads as grow-reads
+use Rattle.field_fill.proofs.grow.Reads as grow-reads
 use Rattle.field_series.proofs.widened.Reads as widened-reads
 
 -- the same lists

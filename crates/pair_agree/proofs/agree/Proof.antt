@@ -4,7 +4,7 @@ use Prim.Native.Nat.{ℕ, _≤_, _<_, _-_, _*_, _%_}
 use native.Mathlib.Omega.{arith}
 use lib.ListN.{length, getD}
 use borrow.Author.Count.{below-more}
-use Rattle.book_bytes.proofs.Tests.{answer-yes, answer-no}
+use Rattle.base_answers.proofs.Tests.{answer-yes, answer-no}
 use Rattle.pair_agree.proofs.Agreeing.{some-in, entries-in, product-fits, long-no, entry-no, agree-yes}
 use Rattle.pair_agree.proofs.agree.Statement.{statement}
 use Rattle.pair_agree.proofs.agree.Tie as tie

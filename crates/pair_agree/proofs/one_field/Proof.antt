@@ -1,6 +1,6 @@
 -- `pair_agree::one_field` meets its contract.
 use borrow.Author.Needs.{needs}
-use Rattle.book_bytes.proofs.Tests.{answer-yes, answer-no}
+use Rattle.base_answers.proofs.Tests.{answer-yes, answer-no}
 use Rattle.pair_agree.proofs.Outcomes.{straight-one, swapped-one, apart-none}
 use Rattle.pair_agree.proofs.one_field.Statement.{statement}
 use Rattle.pair_agree.proofs.one_field.Tie as tie

@@ -1,0 +1,16 @@
+-- Answers of tests: how one is given, and that the statement settles it.
+use mathlib.Core.Path.{_≡_, refl, sym}
+use mathlib.Core.Bool.{Bool, true, false, true≢false}
+use Rattle.base_answers.specs.Decides.{Decides}
+
+pub answer-yes : {A : Type 0} → A → Decides true A
+answer-yes a = record { yes! = λ e. a; no! = λ e. absurd (true≢false e) }
+
+pub answer-no : {A : Type 0} → (A → ⊥) → Decides false A
+answer-no f = record { yes! = λ e. absurd (true≢false (sym e)); no! = λ e. f }
+
+pub settled : (r s : Bool) (A : Type 0) → Decides r A → Decides s A → r ≡ s
+settled true true A d e = refl
+settled false false A d e = refl
+settled true false A d e = absurd (e .no! refl (d .yes! refl))
+settled false true A d e = absurd (d .no! refl (e .yes! refl))

@@ -1,0 +1,4 @@
+pub mod Decides
+pub mod Said
+pub mod Stage
+pub mod Limits

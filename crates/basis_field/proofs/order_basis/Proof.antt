@@ -1,0 +1,26 @@
+-- `basis_field::order_basis` meets its contract: the reduction of r and w.
+use Prim.Native.Nat.{_≤_, _+_}
+use native.Mathlib.Omega.{arith}
+use borrow.Author.Needs.{needs}
+use Rattle.basis_field.proofs.Ground.{room}
+use Rattle.basis_field.proofs.First.{first-in, is-first}
+use Rattle.basis_field.proofs.order_basis.Statement.{statement}
+use Rattle.basis_field.proofs.order_basis.Tie as tie
+use Rattle.basis_field.proofs.order_basis.Reads as reads
+use Rattle.basis_field.proofs.order_basis.Lts as lts
+use Rattle.basis_scale.proofs.order.Reads as order-reads
+
+add-t6 : tie.Need-add-t6
+add-t6 c = let e = room (c .before .before .before .before .pre) in record { fits = omega (arith, e) }
+
+add-t7 : tie.Need-add-t7
+add-t7 c = let e = room (c .before .before .before .before .pre) in record { fits = omega (arith, e) }
+
+order-requires : tie.Need-order-requires
+order-requires c κs = let k = c .before .before .before .before .before .before .pre in first-in (k .accepted) _ (k .prefix)
+
+returns : tie.Need-returns
+returns c = is-first _ _ (c .order .ensures)
+
+pub order-basis-spec : {M : Type 1} → statement M
+order-basis-spec = tie.close (tie.spec add-t6 add-t7 order-requires returns)

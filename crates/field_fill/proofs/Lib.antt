@@ -1,0 +1,6 @@
+pub mod Sums
+pub mod Step
+pub mod Filling
+pub mod Top
+pub mod Leads
+pub mod Growing

@@ -1,0 +1,42 @@
+-- `make`, from its three parts.
+--   make-start, make-product, make-finish   what the parts ask
+--   making                                  what they hand out together
+use mathlib.Core.Path.{_≡_, sym, ap, _∙_}
+use mathlib.Core.List.{List}
+use Prim.Native.Nat.{ℕ, _*_, _-_, _<_, _≤_}
+use native.Mathlib.Omega.{arith}
+use lib.ListN.{length, replicate, length-set, length-replicate}
+use Rattle.field_series.specs.declared.Cubic.{Cubic}
+use Rattle.unit_make.specs.Making.{Along, StartIn, Starts, ProductIn, ProductOf, FinishIn, Finishes, MakeIn, Making}
+use Rattle.unit_make.proofs.Passing.{begun, along-start}
+use Rattle.unit_make.proofs.Stepping.{blank-as}
+
+module _ (f : Cubic) (B : List ℕ) (l d c : ℕ) (rows s : List ℕ) where
+  pub make-start : MakeIn f B l d c rows s → StartIn rows
+  make-start t = let w : length rows ≡ 6 * c = t .whole in let r : d < c = t .task .room in record { some = omega arith }
+
+  module _ (rows₁ s₁ : List ℕ) (a : Starts rows s rows₁ s₁) where
+    pub make-product : MakeIn f B l d c rows s → ProductIn f c B l rows₁ s₁
+    make-product t = let k = t .task .known in
+        let (x, y) = blank-as s s₁ (a .blank) in
+        let h : Along (k .p) (k .G) (k .H) B c 0 0 B rows₁ = along-start (k .p) (k .G) (k .H) B (t .task .is-first) c (let q : 5 ≤ k .p = k .accepted .low in omega arith) (let r : d < c = t .task .room in omega arith) rows₁ (a .one ∙ ap begun (t .whole)) in
+        record { d = d; task = t .task; along = h; even = y ∙ t .even ∙ t .whole ∙ sym (h .whole); blank = x }
+
+    module _ (rows₂ s₂ : List ℕ) (b : ProductOf f c B l rows₁ s₁ rows₂ s₂) where
+      pub make-finish : MakeIn f B l d c rows s → FinishIn f c d rows₂ s₂
+      unfolding make-product
+      make-finish t = record {
+        B = B;
+        l = l;
+        task = t .task;
+        along = b .goes (make-product t);
+        even = blank-as s₁ s₂ (b .blank) .1 ∙ make-product t .even ∙ sym (b .size);
+      }
+
+      pub making : (rows₃ s₃ : List ℕ) → Finishes f c d rows₂ s₂ rows₃ s₃ → Making f B l d c rows s rows₃ s₃
+      unfolding make-finish
+      making rows₃ s₃ e = record {
+        size = e .size ∙ b .size ∙ ap length (a .one) ∙ length-set (replicate (length rows) 0) 0 1 ∙ length-replicate (length rows) 0;
+        blank = e .blank ∙ ap (λ k. replicate k 0) (blank-as s₁ s₂ (b .blank) .1 ∙ blank-as s s₁ (a .blank) .1);
+        goes = λ t. e .goes (make-finish t);
+      }

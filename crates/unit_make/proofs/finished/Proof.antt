@@ -1,0 +1,51 @@
+-- `finished` meets its contract: proofs/Finishing.antt.
+use Prim.Native.Nat.{_≤_, _<_, _-_}
+use mathlib.Core.Path.{_∙_, ap, refl}
+use native.Mathlib.Omega.{arith}
+use lib.ListN.{length, length-replicate}
+use Rattle.unit_make.proofs.Finishing.{monic-in, inverse-in, finishes}
+use Rattle.unit_make.proofs.finished.Statement.{statement}
+use Rattle.unit_make.proofs.finished.Tie as tie
+
+add-monic : tie.Need-add-monic
+add-monic c =
+    let a = c .before .before .before .args in
+    let l : (a .d) < (a .c) = c .before .before .before .pre .task .room in let m : (a .c) ≤ 4096 = c .before .before .before .pre .task .most in omega arith
+
+monic-requires : tie.Need-monic-requires
+monic-requires c κs =
+    let a = c .before .before .before .before .args in
+    monic-in (a .f) (a .c) (a .d) (a .rows .now) (a .s .now) (c .before .before .before .before .pre)
+
+add-inverted : tie.Need-add-inverted
+add-inverted c =
+    let a = c .before .before .before .before .before .before .before .args in
+    let l : (a .d) < (a .c) = c .before .before .before .before .before .before .before .pre .task .room in let m : (a .c) ≤ 4096 = c .before .before .before .before .before .before .before .pre .task .most in omega arith
+
+inverted-requires : tie.Need-inverted-requires
+inverted-requires c κs =
+    let a = c .before .before .before .before .before .before .before .before .before .args in
+    inverse-in (a .f) (a .c) (a .d) (a .rows .now) (a .s .now) (c .before .before .before .before .before .before .before .before .before .pre) _ (c .before .before .before .before .monic .ensures) _ refl
+
+same-length : tie.Need-same-length
+same-length c = c .before .before .before .before .inverted .ensures .size ∙ c .before .before .before .before .before .before .before .before .before .monic .ensures .size
+
+same-length-2 : tie.Need-same-length-2
+same-length-2 c = ap length (c .before .before .before .before .inverted .ensures .blank) ∙ length-replicate (length (c .before .before .before .before .before .before .before .before .before .before .before .before .before .before .args .s .now)) 0
+
+returns : tie.Need-returns
+returns c =
+    let a = c .before .before .before .before .before .before .before .before .before .before .before .before .before .before .args in
+    finishes (a .f) (a .c) (a .d) (a .rows .now) (a .s .now) _ _ _ (c .before .before .before .before .before .before .before .before .before .monic .ensures) (c .before .before .before .before .inverted .ensures)
+
+pub finished-spec : {M : Type 1} → statement M
+finished-spec =
+    tie.close
+    (tie.spec
+    add-monic
+    monic-requires
+    add-inverted
+    inverted-requires
+    same-length
+    same-length-2
+    returns)
