@@ -24,8 +24,8 @@ module _ {p : ℕ} {G H : List ℕ} (A : Accepted p G H) (c : Cubic) (h : Prefix
   first-in =
       let s : A .degG + A .degH ≤ 16 = A .sum in
       let e : c .field .dr + c .field .dw ≡ A .degG + A .degH = degrees A c h in
-      let er : setting A .dr ≡ c .field .dr = dr-is A c h in
-      let ew : setting A .dw ≡ c .field .dw = dw-is A c h in
+      let er : setting A .roots .dr ≡ c .field .dr = dr-is A c h in
+      let ew : setting A .roots .dw ≡ c .field .dw = dw-is A c h in
       subst (λ F. OrderIn F (c .field .dr + c .field .dw + 1)) (frame-is A c h)
       (record { fine = fine A c h; small = A .high; odd = odd A c h; top-is = omega arith; fits = omega arith; some = meaningOf A c h })
 
