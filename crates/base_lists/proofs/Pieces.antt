@@ -1,0 +1,47 @@
+-- Pieces of a list.
+--   piece-length, piece-at   how long a piece is, and what stands in it
+--   piece-cut                inside the list a piece and a cut are the same
+--   cut-same                 a cut is settled by its numbers
+--   drop-take                what is behind a front's first numbers
+use mathlib.Core.Path.{_≡_, refl, sym, ap, _∙_}
+use mathlib.Core.List.{List, [], _∷_}
+use Prim.Native.Nat.{ℕ, zero, suc, _+_, _-_, _<_, _≤_}
+use native.Mathlib.Omega.{arith}
+use lib.ListN.{length, getD, take, drop, length-drop}
+use lib.Seq.{ext-getD, getD-take, getD-drop, length-take-le, take-nil, take-all, take-length}
+use Rattle.base_lists.specs.Pieces.{piece, tab, cut}
+use Rattle.base_lists.proofs.Tabs.{length-tab, at-tab}
+
+pub piece-length : (at n : ℕ) (l : List ℕ) → at + n ≤ length l → length (piece at n l) ≡ n
+piece-length at n l h = length-take-le n (drop at l) (let e : length (drop at l) ≡ length l - at = length-drop at l in omega arith)
+
+pub piece-at : (at n : ℕ) (l : List ℕ) (i : ℕ) → i < n → getD (piece at n l) i 0 ≡ getD l (at + i) 0
+piece-at at n l i h = getD-take n (drop at l) i 0 h ∙ getD-drop at l i 0
+
+pub length-cut : (at n : ℕ) (l : List ℕ) → length (cut at n l) ≡ n
+length-cut at n l = length-tab n (λ i. getD l (at + i) 0)
+
+pub cut-at : (at n : ℕ) (l : List ℕ) (i : ℕ) → i < n → getD (cut at n l) i 0 ≡ getD l (at + i) 0
+cut-at at n l i h = at-tab n (λ i. getD l (at + i) 0) i h
+
+pub piece-cut : (at n : ℕ) (l : List ℕ) → at + n ≤ length l → piece at n l ≡ cut at n l
+piece-cut at n l h =
+    let s : length (piece at n l) ≡ n = piece-length at n l h in
+    ext-getD 0 (piece at n l) (cut at n l) (s ∙ sym (length-cut at n l))
+    (λ i u. let v : i < n = omega arith in piece-at at n l i v ∙ sym (cut-at at n l i v))
+
+pub cut-same : (at n : ℕ) (s z : List ℕ) → ((i : ℕ) → i < n → getD s (at + i) 0 ≡ getD z (at + i) 0) → cut at n s ≡ cut at n z
+cut-same at n s z h =
+    let e : length (cut at n s) ≡ n = length-cut at n s in
+    ext-getD 0 (cut at n s) (cut at n z) (e ∙ sym (length-cut at n z))
+    (λ i u. let v : i < n = omega arith in cut-at at n s i v ∙ h i v ∙ sym (cut-at at n z i v))
+
+pub drop-take : (m n : ℕ) (d : List ℕ) → drop m (take n d) ≡ piece m (n - m) d
+drop-take zero n d = ap (λ (k : ℕ). take k d) (let e : n ≡ n - 0 = omega arith in e)
+drop-take (suc m) zero d = let e : 0 - suc m ≡ 0 = omega arith in rw e refl
+drop-take (suc m) (suc n) [] = let e : suc n - suc m ≡ n - m = omega arith in rw e (sym (take-nil (n - m)))
+drop-take (suc m) (suc n) (x ∷ d) = let e : suc n - suc m ≡ n - m = omega arith in rw e (drop-take m n d)
+
+-- a loop has passed all of s, number by number
+pub take-whole : (s : List ℕ) (i n : ℕ) → length s ≡ n → i ≤ n → n ≤ i → (i ≡ n) × (take i s ≡ s)
+take-whole s i n e h k = let q : i ≡ n = omega arith in (q, take-all i s (omega arith))
