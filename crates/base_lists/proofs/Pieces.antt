@@ -1,6 +1,7 @@
 -- Pieces of a list.
 --   piece-length, piece-at   how long a piece is, and what stands in it
 --   piece-cut                inside the list a piece and a cut are the same
+--   between-length, between-cut   the same for the numbers between two places
 --   cut-same                 a cut is settled by its numbers
 --   drop-take                what is behind a front's first numbers
 use mathlib.Core.Path.{_≡_, refl, sym, ap, _∙_}
@@ -8,8 +9,8 @@ use mathlib.Core.List.{List, [], _∷_}
 use Prim.Native.Nat.{ℕ, zero, suc, _+_, _-_, _<_, _≤_}
 use native.Mathlib.Omega.{arith}
 use lib.ListN.{length, getD, take, drop, length-drop}
-use lib.Seq.{ext-getD, getD-take, getD-drop, length-take-le, take-nil, take-all, take-length}
-use Rattle.base_lists.specs.Pieces.{piece, tab, cut}
+use lib.Seq.{ext-getD, getD-take, getD-drop, length-take-le, take-nil}
+use Rattle.base_lists.specs.Pieces.{piece, between, tab, cut}
 use Rattle.base_lists.proofs.Tabs.{length-tab, at-tab}
 
 pub piece-length : (at n : ℕ) (l : List ℕ) → at + n ≤ length l → length (piece at n l) ≡ n
@@ -30,6 +31,12 @@ piece-cut at n l h =
     ext-getD 0 (piece at n l) (cut at n l) (s ∙ sym (length-cut at n l))
     (λ i u. let v : i < n = omega arith in piece-at at n l i v ∙ sym (cut-at at n l i v))
 
+pub between-length : (f t : ℕ) (l : List ℕ) → f ≤ t → t ≤ length l → length (between f t l) ≡ t - f
+between-length f t l a b = piece-length f (t - f) l (omega arith)
+
+pub between-cut : (f t : ℕ) (l : List ℕ) → f ≤ t → t ≤ length l → between f t l ≡ cut f (t - f) l
+between-cut f t l a b = piece-cut f (t - f) l (omega arith)
+
 pub cut-same : (at n : ℕ) (s z : List ℕ) → ((i : ℕ) → i < n → getD s (at + i) 0 ≡ getD z (at + i) 0) → cut at n s ≡ cut at n z
 cut-same at n s z h =
     let e : length (cut at n s) ≡ n = length-cut at n s in
@@ -41,7 +48,3 @@ drop-take zero n d = ap (λ (k : ℕ). take k d) (let e : n ≡ n - 0 = omega ar
 drop-take (suc m) zero d = let e : 0 - suc m ≡ 0 = omega arith in rw e refl
 drop-take (suc m) (suc n) [] = let e : suc n - suc m ≡ n - m = omega arith in rw e (sym (take-nil (n - m)))
 drop-take (suc m) (suc n) (x ∷ d) = let e : suc n - suc m ≡ n - m = omega arith in rw e (drop-take m n d)
-
--- a loop has passed all of s, number by number
-pub take-whole : (s : List ℕ) (i n : ℕ) → length s ≡ n → i ≤ n → n ≤ i → (i ≡ n) × (take i s ≡ s)
-take-whole s i n e h k = let q : i ≡ n = omega arith in (q, take-all i s (omega arith))

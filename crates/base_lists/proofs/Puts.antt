@@ -2,10 +2,11 @@
 --   sets-append, sets-out   one piece behind another is the two joined; past the list's end nothing is put
 --   put-before, put-inside, put-after   what stands before the piece, in it, and behind it
 --   take-put, drop-put      the same of whole parts
---   Around, around          the same, number by number, for a piece of k numbers
+--   Around, around          the same, number by number, for a piece of k numbers; around-cut: the piece is what stands there
 --   put-back                what stands in a slice after a part of it was lent
 --   placed-none, placed-then, placed-more, placed-all   pieces placed one after the other, number by number
 --   placed-same             the list keeps its length; placed-unique: two outcomes are equal
+--   put-in, put-out, put-then, put-more, put-fits   the same for places counted to the list's end
 --   written, written-none, written-then, written-more, written-all, written-unique   the same where there is room
 --   front-is, front-count   what was written at the front is read there
 use mathlib.Core.Path.{_≡_, refl, sym, ap, ap₂, _∙_, subst}
@@ -16,8 +17,9 @@ use native.Mathlib.Decide.{decLe}
 use native.Mathlib.Omega.{arith}
 use native.Mathlib.Numerals.{add-one}
 use lib.ListN.{length, getD, take, drop, set, length-append, length-set}
-use lib.Seq.{sets, length-sets, sets-eq, set-out, set-comm, getD-set-same, getD-set-other, take-set-le, drop-set-lt, take-suc, take-all, take-at, drop-drop}
-use Rattle.base_lists.specs.Pieces.{Put, Placed, Written}
+use lib.Seq.{sets, length-sets, sets-eq, set-out, set-comm, getD-set-same, getD-set-other, take-set-le, drop-set-lt, take-suc, take-all, take-at, drop-drop, ext-getD}
+use Rattle.base_lists.specs.Pieces.{cut, With, Placed, Put, Written}
+use Rattle.base_lists.proofs.Pieces.{length-cut, cut-at}
 
 -- ---- a run of numbers
 pub sets-append : (d : List ℕ) (i : ℕ) (x y : List ℕ) → sets (sets d i x) (i + length x) y ≡ sets d i (x ++ y)
@@ -71,7 +73,7 @@ pub record Around (a k : ℕ) (xs ys z : List ℕ) : Type 0 where
   pub inside : (i : ℕ) → i < k → getD z (a + i) 0 ≡ getD ys i 0
   pub after : (i : ℕ) → a + k ≤ i → getD z i 0 ≡ getD xs i 0
 
-pub around : {a k : ℕ} {xs ys z : List ℕ} → a + k ≤ length xs → length ys ≡ k → Put xs a ys z → Around a k xs ys z
+pub around : {a k : ℕ} {xs ys z : List ℕ} → a + k ≤ length xs → length ys ≡ k → With xs a ys z → Around a k xs ys z
 around {a} {k} {xs} {ys} {z} l e q = record {
   size = ap length q ∙ length-sets xs a ys;
   before = λ i u. ap (λ w. getD w i 0) q ∙ put-before xs a i ys u;
@@ -84,6 +86,11 @@ put-back a k xs ys l e =
     around l e
     (sym (sets-eq ys xs a (omega arith) ∙ append-assoc (take a xs) ys (drop (a + length ys) xs)
     ∙ ap (λ z. take a xs ++ (ys ++ z)) (ap (λ n. drop (a + n) xs) e ∙ sym (drop-drop k a xs))))
+
+pub around-cut : {a k : ℕ} {xs ys z : List ℕ} → Around a k xs ys z → length ys ≡ k → cut a k z ≡ ys
+around-cut {a} {k} {xs} {ys} {z} h e =
+    let s : length (cut a k z) ≡ k = length-cut a k z in
+    ext-getD 0 (cut a k z) ys (s ∙ sym e) (λ i u. let v : i < k = omega arith in cut-at a k z i v ∙ h .inside i v)
 
 -- ---- places counted up to n
 pub placed-none : (n : ℕ) (d : List ℕ) (at : ℕ) → Placed n d at [] at d
@@ -102,7 +109,7 @@ module _ (n : ℕ) (d : List ℕ) (at : ℕ) (x : List ℕ) (r : ℕ) (d' : List
       let w : q ≡ max at (min (at + length (x ++ y)) n) = omega arith in
       w
 
-  then-bytes : Put d at (x ++ y) e
+  then-bytes : With d at (x ++ y) e
   then-bytes =
       b .done
       ∙ ap (λ (z : List ℕ). sets z r y) (a .done)
@@ -135,6 +142,32 @@ placed-all s i h a = rw (take-all i s) at a
 pub placed-unique : {n : ℕ} {d : List ℕ} {at : ℕ} {x : List ℕ} {r q : ℕ} {d' e : List ℕ} → Placed n d at x r d' → Placed n d at x q e
     → (r ≡ q) × (d' ≡ e)
 placed-unique a b = (a .next ∙ sym (b .next), a .done ∙ sym (b .done))
+
+-- ---- places counted to the slice's end
+pub put-in : (d : List ℕ) (at b : ℕ) → at < length d → Put d at (b ∷ []) (at + 1) (set d at b)
+put-in d at b h = record { next = (let e : at + 1 ≡ max at (min (at + 1) (length d)) = omega arith in e); done = refl }
+
+pub put-out : (d : List ℕ) (at b : ℕ) → length d ≤ at → Put d at (b ∷ []) at d
+put-out d at b h =
+    record {
+      next = (let e : at ≡ max at (min (at + 1) (length d)) = omega arith in e);
+      done = sym (set-out d at b h);
+    }
+
+again : {d : List ℕ} {at : ℕ} {x : List ℕ} {r : ℕ} {d' : List ℕ} (y : List ℕ) (q : ℕ) (e : List ℕ) → Put d at x r d' → Put d' r y q e → Placed (length d) d' r y q e
+again {r = r} {d'} y q e a b = subst (λ (n : ℕ). Placed n d' r y q e) (placed-same a) b
+
+pub put-then : (d : List ℕ) (at : ℕ) (x : List ℕ) (r : ℕ) (d' : List ℕ) (y : List ℕ) (q : ℕ) (e : List ℕ) → Put d at x r d' → Put d' r y q e → Put d at (x ++ y) q e
+put-then d at x r d' y q e a b = placed-then (length d) d at x r d' y q e (omega arith) a (again y q e a b)
+
+pub put-more : (s : List ℕ) (i : ℕ) {d : List ℕ} {at r : ℕ} {d' : List ℕ} {q : ℕ} {e : List ℕ} → i < length s
+    → Put d at (take i s) r d' → Put d' r (getD s i 0 ∷ []) q e → Put d at (take (i + 1) s) q e
+put-more s i {d} {q = q} {e} h a b = placed-more (length d) s i (omega arith) h a (again (getD s i 0 ∷ []) q e a b)
+
+pub put-fits : {d : List ℕ} {at : ℕ} {x : List ℕ} {r : ℕ} {d' : List ℕ} → Put d at x r d' → at + length x ≤ length d
+    → (r ≡ at + length x) × (d' ≡ take at d ++ x ++ drop (at + length x) d)
+put-fits {d} {at} {x} {r} q h =
+    (let u : r ≡ max at (min (at + length x) (length d)) = q .next in omega arith, q .done ∙ sets-eq x d at h)
 
 -- ---- pieces for which there is room
 pub written : (d : List ℕ) (at : ℕ) (x : List ℕ) (k : ℕ) → length x ≡ k → Written d at x k (at + k) (sets d at x)

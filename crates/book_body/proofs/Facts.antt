@@ -1,12 +1,13 @@
 -- The code's tests against the definitions: the rule of an E list, the body rule; and a list read out.
 use mathlib.Core.Path.{_≡_, sym, ap, _∙_, subst}
 use mathlib.Core.Bool.{Bool}
-use mathlib.Core.List.{List, _++_}
-use Prim.Native.Nat.{ℕ, _+_, _-_, _*_, _<_, _≤_}
+use mathlib.Core.List.{List}
+use Prim.Native.Nat.{ℕ, suc, _+_, _-_, _*_, _<_, _≤_}
 use native.Mathlib.Omega.{arith}
-use lib.ListN.{length, getD, take, drop}
-use lib.Seq.{sets-eq, take-at}
-use Rattle.book_bytes.specs.Bytes.{u2, u4, Put}
+use lib.ListN.{length, getD, take}
+use Rattle.base_lists.specs.Pieces.{Written}
+use Rattle.base_lists.proofs.Puts.{front-long, front-whole, front-is}
+use Rattle.book_bytes.specs.Bytes.{u2, u4}
 use Rattle.book_bytes.specs.Decides.{Decides}
 use Rattle.book_bytes.proofs.Lists.{length-list}
 use Rattle.book_body.specs.Body.{UnitList, First, FirstList, listStart, listAt, bodyOf, Formed}
@@ -19,7 +20,7 @@ row-short s k n p m e r = let a : length (listAt s k) ≤ 4096 = r .short in let
 
 -- ---- the rule of E0
 pub first-some : (s : List ℕ) (p : ℕ) → UnitList p (listAt s 2) → 0 < u2 s 6
-first-some s p r = let a : 0 < length (listAt s 2) = r .some in let b : length (listAt s 2) ≡ u2 s 6 = length-list 16 2 s 2 in omega arith
+first-some s p r = let a : length (listAt s 2) ≡ suc (length (listAt s 2) - 1) = r .whole in let b : length (listAt s 2) ≡ u2 s 6 = length-list 16 2 s 2 in omega arith
 
 pub first-decided : (s : List ℕ) (n top : ℕ) (b : Bool) → n ≡ u2 s 6 → top ≡ getD (listAt s 2) (n - 1) 0 → Decides b (First n top) → Decides b (FirstList (listAt s 2))
 first-decided s n top b e f w =
@@ -69,23 +70,7 @@ module _ (s : List ℕ) where
       }
 
 -- ---- a list read out
--- x stands at the front of the slice d, which is d' then
-module _ {d d' x : List ℕ} {n r : ℕ} (q : Put d 0 x n r d') (h : n ≤ length d) where
-  front-long : length x ≡ r
-  front-long = omega (arith, q .size, q .next)
-
-  front-whole : d' ≡ x ++ drop (length x) d
-  front-whole =
-      let z : 0 + length x ≡ length x = omega arith in
-      q .done ∙ sets-eq x d 0 (omega (arith, q .size)) ∙ ap (λ (j : ℕ). x ++ drop j d) z
-
-  pub front-is : take r d' ≡ x
-  front-is = ap (take r) front-whole ∙ take-at x (drop (length x) d) r front-long
-
-  pub front-count : r ≡ length (take r d')
-  front-count = sym (ap length front-is ∙ front-long)
-
-module _ (s : List ℕ) (k : ℕ) (d d' : List ℕ) (r : ℕ) (h : u2 s (2 + 2 * k) ≤ length d) (q : Put d 0 (listAt s k) (u2 s (2 + 2 * k)) r d') where
+module _ (s : List ℕ) (k : ℕ) (d d' : List ℕ) (r : ℕ) (h : u2 s (2 + 2 * k) ≤ length d) (q : Written d 0 (listAt s k) (u2 s (2 + 2 * k)) r d') where
   pub row-decided : (p : ℕ) (b : Bool) → p ≡ u2 s 0 → Decides b (UnitList p (take r d')) → Decides b (UnitList (u2 s 0) (listAt s k))
   row-decided p b e w = subst (λ (x : ℕ). Decides b (UnitList x (listAt s k))) e (subst (λ (l : List ℕ). Decides b (UnitList p l)) (front-is q h) w)
 

@@ -13,6 +13,9 @@ pub const HEAD: usize = 16;
 
 pub const LENGTHS: usize = 2;
 
+// The most coefficients of an E list.
+const LONGEST: usize = 4096;
+
 // The answer to reading a list: its length; there is no such list (14); too little room (11).
 pub enum Got {
     Length(usize),
@@ -24,26 +27,7 @@ pub enum Got {
 pub fn unit_list(p: u64, l: &[u64]) -> bool
     ensures { λ r. ⌜ Decides r (UnitList p (now (l .entry))) ⌝ }
 {
-    let n = l.len();
-    if n == 0 {
-        return false;
-    }
-    if n > 4096 {
-        return false;
-    }
-    let top = l[n - 1];
-    if top == 0 {
-        return false;
-    }
-    let mut i: usize = 0;
-    while i < n {
-        let v = l[i];
-        if v >= p {
-            return false;
-        }
-        i += 1;
-    }
-    true
+    base_lists::list_length(LONGEST, p, l) != 0
 }
 
 // The same of list k of a body.
@@ -53,7 +37,7 @@ fn unit_at(s: &[u8], k: usize) -> bool
 {
     let p = book_bytes::two(s, 0);
     let n = book_bytes::two(s, LENGTHS + 2 * k);
-    if n > 4096 {
+    if n > LONGEST {
         return false;
     }
     let mut l: [u64; 4096] = [0; 4096];

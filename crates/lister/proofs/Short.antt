@@ -14,12 +14,13 @@ use Rattle.text_read.proofs.Writings.{Small, line-is-text, reads-below}
 use Rattle.math_rows.proofs.Floors.{sized}
 use Rattle.math_rows.proofs.Tab.{length-tab, at-tab}
 use Rattle.field_open.proofs.Stages.{numbered}
-use Rattle.unit_rows.specs.Six.{cut}
+use Rattle.base_lists.specs.Pieces.{cut}
 use Rattle.door_unit.specs.declared.Made.{Made}
 use Rattle.door_unit.specs.Unit.{Makes, Goes, bad, spent, narrow, made}
-use Rattle.lister_print.specs.Text.{trim, rows-text, unit-text, made-text}
+use Rattle.base_lists.specs.Coefficients.{trim}
+use Rattle.lister_print.specs.Text.{rows-text, unit-text, made-text}
 use Rattle.lister.specs.Listing.{budget, blank, room, Lists, malformed, read}
-use Rattle.lister_print.proofs.Trims.{trim-size}
+use Rattle.base_lists.proofs.Trims.{trim-size}
 use Rattle.lister_print.proofs.Prints.{made-unit, made-refused}
 
 -- ---- numbers and lists

@@ -5,7 +5,7 @@ use lib.ListN.{take}
 use lib.Seq.{length-take-le}
 use borrow.Author.Needs.{needs}
 use Rattle.book_body.specs.Body.{listAt}
-use Rattle.book_body.proofs.Facts.{front-is}
+use Rattle.base_lists.proofs.Puts.{front-is}
 use Rattle.book_body.proofs.Compare.{short-g, short-h, Lists, both-read, one-read}
 use Rattle.book_body.proofs.same_pair.Statement.{statement}
 use Rattle.book_body.proofs.same_pair.Tie as tie

@@ -4,7 +4,8 @@ use mathlib.Core.Path.{_≡_, refl}
 use native.Mathlib.Omega.{arith}
 use lib.ListN.{length, replicate}
 use Rattle.book_bytes.proofs.Tests.{answer-no}
-use Rattle.book_body.proofs.Facts.{row-short, front-count, row-decided}
+use Rattle.base_lists.proofs.Puts.{front-count}
+use Rattle.book_body.proofs.Facts.{row-short, row-decided}
 use borrow.Author.Needs.{needs}
 use Rattle.book_body.proofs.unit_at.Statement.{statement}
 use Rattle.book_body.proofs.unit_at.Tie as tie

@@ -2,14 +2,15 @@
 use Prim.Native.Nat.{_≤_, _-_, _*_}
 use native.Mathlib.Omega.{arith}
 use lib.ListN.{length, take}
-use Rattle.book_bytes.specs.Bytes.{words, Put}
+use Rattle.base_lists.specs.Pieces.{Written}
+use Rattle.book_bytes.specs.Bytes.{words}
 use Rattle.book_bytes.proofs.Write.{list-none, list-more, list-all}
 use borrow.Author.Needs.{needs}
 use Rattle.book_bytes.proofs.put_list.Statement.{statement}
 use Rattle.book_bytes.proofs.put_list.Tie as tie
 
 abbrev Inv-loop : tie.InvT-loop
-Inv-loop out₀ at l o₀ i₀ out o i = (i ≤ length l) × Put out₀ at (words (take i l)) (2 * i) o out
+Inv-loop out₀ at l o₀ i₀ out o i = (i ≤ length l) × Written out₀ at (words (take i l)) (2 * i) o out
 
 abbrev μ-loop : tie.MeasureT-loop
 μ-loop out₀ at l o₀ i₀ out o i = length l - i

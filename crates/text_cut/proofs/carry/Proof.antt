@@ -2,7 +2,7 @@
 use Prim.Native.Nat.{_≤_, _-_}
 use native.Mathlib.Omega.{arith}
 use lib.ListN.{length, take}
-use Rattle.text_put.proofs.Puts.{placed-none, placed-all, placed-same}
+use Rattle.base_lists.proofs.Puts.{placed-none, placed-all, placed-same}
 use Rattle.text_cut.specs.Tells.{Carried}
 use Rattle.text_cut.proofs.Keeps.{carried-more}
 use borrow.Author.Needs.{needs}

@@ -1,7 +1,7 @@
 -- `text_cut::cut` meets its contract.
 use native.Mathlib.Omega.{arith}
 use Rattle.text_put.specs.Print.{newline}
-use Rattle.text_put.proofs.Puts.{placed-same}
+use Rattle.base_lists.proofs.Puts.{placed-same}
 use Rattle.text_cut.proofs.Cuts.{end-le}
 use Rattle.text_cut.proofs.Steps.{carried-upTo, cut-nothing, cut-at}
 use borrow.Author.Needs.{needs}

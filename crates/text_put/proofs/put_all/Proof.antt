@@ -4,8 +4,9 @@ use Prim.Native.Nat.{ℕ, _≤_, _<_, _-_}
 use mathlib.Core.List.{List}
 use native.Mathlib.Omega.{arith}
 use lib.ListN.{length, take}
-use Rattle.text_put.specs.Print.{Put, list-text}
-use Rattle.text_put.proofs.Puts.{placed-same}
+use Rattle.base_lists.specs.Pieces.{Put}
+use Rattle.text_put.specs.Print.{list-text}
+use Rattle.base_lists.proofs.Puts.{placed-same}
 use Rattle.text_put.proofs.Texts.{list-none, list-first, list-more, list-all}
 use borrow.Author.Needs.{needs}
 use Rattle.text_put.proofs.put_all.Statement.{statement}

@@ -3,8 +3,8 @@ use Prim.Native.Nat.{_≤_, _-_}
 use native.Mathlib.Omega.{arith}
 use lib.ListN.{length, take}
 use borrow.Author.Needs.{needs}
-use Rattle.text_put.specs.Print.{Put}
-use Rattle.text_put.proofs.Puts.{placed-none, put-more, placed-all, placed-same}
+use Rattle.base_lists.specs.Pieces.{Put}
+use Rattle.base_lists.proofs.Puts.{placed-none, put-more, placed-all, placed-same}
 use Rattle.text_put.proofs.put_bytes.Statement.{statement}
 use Rattle.text_put.proofs.put_bytes.Tie as tie
 

@@ -1,6 +1,6 @@
 -- `text_put::put_refused` meets its contract.
 use mathlib.Core.Path.{_∙_}
-use Rattle.text_put.proofs.Puts.{placed-same}
+use Rattle.base_lists.proofs.Puts.{placed-same}
 use Rattle.text_put.proofs.Texts.{refused-put}
 use borrow.Author.Needs.{needs}
 use Rattle.text_put.proofs.put_refused.Statement.{statement}
