@@ -61,21 +61,21 @@ fn rule_of(p: u64, t: u64, a: &[u64], b: &[u64], c: &[u64]) -> bool
     if t > 1000000 {
         return false;
     }
-    let r0 = book_body::unit_list(p, a);
+    let r0 = book_rule::unit_list(p, a);
     if !r0 {
         return false;
     }
-    let r1 = book_body::unit_list(p, b);
+    let r1 = book_rule::unit_list(p, b);
     if !r1 {
         return false;
     }
-    let r2 = book_body::unit_list(p, c);
+    let r2 = book_rule::unit_list(p, c);
     if !r2 {
         return false;
     }
     let n = a.len();
     let top = a[n - 1];
-    let first = book_body::first_list(n, top);
+    let first = book_rule::first_list(n, top);
     if !first {
         return false;
     }

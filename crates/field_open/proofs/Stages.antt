@@ -8,6 +8,7 @@ use mathlib.Core.Logic.{_≢_, _⊎_, inl, inr}
 use mathlib.Core.List.{List}
 use Prim.Native.Nat.{ℕ, suc, _≤_}
 use native.Mathlib.Omega.{arith}
+use Rattle.base_lists.proofs.Coefs.{degree-unique}
 use Rattle.field_open.specs.Refusal.{Degree, Fault1, Fault2, Fault3, Fault4, Fault5, Fault6, Fault7, Fault8, Stage, Refusal}
 
 stage-one : (k : ℕ) (Fault : Type 0) (below : ℕ → Type 0) → ((m n : ℕ) → below m → below n → m ≡ n)
@@ -43,4 +44,4 @@ past f (inl a) = absurd (f (a .1))
 past f (inr a) = a
 
 pub degree-one : {p d e : ℕ} {l : List ℕ} → Degree p l d → Degree p l e → d ≡ e
-degree-one {p} {d} {e} {l} a b = let h : suc d ≡ suc e = sym (a .whole) ∙ b .whole in omega arith
+degree-one = degree-unique

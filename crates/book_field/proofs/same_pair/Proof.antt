@@ -1,14 +1,14 @@
--- `book_body::same_pair` meets its contract.
+-- `book_field::same_pair` meets its contract.
 use mathlib.Core.Path.{sym}
 use native.Mathlib.Omega.{arith}
 use lib.ListN.{take}
 use lib.Seq.{length-take-le}
 use borrow.Author.Needs.{needs}
 use Rattle.book_body.specs.Body.{listAt}
 use Rattle.base_lists.proofs.Puts.{front-is}
-use Rattle.book_body.proofs.Compare.{short-g, short-h, Lists, both-read, one-read}
-use Rattle.book_body.proofs.same_pair.Statement.{statement}
-use Rattle.book_body.proofs.same_pair.Tie as tie
+use Rattle.book_field.proofs.Compare.{short-g, short-h, Lists, both-read, one-read}
+use Rattle.book_field.proofs.same_pair.Statement.{statement}
+use Rattle.book_field.proofs.same_pair.Tie as tie
 
 two-requires : tie.Need-two-requires
 two-requires c κs = search needs

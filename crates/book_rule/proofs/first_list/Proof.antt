@@ -1,8 +1,8 @@
--- `book_body::first_list` meets its contract.
+-- `book_rule::first_list` meets its contract.
 use native.Mathlib.Omega.{arith}
 use Rattle.book_bytes.proofs.Tests.{answer-yes, answer-no}
-use Rattle.book_body.proofs.first_list.Statement.{statement}
-use Rattle.book_body.proofs.first_list.Tie as tie
+use Rattle.book_rule.proofs.first_list.Statement.{statement}
+use Rattle.book_rule.proofs.first_list.Tie as tie
 
 returns : tie.Need-returns
 returns c = answer-no (λ b. let z = b .three in omega arith)

@@ -1,11 +1,11 @@
--- `book_body::body_rule` meets its contract.
+-- `book_rule::body_rule` meets its contract.
 use borrow.Author.Tests.{not-true, not-false}
 use Rattle.book_bytes.proofs.Tests.{answer-yes, answer-no}
-use Rattle.book_body.proofs.Facts.{body-from, body-to, body-row0, body-row1, body-row2, body-first, body-yes, first-some}
+use Rattle.book_rule.proofs.Facts.{body-from, body-to, body-row0, body-row1, body-row2, body-first, body-yes, first-some}
 use native.Mathlib.Omega.{arith}
 use borrow.Author.Needs.{needs}
-use Rattle.book_body.proofs.body_rule.Statement.{statement}
-use Rattle.book_body.proofs.body_rule.Tie as tie
+use Rattle.book_rule.proofs.body_rule.Statement.{statement}
+use Rattle.book_rule.proofs.body_rule.Tie as tie
 
 start-requires : tie.Need-start-requires
 start-requires c κs = search needs

@@ -1,14 +1,14 @@
--- `book_body::unit_at` meets its contract.
+-- `book_rule::unit_at` meets its contract.
 use Prim.Native.Nat.{ℕ}
 use mathlib.Core.Path.{_≡_, refl}
 use native.Mathlib.Omega.{arith}
 use lib.ListN.{length, replicate}
 use Rattle.book_bytes.proofs.Tests.{answer-no}
 use Rattle.base_lists.proofs.Puts.{front-count}
-use Rattle.book_body.proofs.Facts.{row-short, row-decided}
+use Rattle.book_rule.proofs.Facts.{row-short, row-decided}
 use borrow.Author.Needs.{needs}
-use Rattle.book_body.proofs.unit_at.Statement.{statement}
-use Rattle.book_body.proofs.unit_at.Tie as tie
+use Rattle.book_rule.proofs.unit_at.Statement.{statement}
+use Rattle.book_rule.proofs.unit_at.Tie as tie
 
 two-requires : tie.Need-two-requires
 two-requires c κs = search needs

@@ -1,8 +1,8 @@
--- `book_body::first_at` meets its contract.
-use Rattle.book_body.proofs.Facts.{first-decided}
+-- `book_rule::first_at` meets its contract.
+use Rattle.book_rule.proofs.Facts.{first-decided}
 use borrow.Author.Needs.{needs}
-use Rattle.book_body.proofs.first_at.Statement.{statement}
-use Rattle.book_body.proofs.first_at.Tie as tie
+use Rattle.book_rule.proofs.first_at.Statement.{statement}
+use Rattle.book_rule.proofs.first_at.Tie as tie
 
 two-requires : tie.Need-two-requires
 two-requires c κs = search needs

@@ -1,13 +1,13 @@
--- `book_body::first_14` meets its contract.
+-- `book_field::first_14` meets its contract.
 use Rattle.math_rows.proofs.Tab.{Filled, filled-start, filled-more, filled-end}
 use Rattle.book_body.specs.Body.{listAt}
 use Prim.Native.Nat.{ℕ, _-_}
 use mathlib.Core.Path.{refl}
 use native.Mathlib.Omega.{arith}
 use lib.ListN.{getD}
 use borrow.Author.Needs.{needs}
-use Rattle.book_body.proofs.first_14.Statement.{statement}
-use Rattle.book_body.proofs.first_14.Tie as tie
+use Rattle.book_field.proofs.first_14.Statement.{statement}
+use Rattle.book_field.proofs.first_14.Tie as tie
 
 abbrev Inv-loop : tie.InvT-loop
 Inv-loop s k r₀ i₀ r i = Filled 14 (λ (x : ℕ). getD (listAt s k) x 0) r i

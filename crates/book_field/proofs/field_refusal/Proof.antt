@@ -1,15 +1,15 @@
--- `book_body::field_refusal` meets its contract.
-use Rattle.book_body.specs.Code.{Clipped}
+-- `book_field::field_refusal` meets its contract.
+use Rattle.book_field.specs.Code.{Clipped}
 use lib.Seq.{length-take-le}
 use Rattle.math_rows.proofs.Tab.{length-tab}
-use Rattle.book_body.proofs.Field.{field-says}
+use Rattle.book_field.proofs.Field.{field-says}
 use Prim.Native.Nat.{ℕ}
 use mathlib.Core.Path.{_≡_, _∙_, sym, ap, subst}
 use native.Mathlib.Omega.{arith}
 use lib.ListN.{length}
 use borrow.Author.Needs.{needs}
-use Rattle.book_body.proofs.field_refusal.Statement.{statement}
-use Rattle.book_body.proofs.field_refusal.Tie as tie
+use Rattle.book_field.proofs.field_refusal.Statement.{statement}
+use Rattle.book_field.proofs.field_refusal.Tie as tie
 
 two-requires : tie.Need-two-requires
 two-requires c κs = search needs
