@@ -13,7 +13,7 @@ returns : tie.Need-returns
 returns c = answer-no (one-p-no _ _ _ _ _ (c .before .two .ensures .0) (λ e. omega arith))
 
 same-pair-requires : tie.Need-same-pair-requires
-same-pair-requires c κs = record { sold = c .before .before .before .pre; over = omega (arith, c .before .two .ensures .0) }
+same-pair-requires c κs = record { sold = c .before .before .before .before .before .pre; over = omega (arith, c .before .two .ensures .0) }
 
 returns-2 : tie.Need-returns-2
 returns-2 c = search needs
