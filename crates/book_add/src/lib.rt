@@ -34,7 +34,7 @@ pub fn may_add(s: &[u8], b: &[u8]) -> Verdict
     let a = book_check::check(s);
     match a {
         book_check::Answer::Yes => {
-            let c = book_check::bodies(s);
+            let c = book_contents::bodies(s);
             let own = book_check::judge(b, c);
             match own {
                 book_check::Seen::Good => {

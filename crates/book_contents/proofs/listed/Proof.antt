@@ -1,14 +1,14 @@
--- `book_check::listed` meets its contract.
+-- `book_contents::listed` meets its contract.
 use borrow.Author.Count.{below-more}
 use Rattle.book_bytes.proofs.Tests.{answer-yes, answer-no}
-use Rattle.book_check.specs.Book.{count, ends, startAt}
-use Rattle.book_check.proofs.Facts.{ends-more, listed-no, ends-first, ends-all}
+use Rattle.book_contents.specs.Contents.{count, ends, startAt}
+use Rattle.book_contents.proofs.Contents.{ends-more, listed-no, ends-first, ends-all}
 use Prim.Native.Nat.{ℕ, _≤_, _<_, _-_, _*_, _+_}
 use mathlib.Core.Path.{_≡_, _∙_, sym}
 use native.Mathlib.Omega.{arith}
 use borrow.Author.Needs.{needs}
-use Rattle.book_check.proofs.listed.Statement.{statement}
-use Rattle.book_check.proofs.listed.Tie as tie
+use Rattle.book_contents.proofs.listed.Statement.{statement}
+use Rattle.book_contents.proofs.listed.Tie as tie
 
 abbrev Inv-loop : tie.InvT-loop
 Inv-loop s n at₀ i₀ at i = (n ≡ count s) × (i ≤ n) × (at ≡ ends s i) × (at ≤ 524286 + 4294967296 * i) × ((k : ℕ) → k < i → startAt s k ≡ ends s k)

@@ -1,15 +1,15 @@
--- `book_check::marked` meets its contract.
+-- `book_contents::marked` meets its contract.
 use borrow.Author.Count.{below-more}
 use Rattle.book_bytes.proofs.Tests.{answer-yes, answer-no}
-use Rattle.book_check.specs.Book as book
-use Rattle.book_check.proofs.Facts.{mark-yes, mark-no}
+use Rattle.book_contents.specs.Contents as book
+use Rattle.book_contents.proofs.Contents.{mark-yes, mark-no}
 use Prim.Native.Nat.{ℕ, _≤_, _<_, _-_}
 use mathlib.Core.Path.{_≡_, refl}
 use native.Mathlib.Omega.{arith}
 use lib.ListN.{length, getD}
 use borrow.Author.Needs.{needs}
-use Rattle.book_check.proofs.marked.Statement.{statement}
-use Rattle.book_check.proofs.marked.Tie as tie
+use Rattle.book_contents.proofs.marked.Statement.{statement}
+use Rattle.book_contents.proofs.marked.Tie as tie
 
 abbrev Inv-loop : tie.InvT-loop
 Inv-loop s mark i₀ i = (mark ≡ book.mark) × (i ≤ 4) × ((k : ℕ) → k < i → getD s k 0 ≡ getD mark k 0)

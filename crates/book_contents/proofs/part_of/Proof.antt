@@ -1,9 +1,9 @@
--- `book_check::part_of` meets its contract.
-use Rattle.book_check.proofs.Facts.{inside, part-read, few-of}
+-- `book_contents::part_of` meets its contract.
+use Rattle.book_contents.proofs.Contents.{inside, part-read, few-of}
 use native.Mathlib.Omega.{arith}
 use borrow.Author.Needs.{needs}
-use Rattle.book_check.proofs.part_of.Statement.{statement}
-use Rattle.book_check.proofs.part_of.Tie as tie
+use Rattle.book_contents.proofs.part_of.Statement.{statement}
+use Rattle.book_contents.proofs.part_of.Tie as tie
 
 mul-four : tie.Need-mul-four
 mul-four c = let h = few-of _ (c .before .pre .marked) (c .before .pre .listed) in omega arith
