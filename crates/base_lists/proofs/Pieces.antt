@@ -4,10 +4,12 @@
 --   between-length, between-cut   the same for the numbers between two places
 --   cut-same                 a cut is settled by its numbers
 --   drop-take                what is behind a front's first numbers
-use mathlib.Core.Path.{_≡_, refl, sym, ap, _∙_}
+--   three, six               what holds in three rows of c numbers, and in six, holds of all their numbers
+use mathlib.Core.Path.{_≡_, refl, sym, ap, _∙_, subst}
 use mathlib.Core.List.{List, [], _∷_}
-use Prim.Native.Nat.{ℕ, zero, suc, _+_, _-_, _<_, _≤_}
+use Prim.Native.Nat.{ℕ, zero, suc, _+_, _*_, _-_, _<_, _≤_}
 use native.Mathlib.Omega.{arith}
+use native.Mathlib.Decide.{decLt}
 use lib.ListN.{length, getD, take, drop, length-drop}
 use lib.Seq.{ext-getD, getD-take, getD-drop, length-take-le, take-nil}
 use Rattle.base_lists.specs.Pieces.{piece, between, tab, cut}
@@ -48,3 +50,17 @@ drop-take zero n d = ap (λ (k : ℕ). take k d) (let e : n ≡ n - 0 = omega ar
 drop-take (suc m) zero d = let e : 0 - suc m ≡ 0 = omega arith in rw e refl
 drop-take (suc m) (suc n) [] = let e : suc n - suc m ≡ n - m = omega arith in rw e (sym (take-nil (n - m)))
 drop-take (suc m) (suc n) (x ∷ d) = let e : suc n - suc m ≡ n - m = omega arith in rw e (drop-take m n d)
+
+-- ---- rows of c numbers one after another: what holds at three rows holds from the first to the last; so at six
+pub three : (c at : ℕ) (P : ℕ → Type 0) → ((i : ℕ) → i < c → P (at + i)) → ((i : ℕ) → i < c → P (at + c + i)) → ((i : ℕ) → i < c → P (at + c + c + i))
+    → (i : ℕ) → at ≤ i → i < at + c + c + c → P i
+three c at P a b d i u v = elim (decLt i (at + c)) [
+  | yes k ↦ subst P (let o : at + (i - at) ≡ i = omega arith in o) (a (i - at) (omega arith))
+  | no k ↦ elim (decLt i (at + c + c)) [
+    | yes m ↦ subst P (let o : at + c + (i - (at + c)) ≡ i = omega arith in o) (b (i - (at + c)) (omega arith))
+    | no m ↦ subst P (let o : at + c + c + (i - (at + c + c)) ≡ i = omega arith in o) (d (i - (at + c + c)) (omega arith))
+  ]
+]
+
+pub six : (c : ℕ) (P : ℕ → Type 0) → ((i : ℕ) → 0 ≤ i → i < 0 + c + c + c → P i) → ((i : ℕ) → c + c + c ≤ i → i < c + c + c + c + c + c → P i) → (i : ℕ) → i < 6 * c → P i
+six c P a b i u = elim (decLt i (c + c + c)) [ yes k ↦ a i (omega arith) (omega arith) | no k ↦ b i (omega arith) (omega arith) ]

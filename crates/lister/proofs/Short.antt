@@ -9,7 +9,7 @@ use native.Mathlib.Decide.{ℕ-discrete}
 use lib.ListN.{length, getD, take, length-append, length-take, length-replicate}
 use lib.Seq.{getD-take}
 use Rattle.text_put.specs.Print.{comma, semicolon, newline, number-text, join, list-text, refused-text}
-use Rattle.text_read.proofs.Inverse.{text-numeral}
+use Rattle.text_number.proofs.Inverse.{text-numeral}
 use Rattle.text_read.proofs.Writings.{Small, line-is-text, reads-below}
 use Rattle.math_rows.proofs.Floors.{sized}
 use Rattle.math_rows.proofs.Tab.{length-tab, at-tab}

@@ -12,7 +12,7 @@ use mathlib.Core.List.{List}
 use Prim.Native.Nat.{ℕ, zero, suc, _<_}
 use Prim.Native.Nat as N
 use lib.ListN.{length, getD}
-pub use Rattle.base_lists.specs.Pieces.{tab}
+unfoldable pub use Rattle.base_lists.specs.Pieces.{tab}
 pub use Rattle.base_lists.specs.Coefficients.{Size}
 use Rattle.math_ring.specs.Ring.{Ops, CRing}
 use Rattle.math_valued.specs.Val.{Valued}

@@ -5,7 +5,7 @@ use native.Mathlib.Omega.{arith}
 use lib.ListN.{length}
 use lib.Seq.{length-take-le}
 use Rattle.text_read.specs.declared.Split.the-variants.{Three}
-use Rattle.text_read.specs.Tells.{NumberTells, SizeTells}
+use Rattle.text_number.specs.Tells.{NumberTells, SizeTells}
 use Rattle.text_read.specs.Inner.{FieldsTell}
 use Rattle.text_read.proofs.Parts.{reads-first, reads-second, reads-third, reads-of}
 use borrow.Author.Needs.{needs}

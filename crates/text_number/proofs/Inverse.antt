@@ -15,8 +15,8 @@ use lib.ListN.{length, getD, take, length-append, List·getD-append}
 use lib.Seq.{take-suc, take-length, getD-take, getD-at, length-take-le}
 use Rattle.text_put.specs.Print.{number-text}
 use Rattle.text_put.proofs.Digits.{text-small, text-more}
-use Rattle.text_read.specs.Grammar.{Digit, value, valueFrom, Numeral, Number}
-use Rattle.text_read.proofs.Values.{value-last, value-text, value-bound}
+use Rattle.text_number.specs.Grammar.{Digit, value, valueFrom, Numeral, Number}
+use Rattle.text_number.proofs.Values.{value-last, value-text, value-bound}
 
 abbrev Digits : List ℕ → Type 0
 Digits s = (k : ℕ) → k < length s → Digit (getD s k 0)

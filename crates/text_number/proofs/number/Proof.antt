@@ -1,11 +1,11 @@
--- `text_read::number` meets its contract.
+-- `text_number::number` meets its contract.
 use Prim.Native.Nat.{_-_, _≤_}
 use native.Mathlib.Omega.{arith}
 use lib.ListN.{length, getD}
-use Rattle.text_read.proofs.Numbers.{Sofar, sofar-none, sofar-more, sofar-small, sofar-all, one-zero}
+use Rattle.text_number.proofs.Numbers.{Sofar, sofar-none, sofar-more, sofar-small, sofar-all, one-zero}
 use borrow.Author.Needs.{needs}
-use Rattle.text_read.proofs.number.Statement.{statement}
-use Rattle.text_read.proofs.number.Tie as tie
+use Rattle.text_number.proofs.number.Statement.{statement}
+use Rattle.text_number.proofs.number.Tie as tie
 
 abbrev Inv-loop : tie.InvT-loop
 Inv-loop s v₀ i₀ v i = Sofar s v i

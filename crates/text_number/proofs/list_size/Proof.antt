@@ -1,15 +1,15 @@
--- `text_read::list_size` meets its contract. The invariant: the n pieces before `at` are numerals.
+-- `text_number::list_size` meets its contract. The invariant: the n pieces before `at` are numerals.
 use Prim.Native.Nat.{_+_, _-_}
 use mathlib.Core.Path.{subst}
 use native.Mathlib.Omega.{arith}
 use lib.ListN.{length}
 use Rattle.text_put.specs.Print.{comma}
 use Rattle.text_cut.proofs.Cuts.{end-le}
-use Rattle.text_read.specs.Tells.{NumberTells}
-use Rattle.text_read.proofs.Lists.{Numerals, numerals-none, numerals-more, numerals-bad, numerals-end}
+use Rattle.text_number.specs.Tells.{NumberTells}
+use Rattle.text_number.proofs.Lists.{Numerals, numerals-none, numerals-more, numerals-bad, numerals-end}
 use borrow.Author.Needs.{needs}
-use Rattle.text_read.proofs.list_size.Statement.{statement}
-use Rattle.text_read.proofs.list_size.Tie as tie
+use Rattle.text_number.proofs.list_size.Statement.{statement}
+use Rattle.text_number.proofs.list_size.Tie as tie
 
 abbrev Inv-loop : tie.InvT-loop
 Inv-loop s n₀ at₀ n at = Numerals s n at

@@ -12,7 +12,7 @@ use lib.Dec.{lit≤}
 use lib.ListN.{length, getD}
 use Rattle.text_put.specs.Print.{number-text}
 use Rattle.text_put.proofs.Digits.{text-small, text-more}
-use Rattle.text_read.specs.Grammar.{Digit, value, valueFrom}
+use Rattle.text_number.specs.Grammar.{Digit, value, valueFrom}
 
 last-from : (v : ℕ) (s : List ℕ) (b : ℕ) → valueFrom v (s ++ b ∷ []) ≡ valueFrom v s * 10 + (b - 48)
 unfolding valueFrom

@@ -10,8 +10,8 @@ use native.Mathlib.Omega.{arith}
 use lib.ListN.{length, getD, take}
 use lib.Seq.{take-suc, take-all, getD-take, length-take-le}
 use borrow.Author.Count.{below-more}
-use Rattle.text_read.specs.Grammar.{Digit, value, valueFrom, Number}
-use Rattle.text_read.proofs.Values.{value-last, value-small}
+use Rattle.text_number.specs.Grammar.{Digit, value, valueFrom, Number}
+use Rattle.text_number.proofs.Values.{value-last, value-small}
 
 pub record Sofar (s : List ℕ) (v i : ℕ) : Type 0 where
   pub place : i ≤ length s

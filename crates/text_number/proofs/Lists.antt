@@ -13,7 +13,7 @@ use borrow.Author.Count.{below-more}
 use Rattle.text_put.specs.Print.{comma}
 use Rattle.text_cut.specs.Pieces.{until, pieces}
 use Rattle.text_cut.proofs.Cuts.{Passed, passed-none, passed-in, passed-piece, passed-more, passed-end}
-use Rattle.text_read.specs.Grammar.{value, valueFrom, Numeral, Number, Listed}
+use Rattle.text_number.specs.Grammar.{value, valueFrom, Numeral, Number, Listed}
 
 pub record Numerals (s : List ℕ) (n at : ℕ) : Type 0 where
   pub passed : Passed comma s n at
