@@ -37,10 +37,25 @@ four-requires : tie.Need-four-requires Inv-loop μ-loop
 four-requires c κs = search needs
 
 put-line-requires : tie.Need-put-line-requires Inv-loop μ-loop
-put-line-requires c κs = let w = c .before .before .before .before .loop .inv in let q = w .2 in let s = q .same in let n = q .next in let e = w .1 in let h = c .before .before .before .before .before .before .pre .2 (c .before .before .before .before .loop .i) (omega arith) in (omega arith, omega arith, omega arith)
+put-line-requires c κs =
+    let s6 = c .before .before .before .before .before .before in
+    let s4 = c .before .before .before .before in
+    let w = s4 .loop .inv in
+    let q = w .2 in
+    let s = q .same in
+    let n = q .next in
+    let e = w .1 in
+    let h = s6 .pre .2 (s4 .loop .i) (omega arith) in
+    (omega arith, omega arith, omega arith)
 
 add-at-3 : tie.Need-add-at-3 Inv-loop μ-loop
-add-at-3 c = let e = c .before .before .before .before .before .before .before .loop .inv .1 in let h = c .before .before .before .before .before .before .before .before .before .pre .2 (c .before .before .before .before .before .before .before .loop .i) (omega arith) in let l = c .before .before .before .before .four .ensures .1 in omega arith
+add-at-3 c =
+    let s9 = c .before .before .before .before .before .before .before .before .before in
+    let s7 = c .before .before .before .before .before .before .before in
+    let e = s7 .loop .inv .1 in
+    let h = s9 .pre .2 (s7 .loop .i) (omega arith) in
+    let l = c .before .before .before .before .four .ensures .1 in
+    omega arith
 
 add-i : tie.Need-add-i Inv-loop μ-loop
 add-i c = search needs
@@ -49,7 +64,15 @@ loop-less : tie.Need-loop-less Inv-loop μ-loop
 loop-less c = search needs
 
 loop-again : tie.Need-loop-again Inv-loop μ-loop
-loop-again c = let a = c .before .before .before .before .before .before .before .before .before .args in let w = c .before .before .before .before .before .before .before .loop .inv in let m = lineEnd-more (a .out .now) (6 + 8 * suc (a .c)) (c .before .before .before .before .before .before .before .loop .i) in let l = line-read (a .out .now) (6 + 8 * suc (a .c)) (c .before .before .before .before .before .before .before .loop .i) _ _ _ (w .2) (c .before .before .before .before .four .ensures .0) in let e = w .1 in (omega arith, omega arith, lines-more (a .out .now) (6 + 8 * suc (a .c)) (c .before .before .before .before .before .before .before .loop .i) _ _ _ _ _ _ e l (w .2) (c .before .before .put-line .ensures))
+loop-again c =
+    let s9 = c .before .before .before .before .before .before .before .before .before in
+    let s7 = c .before .before .before .before .before .before .before in
+    let a = s9 .args in
+    let w = s7 .loop .inv in
+    let m = lineEnd-more (a .out .now) (6 + 8 * suc (a .c)) (s7 .loop .i) in
+    let l = line-read (a .out .now) (6 + 8 * suc (a .c)) (s7 .loop .i) _ _ _ (w .2) (c .before .before .before .before .four .ensures .0) in
+    let e = w .1 in
+    (omega arith, omega arith, lines-more (a .out .now) (6 + 8 * suc (a .c)) (s7 .loop .i) _ _ _ _ _ _ e l (w .2) (c .before .before .put-line .ensures))
 
 same-length : tie.Need-same-length Inv-loop μ-loop
 same-length c = c .before .loop .inv .2 .same

@@ -34,7 +34,10 @@ loop-less : tie.Need-loop-less Inv-loop μ-loop
 loop-less c = search needs
 
 loop-again : tie.Need-loop-again Inv-loop μ-loop
-loop-again c = (omega arith, list-more (c .before .before .before .before .before .before .before .before .before .args .out .now) (c .before .before .before .before .before .before .before .before .before .args .at) (c .before .before .before .before .before .before .before .before .before .args .l .now) (c .before .before .before .before .before .before .loop .i) (c .before .before .before .before .before .before .loop .o) (c .before .before .before .before .before .before .loop .out) _ _ (omega arith) (c .before .before .before .before .before .before .loop .inv .1) (c .before .before .put-two .ensures))
+loop-again c =
+    let a = c .before .before .before .before .before .before .before .before .before .args in
+    let s6 = c .before .before .before .before .before .before in
+    (omega arith, list-more (a .out .now) (a .at) (a .l .now) (s6 .loop .i) (s6 .loop .o) (s6 .loop .out) _ _ (omega arith) (s6 .loop .inv .1) (c .before .before .put-two .ensures))
 
 same-length : tie.Need-same-length Inv-loop μ-loop
 same-length c = c .before .loop .inv .1 .same

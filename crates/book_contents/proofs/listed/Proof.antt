@@ -59,13 +59,24 @@ loop-less : tie.Need-loop-less Inv-loop μ-loop
 loop-less c = search needs
 
 loop-again : tie.Need-loop-again Inv-loop μ-loop
-loop-again c = (c .before .before .before .before .before .two .ensures .0, omega arith, omega (arith, ends-more (c .before .before .before .before .before .before .before .args .s .now) (c .before .before .before .before .loop .i)), omega arith, below-more _ _ (c .before .before .before .before .loop .inv .4) (omega arith))
+loop-again c =
+    let s7 = c .before .before .before .before .before .before .before in
+    let s4 = c .before .before .before .before in
+    (c .before .before .before .before .before .two .ensures .0, omega arith, omega (arith, ends-more (s7 .args .s .now) (s4 .loop .i)), omega arith, below-more _ _ (s4 .loop .inv .4) (omega arith))
 
 returns-2 : tie.Need-returns-2 Inv-loop μ-loop
-returns-2 c = answer-no (λ l. c .if2 .taken (ends-all (c .before .before .before .before .before .args .s .now) (c .before .before .before .two .result) (c .before .before .loop .i) (c .before .before .loop .at) (c .before .before .before .two .ensures .0) (omega arith) (omega arith) (c .before .before .loop .inv .2) ∙ l .whole))
+returns-2 c =
+    let s3 = c .before .before .before in
+    let s2 = c .before .before in
+    answer-no
+    (λ l. c .if2 .taken (ends-all (c .before .before .before .before .before .args .s .now) (s3 .two .result) (s2 .loop .i) (s2 .loop .at) (s3 .two .ensures .0) (omega arith) (omega arith) (s2 .loop .inv .2) ∙ l .whole))
 
 returns-3 : tie.Need-returns-3 Inv-loop μ-loop
-returns-3 c = answer-yes record { starts = λ k h. c .before .before .loop .inv .4 k (omega arith); whole = sym (ends-all (c .before .before .before .before .before .args .s .now) (c .before .before .before .two .result) (c .before .before .loop .i) (c .before .before .loop .at) (c .before .before .before .two .ensures .0) (omega arith) (omega arith) (c .before .before .loop .inv .2)) ∙ c .if2 .left }
+returns-3 c =
+    let s3 = c .before .before .before in
+    let s2 = c .before .before in
+    answer-yes record
+    { starts = λ k h. s2 .loop .inv .4 k (omega arith); whole = sym (ends-all (c .before .before .before .before .before .args .s .now) (s3 .two .result) (s2 .loop .i) (s2 .loop .at) (s3 .two .ensures .0) (omega arith) (omega arith) (s2 .loop .inv .2)) ∙ c .if2 .left }
 
 pub listed-spec : {M : Type 1} → statement M
 listed-spec =

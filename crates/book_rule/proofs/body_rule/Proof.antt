@@ -47,7 +47,14 @@ returns-7 : tie.Need-returns-7
 returns-7 c = answer-no (body-first (c .before .before .before .before .before .before .before .before .before .before .before .before .before .before .args .s .now) (c .before .first-at .ensures .no! (not-true _ (c .if7 .taken))))
 
 returns-8 : tie.Need-returns-8
-returns-8 c = answer-yes (body-yes (c .before .before .before .before .before .before .before .before .before .before .before .before .before .before .args .s .now) _ _ (c .before .before .before .before .before .before .before .before .before .before .before .before .start .ensures .0) (omega arith) (c .before .before .before .before .before .before .before .before .before .before .four .ensures .0) (omega arith) (omega arith) (c .before .before .before .before .before .before .before .unit-at .ensures .yes! (not-false _ (c .before .before .before .before .before .before .if4 .left))) (c .before .before .before .before .before .unit-at2 .ensures .yes! (not-false _ (c .before .before .before .before .if5 .left))) (c .before .before .before .unit-at3 .ensures .yes! (not-false _ (c .before .before .if6 .left))) (c .before .first-at .ensures .yes! (not-false _ (c .if7 .left))))
+returns-8 c =
+    let s14 = c .before .before .before .before .before .before .before .before .before .before .before .before .before .before in
+    let s12 = c .before .before .before .before .before .before .before .before .before .before .before .before in
+    let s10 = c .before .before .before .before .before .before .before .before .before .before in
+    let s7 = c .before .before .before .before .before .before .before in
+    let s6 = c .before .before .before .before .before .before in
+    answer-yes
+    (body-yes (s14 .args .s .now) _ _ (s12 .start .ensures .0) (omega arith) (s10 .four .ensures .0) (omega arith) (omega arith) (s7 .unit-at .ensures .yes! (not-false _ (s6 .if4 .left))) (c .before .before .before .before .before .unit-at2 .ensures .yes! (not-false _ (c .before .before .before .before .if5 .left))) (c .before .before .before .unit-at3 .ensures .yes! (not-false _ (c .before .before .if6 .left))) (c .before .first-at .ensures .yes! (not-false _ (c .if7 .left))))
 
 pub body-rule-spec : {M : Type 1} → statement M
 body-rule-spec =

@@ -37,11 +37,19 @@ value-of-requires : tie.Need-value-of-requires Inv-loop μ-loop
 value-of-requires c κs = search needs
 
 mul-out : tie.Need-mul-out Inv-loop μ-loop
-mul-out c = let i = passed-in comma (c .before .before .before .before .before .before .before .args .s .now) (c .before .before .before .before .loop .n) (c .before .before .before .before .loop .at) (c .before .before .find .result) (c .before .before .before .before .loop .inv .0) (omega arith) (c .before .before .find .ensures) in
+mul-out c =
+    let s7 = c .before .before .before .before .before .before .before in
+    let s4 = c .before .before .before .before in
+    let s2 = c .before .before in
+    let i = passed-in comma (s7 .args .s .now) (s4 .loop .n) (s4 .loop .at) (s2 .find .result) (s4 .loop .inv .0) (omega arith) (s2 .find .ensures) in
     let l = c .before .before .before .before .loop .inv .1 .same in let r : length (pieces comma (c .before .before .before .before .before .before .before .args .s .now)) ≤ length (c .before .before .before .before .before .before .before .args .out .now) = c .before .before .before .before .before .before .before .pre in search needs
 
 slice-write-out : tie.Need-slice-write-out Inv-loop μ-loop
-slice-write-out c = let i = passed-in comma (c .before .before .before .before .before .before .before .args .s .now) (c .before .before .before .before .loop .n) (c .before .before .before .before .loop .at) (c .before .before .find .result) (c .before .before .before .before .loop .inv .0) (omega arith) (c .before .before .find .ensures) in
+slice-write-out c =
+    let s7 = c .before .before .before .before .before .before .before in
+    let s4 = c .before .before .before .before in
+    let s2 = c .before .before in
+    let i = passed-in comma (s7 .args .s .now) (s4 .loop .n) (s4 .loop .at) (s2 .find .result) (s4 .loop .inv .0) (omega arith) (s2 .find .ensures) in
     let l = c .before .before .before .before .loop .inv .1 .same in let r : length (pieces comma (c .before .before .before .before .before .before .before .args .s .now)) ≤ length (c .before .before .before .before .before .before .before .args .out .now) = c .before .before .before .before .before .before .before .pre in omega arith
 
 add-n : tie.Need-add-n Inv-loop μ-loop
@@ -65,7 +73,11 @@ same-length : tie.Need-same-length Inv-loop μ-loop
 same-length c = c .before .loop .inv .1 .same
 
 returns : tie.Need-returns Inv-loop μ-loop
-returns c = filling-end (c .before .before .before .before .args .s .now) (c .before .before .before .before .args .out .now) (c .before .loop .out) (c .before .loop .n) (passed-end comma (c .before .before .before .before .args .s .now) (c .before .loop .n) (c .before .loop .at) (c .before .loop .inv .0) (omega arith)) (c .before .loop .inv .1)
+returns c =
+    let a = c .before .before .before .before .args in
+    let s1 = c .before in
+    filling-end (a .s .now) (a .out .now) (s1 .loop .out) (s1 .loop .n)
+    (passed-end comma (a .s .now) (s1 .loop .n) (s1 .loop .at) (s1 .loop .inv .0) (omega arith)) (s1 .loop .inv .1)
 
 pub fill-spec : {M : Type 1} → statement M
 fill-spec = tie.close (tie.spec Inv-loop μ-loop loop-holds find-requires sub-value-of part-value-of-start part-value-of-end value-of-requires mul-out slice-write-out add-n add-at loop-less loop-again same-length returns)

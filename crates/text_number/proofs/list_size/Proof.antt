@@ -42,19 +42,34 @@ enum-told-2 : tie.Need-enum-told-2 Inv-loop μ-loop
 enum-told-2 c = search needs
 
 returns : tie.Need-returns Inv-loop μ-loop
-returns c = numerals-bad (c .before .before .before .before .before .before .before .before .args .s .now) (c .before .before .before .before .before .before .loop .n) (c .before .before .before .before .before .before .loop .at) (c .before .before .before .before .find .result) (omega arith) (c .before .before .before .before .find .ensures) (c .before .before .before .before .before .before .loop .inv) (subst (NumberTells _) (c .enum-told2 .given .1) (c .before .before .number .ensures))
+returns c =
+    let s8 = c .before .before .before .before .before .before .before .before in
+    let s6 = c .before .before .before .before .before .before in
+    let s4 = c .before .before .before .before in
+    numerals-bad (s8 .args .s .now) (s6 .loop .n) (s6 .loop .at) (s4 .find .result) (omega arith) (s4 .find .ensures) (s6 .loop .inv)
+    (subst (NumberTells _) (c .enum-told2 .given .1) (c .before .before .number .ensures))
 
 add-n : tie.Need-add-n Inv-loop μ-loop
 add-n c = let p = c .before .before .before .before .before .before .loop .inv .passed .few in omega arith
 
 add-at : tie.Need-add-at Inv-loop μ-loop
-add-at c = let h = end-le comma (c .before .before .before .before .before .before .before .before .args .s .now) (c .before .before .before .before .before .before .loop .at) (c .before .before .before .before .find .result) (omega arith) (c .before .before .before .before .find .ensures) in omega arith
+add-at c =
+    let s8 = c .before .before .before .before .before .before .before .before in
+    let s6 = c .before .before .before .before .before .before in
+    let s4 = c .before .before .before .before in
+    let h = end-le comma (s8 .args .s .now) (s6 .loop .at) (s4 .find .result) (omega arith) (s4 .find .ensures) in
+    omega arith
 
 loop-less : tie.Need-loop-less Inv-loop μ-loop
 loop-less c = let h = c .before .before .before .before .find .ensures in omega arith
 
 loop-again : tie.Need-loop-again Inv-loop μ-loop
-loop-again c = numerals-more (c .before .before .before .before .before .before .before .before .args .s .now) (c .before .before .before .before .before .before .loop .n) (c .before .before .before .before .before .before .loop .at) (c .before .before .before .before .find .result) (omega arith) (c .before .before .before .before .find .ensures) (c .before .before .before .before .before .before .loop .inv) (subst (NumberTells _) (c .enum-told .given .1) (c .before .before .number .ensures))
+loop-again c =
+    let s8 = c .before .before .before .before .before .before .before .before in
+    let s6 = c .before .before .before .before .before .before in
+    let s4 = c .before .before .before .before in
+    numerals-more (s8 .args .s .now) (s6 .loop .n) (s6 .loop .at) (s4 .find .result) (omega arith) (s4 .find .ensures) (s6 .loop .inv)
+    (subst (NumberTells _) (c .enum-told .given .1) (c .before .before .number .ensures))
 
 returns-2 : tie.Need-returns-2 Inv-loop μ-loop
 returns-2 c = numerals-end (c .before .before .before .args .s .now) (c .before .loop .n) (c .before .loop .at) (c .before .loop .inv) (omega arith)

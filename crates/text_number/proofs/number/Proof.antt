@@ -47,7 +47,11 @@ cast-v : tie.Need-cast-v Inv-loop μ-loop
 cast-v c = omega (arith, c .before .before .shared-slice-known2 .given (c .before .before .before .before .loop .i))
 
 add-v : tie.Need-add-v Inv-loop μ-loop
-add-v c = let h = sofar-small (c .before .before .before .before .before .before .before .before .before .args .s .now) (c .before .before .before .before .loop .v) (c .before .before .before .before .loop .i) (c .before .before .before .before .loop .inv) (omega arith) in omega (arith, c .before .before .shared-slice-known2 .given (c .before .before .before .before .loop .i))
+add-v c =
+    let s9 = c .before .before .before .before .before .before .before .before .before in
+    let s4 = c .before .before .before .before in
+    let h = sofar-small (s9 .args .s .now) (s4 .loop .v) (s4 .loop .i) (s4 .loop .inv) (omega arith) in
+    omega (arith, c .before .before .shared-slice-known2 .given (s4 .loop .i))
 
 add-i : tie.Need-add-i Inv-loop μ-loop
 add-i c = search needs
