@@ -8,9 +8,9 @@
 -- A record is settled by its polynomials, and by its ideal: `basis-unique`, `record-unique` in proofs/Unique.antt.
 use mathlib.Core.Path.{_≡_}
 use mathlib.Core.List.{List}
-use Prim.Native.Nat.{ℕ, _+_, _*_, _<_}
+use Prim.Native.Nat.{ℕ, _*_, _<_}
 use lib.ListN.{length, getD}
-use Rattle.math_rows.specs.Row.{tab}
+use Rattle.base_lists.specs.Pieces.{cut}
 use Rattle.poly_rows.specs.Factors.{polynomial}
 use Rattle.field_open.specs.Refusal.{Accepted}
 use Rattle.math_ideals.specs.Setting.{P}
@@ -19,7 +19,7 @@ use Rattle.math_ideals.specs.Basis.{Good}
 pub use Rattle.basis_record.specs.Setting.{setting}
 
 abbrev pub part : ℕ → List ℕ → List ℕ
-part i B = tab 17 (λ j. getD B (17 * i + j) 0)
+part i B = cut (17 * i) 17 B
 
 module _ {p : ℕ} {G H : List ℕ} (A : Accepted p G H) where
   abbrev pub polyOf : List ℕ → P (setting A)

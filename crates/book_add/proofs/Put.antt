@@ -5,26 +5,28 @@ use Prim.Native.Nat.{ℕ, zero, suc, _+_, _-_, _*_, _<_, _≤_}
 use native.Mathlib.Omega.{arith}
 use lib.ListN.{length, getD, take, drop}
 use lib.Seq.{sets, take-take, getD-take, length-take-le}
-use Rattle.book_bytes.specs.Bytes.{le, val, u2, u4, Bytes, Put}
+use Rattle.base_lists.specs.Pieces.{Written}
+use Rattle.book_bytes.specs.Bytes.{le, val, u2, u4, Bytes}
 use Rattle.book_bytes.proofs.Read.{val2, val4}
-use Rattle.book_bytes.proofs.Write.{andThen}
+use Rattle.base_lists.proofs.Pieces.{drop-take}
+use Rattle.base_lists.proofs.Puts.{written-then, drop-put}
 use Rattle.book_body.specs.Body.{Formed}
 use Rattle.book_check.specs.Book.{mark, width, count, lengthAt, Accepted}
 use Rattle.book_add.specs.Add.{newBook, newLength}
 use Rattle.book_add.specs.Code.{lineEnd, lines, newBytes, Place}
-use Rattle.book_add.proofs.Sets.{drop-sets, u4-below, three-pieces}
+use Rattle.book_add.proofs.Sets.{u4-below, three-pieces}
 use Rattle.book_add.proofs.Lines.{lineEnd-same, lines-same}
 use Rattle.book_add.proofs.New.{new-book, line-fits, low}
 
 -- ---- the slice before the contents are rewritten: the bodies moved up, the count raised
 module _ (d : List ℕ) (c n : ℕ) (B : List ℕ) (k e : ℕ) (d1 : List ℕ) (x : ℕ) (d2 : List ℕ)
-    (q1 : Put d (6 + width * c + width) B k e d1) (q2 : Put d1 4 (le 2 (c + 1)) 2 x d2) where
+    (q1 : Written d (6 + width * c + width) B k e d1) (q2 : Written d1 4 (le 2 (c + 1)) 2 x d2) where
   -- the lengths in the contents are as they were
   pub lengths-kept : (j : ℕ) → j < c → lengthAt d2 j ≡ lengthAt d j
   lengths-kept j h =
       let z : length (le 2 (c + 1)) ≡ 2 = q2 .size in
       ap (λ (w : List ℕ). u4 w (10 + width * j)) (q2 .done)
-      ∙ ap (val 4) (drop-sets d1 4 (10 + width * j) (le 2 (c + 1)) (omega arith))
+      ∙ ap (val 4) (drop-put d1 4 (10 + width * j) (le 2 (c + 1)) (omega arith))
       ∙ ap (λ (w : List ℕ). u4 w (10 + width * j)) (q1 .done)
       ∙ u4-below d (6 + width * c + width) (10 + width * j) B (omega arith)
 
@@ -36,11 +38,11 @@ module _ (d : List ℕ) (c n : ℕ) (B : List ℕ) (k e : ℕ) (d1 : List ℕ) (
 
 pub assemble : (d : List ℕ) (n c : ℕ) (b : List ℕ) (e : ℕ) (d1 : List ℕ) (x : ℕ) (d2 : List ℕ) (y : ℕ) (d3 : List ℕ) (z : ℕ) (d4 : List ℕ) (r : ℕ) (d5 : List ℕ)
     → Place d n c b
-    → Put d (6 + width * c + width) (take (n - (6 + width * c)) (drop (6 + width * c) d)) (n - (6 + width * c)) e d1
-    → Put d1 4 (le 2 (c + 1)) 2 x d2
-    → Put d2 6 (lines d2 (6 + width * suc c) c) (8 * c) y d3
-    → Put d3 y (le 4 (n + width) ++ le 4 (length b)) 8 z d4
-    → Put d4 e b (length b) r d5
+    → Written d (6 + width * c + width) (take (n - (6 + width * c)) (drop (6 + width * c) d)) (n - (6 + width * c)) e d1
+    → Written d1 4 (le 2 (c + 1)) 2 x d2
+    → Written d2 6 (lines d2 (6 + width * suc c) c) (8 * c) y d3
+    → Written d3 y (le 4 (n + width) ++ le 4 (length b)) 8 z d4
+    → Written d4 e b (length b) r d5
     → (r ≡ newLength n b) × (d5 ≡ newBytes d n c b ++ drop (newLength n b) d)
 unfolding newBytes
 assemble d n c b e d1 x d2 y d3 z d4 r d5 w q1 q2 q3 q4 q5 =
@@ -50,10 +52,10 @@ assemble d n c b e d1 x d2 y d3 z d4 r d5 w q1 q2 q3 q4 q5 =
     let ex : 6 ≡ x = sym (q2 .next) in
     let L : List ℕ = lines d at c in
     let same : lines d2 at c ≡ L = lines-same d2 d at c (lengths-kept d c n B (n - from) e d1 x d2 q1 q2) in
-    let q3' : Put d2 x L (8 * c) y d3 = subst (λ (j : ℕ). Put d2 j L (8 * c) y d3) ex (subst (λ (l : List ℕ). Put d2 6 l (8 * c) y d3) same q3) in
+    let q3' : Written d2 x L (8 * c) y d3 = subst (λ (j : ℕ). Written d2 j L (8 * c) y d3) ex (subst (λ (l : List ℕ). Written d2 6 l (8 * c) y d3) same q3) in
     let tail : List ℕ = le 4 (n + width) ++ le 4 (length b) in
-    let s1 : Put d1 4 (le 2 (c + 1) ++ L) (2 + 8 * c) y d3 = andThen d1 4 (le 2 (c + 1)) 2 x d2 L (8 * c) y d3 q2 q3' in
-    let s2 : Put d1 4 ((le 2 (c + 1) ++ L) ++ tail) ((2 + 8 * c) + 8) z d4 = andThen d1 4 (le 2 (c + 1) ++ L) (2 + 8 * c) y d3 tail 8 z d4 s1 q4 in
+    let s1 : Written d1 4 (le 2 (c + 1) ++ L) (2 + 8 * c) y d3 = written-then d1 4 (le 2 (c + 1)) 2 x d2 L (8 * c) y d3 q2 q3' in
+    let s2 : Written d1 4 ((le 2 (c + 1) ++ L) ++ tail) ((2 + 8 * c) + 8) z d4 = written-then d1 4 (le 2 (c + 1) ++ L) (2 + 8 * c) y d3 tail 8 z d4 s1 q4 in
     let X : List ℕ = (le 2 (c + 1) ++ L) ++ tail in
     let sx : length X ≡ (2 + 8 * c) + 8 = s2 .size in
     let sB : length B ≡ n - from = q1 .size in
@@ -84,16 +86,6 @@ u4-take n k d h =
     let m0 : u2 d k ≡ getD d k 0 + 256 * getD d (k + 1) 0 = val2 d k in
     let m2 : u2 d (k + 2) ≡ getD d (k + 2) 0 + 256 * getD d (k + 2 + 1) 0 = val2 d (k + 2) in
     omega arith
-
-drop-take : (m n : ℕ) (d : List ℕ) → drop m (take n d) ≡ take (n - m) (drop m d)
-drop-take zero n d = ap (λ (k : ℕ). take k d) (let e : n ≡ n - 0 = omega arith in e)
-drop-take (suc m) zero d = let e : 0 - suc m ≡ 0 = omega arith in rw e refl
-drop-take (suc m) (suc n) [] = let e : suc n - suc m ≡ n - m = omega arith in rw e (nil-take (n - m))
-  where
-    nil-take : (k : ℕ) → _≡_ {A = List ℕ} [] (take k [])
-    nil-take zero = refl
-    nil-take (suc k) = refl
-drop-take (suc m) (suc n) (x ∷ d) = let e : suc n - suc m ≡ n - m = omega arith in rw e (drop-take m n d)
 
 pub bytes-take : (n : ℕ) (l : List ℕ) → Bytes l → Bytes (take n l)
 bytes-take zero l h j = omega arith

@@ -1,28 +1,20 @@
 -- A slice in which a piece was written: what stands before the piece, and what stands after it.
-use mathlib.Core.Path.{_≡_, refl, sym, ap, ap₂, _∙_}
-use mathlib.Core.List.{List, [], _∷_, _++_, append-assoc}
-use Prim.Native.Nat.{ℕ, suc, _+_, _*_, _≤_}
+use mathlib.Core.Path.{_≡_, sym, ap, ap₂, _∙_}
+use mathlib.Core.List.{List, _++_, append-assoc}
+use Prim.Native.Nat.{ℕ, _+_, _*_, _≤_}
 use native.Mathlib.Omega.{arith}
-use lib.ListN.{length, getD, take, drop, set, length-append}
-use lib.Seq.{sets, length-sets, take-set-le, drop-set-lt, length-take-le, drop-at, take-at, drop-drop, sets-eq}
+use lib.ListN.{length, getD, take, drop, length-append}
+use lib.Seq.{sets, length-sets, length-take-le, drop-at, take-at, drop-drop, sets-eq}
 use Rattle.book_bytes.specs.Bytes.{u2, u4}
 use Rattle.book_bytes.proofs.Read.{val2, val4}
-use Rattle.book_bytes.proofs.Write.{getD-sets}
-
-pub take-sets : (d : List ℕ) (j k : ℕ) (x : List ℕ) → k ≤ j → take k (sets d j x) ≡ take k d
-take-sets d j k [] h = refl
-take-sets d j k (a ∷ x) h = take-sets (set d j a) (suc j) k x (omega arith) ∙ take-set-le k d j a h
-
-pub drop-sets : (d : List ℕ) (j k : ℕ) (x : List ℕ) → j + length x ≤ k → drop k (sets d j x) ≡ drop k d
-drop-sets d j k [] h = refl
-drop-sets d j k (a ∷ x) h = drop-sets (set d j a) (suc j) k x (omega arith) ∙ drop-set-lt k d j a (omega arith)
+use Rattle.base_lists.proofs.Puts.{put-before, take-put}
 
 pub u4-below : (d : List ℕ) (j k : ℕ) (x : List ℕ) → k + 4 ≤ j → u4 (sets d j x) k ≡ u4 d k
 u4-below d j k x h =
-    let a0 : getD (sets d j x) k 0 ≡ getD d k 0 = getD-sets d j k x (omega arith) in
-    let a1 : getD (sets d j x) (k + 1) 0 ≡ getD d (k + 1) 0 = getD-sets d j (k + 1) x (omega arith) in
-    let a2 : getD (sets d j x) (k + 2) 0 ≡ getD d (k + 2) 0 = getD-sets d j (k + 2) x (omega arith) in
-    let a3 : getD (sets d j x) (k + 2 + 1) 0 ≡ getD d (k + 2 + 1) 0 = getD-sets d j (k + 2 + 1) x (omega arith) in
+    let a0 : getD (sets d j x) k 0 ≡ getD d k 0 = put-before d j k x (omega arith) in
+    let a1 : getD (sets d j x) (k + 1) 0 ≡ getD d (k + 1) 0 = put-before d j (k + 1) x (omega arith) in
+    let a2 : getD (sets d j x) (k + 2) 0 ≡ getD d (k + 2) 0 = put-before d j (k + 2) x (omega arith) in
+    let a3 : getD (sets d j x) (k + 2 + 1) 0 ≡ getD d (k + 2 + 1) 0 = put-before d j (k + 2 + 1) x (omega arith) in
     let l : u4 (sets d j x) k ≡ u2 (sets d j x) k + 65536 * u2 (sets d j x) (k + 2) = val4 (sets d j x) k in
     let m : u4 d k ≡ u2 d k + 65536 * u2 d (k + 2) = val4 d k in
     let l0 : u2 (sets d j x) k ≡ getD (sets d j x) k 0 + 256 * getD (sets d j x) (k + 1) 0 = val2 (sets d j x) k in
@@ -46,7 +38,7 @@ three-pieces d X B b a n ex eb h =
     let f : List ℕ = take 4 d ++ (X ++ B) in
     let e5 : d5 ≡ f ++ drop n d =
     sets-eq X d1 4 (omega arith)
-    ∙ ap₂ (λ (u v : List ℕ). (u ++ X) ++ v) (take-sets d a 4 B (omega arith)) (ap (λ (k : ℕ). drop k d1) ex ∙ e1)
+    ∙ ap₂ (λ (u v : List ℕ). (u ++ X) ++ v) (take-put d a 4 B (omega arith)) (ap (λ (k : ℕ). drop k d1) ex ∙ e1)
     ∙ sym (append-assoc (take 4 d ++ X) B (drop n d))
     ∙ ap (λ (u : List ℕ). u ++ drop n d) (append-assoc (take 4 d) X B) in
     let t4 : length (take 4 d) ≡ 4 = length-take-le 4 d (omega arith) in

@@ -3,7 +3,8 @@ ghost use mathlib.Core.Path.{_≡_};
 ghost use mathlib.Core.List.{_++_};
 ghost use Prim.Native.Nat.{ℕ, suc, _+_, _*_, _≤_, _<_};
 ghost use lib.ListN.{length, drop};
-ghost use Rattle.book_bytes.specs.Bytes.{le, Put};
+ghost use Rattle.base_lists.specs.Pieces.{Written};
+ghost use Rattle.book_bytes.specs.Bytes.{le};
 ghost use Rattle.book_add.specs.Add.{addedSays, newLength, AddTells};
 ghost use Rattle.book_add.specs.Code.{lineEnd, lines, Place, newBytes, VerdictTells};
 
@@ -33,7 +34,7 @@ pub fn may_add(s: &[u8], b: &[u8]) -> Verdict
     let a = book_check::check(s);
     match a {
         book_check::Answer::Yes => {
-            let c = book_check::bodies(s);
+            let c = book_contents::bodies(s);
             let own = book_check::judge(b, c);
             match own {
                 book_check::Seen::Good => {
@@ -53,7 +54,7 @@ pub fn may_add(s: &[u8], b: &[u8]) -> Verdict
 // One contents entry at `at`; the place after it.
 fn put_line(out: &mut [u8], at: usize, start: u64, len: u64) -> usize
     requires { ⌜ (at + 8 ≤ length (now out)) × (start < 4294967296) × (len < 4294967296) ⌝ }
-    ensures { λ r. ⌜ Put (now (out .entry)) at (le 4 start ++ le 4 len) 8 r (now (out .exit)) ⌝ }
+    ensures { λ r. ⌜ Written (now (out .entry)) at (le 4 start ++ le 4 len) 8 r (now (out .exit)) ⌝ }
 {
     let x = book_bytes::put_four(out, at, start);
     book_bytes::put_four(out, x, len)
@@ -62,7 +63,7 @@ fn put_line(out: &mut [u8], at: usize, start: u64, len: u64) -> usize
 // The contents of c bodies that now start after one entry more; the place after them.
 fn put_lines(out: &mut [u8], c: usize) -> usize
     requires { ⌜ (6 + 8 * c ≤ length (now out)) × (c < 65536) × ((i : ℕ) → i ≤ c → lineEnd (now out) (6 + 8 * suc c) i ≤ 65544) ⌝ }
-    ensures { λ r. ⌜ Put (now (out .entry)) 6 (lines (now (out .entry)) (6 + 8 * suc c) c) (8 * c) r (now (out .exit)) ⌝ }
+    ensures { λ r. ⌜ Written (now (out .entry)) 6 (lines (now (out .entry)) (6 + 8 * suc c) c) (8 * c) r (now (out .exit)) ⌝ }
 {
     let mut at = 6 + WIDTH * (c + 1);
     let mut o: usize = 6;

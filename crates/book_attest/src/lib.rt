@@ -119,7 +119,7 @@ pub fn attest(s: &[u8], i: usize) -> Attestation
     let a = book_check::ask_answer(s, i);
     match a {
         book_check::Request::There => {
-            let b = book_check::part_of(s, i);
+            let b = book_contents::part_of(s, i);
             let u = constant_norm(b);
             if u { Attestation::Yes } else { Attestation::No }
         }

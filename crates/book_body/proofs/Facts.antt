@@ -1,93 +1,16 @@
--- The code's tests against the definitions: the rule of an E list, the body rule; and a list read out.
-use mathlib.Core.Path.{_≡_, sym, ap, _∙_, subst}
-use mathlib.Core.Bool.{Bool}
-use mathlib.Core.List.{List, _++_}
-use Prim.Native.Nat.{ℕ, _+_, _-_, _*_, _<_, _≤_}
+-- A list read out of a body.
+use mathlib.Core.Path.{sym, ap}
+use mathlib.Core.List.{List}
+use Prim.Native.Nat.{ℕ, _+_, _*_, _<_, _≤_}
 use native.Mathlib.Omega.{arith}
-use lib.ListN.{length, getD, take, drop}
-use lib.Seq.{sets-eq, take-at}
-use Rattle.book_bytes.specs.Bytes.{u2, u4, Put}
-use Rattle.base_answers.specs.Decides.{Decides}
-use Rattle.book_bytes.proofs.Lists.{length-list}
-use Rattle.book_body.specs.Body.{UnitList, First, FirstList, listStart, listAt, bodyOf, Formed}
+use lib.ListN.{length}
+use Rattle.base_lists.specs.Pieces.{Written}
+use Rattle.base_lists.proofs.Puts.{front-long, front-whole}
+use Rattle.book_bytes.specs.Bytes.{u2}
+use Rattle.book_body.specs.Body.{listAt}
 use Rattle.base_answers.specs.Said.{passed}
 use Rattle.book_body.specs.Code.{ListTells, read}
 
--- ---- a list's rule
-pub row-short : (s : List ℕ) (k n p : ℕ) → n ≡ u2 s (2 + 2 * k) → 4096 < n → UnitList p (listAt s k) → ⊥
-row-short s k n p m e r = let a : length (listAt s k) ≤ 4096 = r .short in let b : length (listAt s k) ≡ u2 s (2 + 2 * k) = length-list 16 2 s k in omega arith
-
--- ---- the rule of E0
-pub first-some : (s : List ℕ) (p : ℕ) → UnitList p (listAt s 2) → 0 < u2 s 6
-first-some s p r = let a : 0 < length (listAt s 2) = r .some in let b : length (listAt s 2) ≡ u2 s 6 = length-list 16 2 s 2 in omega arith
-
-pub first-decided : (s : List ℕ) (n top : ℕ) (b : Bool) → n ≡ u2 s 6 → top ≡ getD (listAt s 2) (n - 1) 0 → Decides b (First n top) → Decides b (FirstList (listAt s 2))
-first-decided s n top b e f w =
-    let l : n ≡ length (listAt s 2) = e ∙ sym (length-list 16 2 s 2) in
-    subst (λ (k : ℕ). Decides b (First k (getD (listAt s 2) (k - 1) 0))) l (subst (λ (x : ℕ). Decides b (First n x)) f w)
-
--- ---- the body rule
-module _ (s : List ℕ) where
-  pub body-from : (t : ℕ) → t ≡ u4 s 12 → t < 1 → Formed s → ⊥
-  unfolding bodyOf
-  body-from t e z b = let h : 1 ≤ u4 s 12 = b .rule .from in omega arith
-
-  pub body-to : (t : ℕ) → t ≡ u4 s 12 → 1000000 < t → Formed s → ⊥
-  unfolding bodyOf
-  body-to t e z b = let h : u4 s 12 ≤ 1000000 = b .rule .to in omega arith
-
-  pub body-row0 : (UnitList (u2 s 0) (listAt s 2) → ⊥) → Formed s → ⊥
-  unfolding bodyOf
-  body-row0 f b = f (b .rule .row0)
-
-  pub body-row1 : (UnitList (u2 s 0) (listAt s 3) → ⊥) → Formed s → ⊥
-  unfolding bodyOf
-  body-row1 f b = f (b .rule .row1)
-
-  pub body-row2 : (UnitList (u2 s 0) (listAt s 4) → ⊥) → Formed s → ⊥
-  unfolding bodyOf
-  body-row2 f b = f (b .rule .row2)
-
-  pub body-first : (FirstList (listAt s 2) → ⊥) → Formed s → ⊥
-  unfolding bodyOf
-  body-first f b = f (b .rule .first)
-
-  pub body-yes : (size t : ℕ) → size ≡ listStart s 5 → length s ≡ size → t ≡ u4 s 12 → 1 ≤ t → t ≤ 1000000
-      → UnitList (u2 s 0) (listAt s 2) → UnitList (u2 s 0) (listAt s 3) → UnitList (u2 s 0) (listAt s 4) → FirstList (listAt s 2) → Formed s
-  unfolding bodyOf
-  body-yes size t a b c d e r0 r1 r2 f =
-      record {
-        size = b ∙ a;
-        rule = record {
-          from = (let z : 1 ≤ u4 s 12 = omega arith in z);
-          to = (let z : u4 s 12 ≤ 1000000 = omega arith in z);
-          row0 = r0;
-          row1 = r1;
-          row2 = r2;
-          first = f;
-        };
-      }
-
--- ---- a list read out
--- x stands at the front of the slice d, which is d' then
-module _ {d d' x : List ℕ} {n r : ℕ} (q : Put d 0 x n r d') (h : n ≤ length d) where
-  front-long : length x ≡ r
-  front-long = omega (arith, q .size, q .next)
-
-  front-whole : d' ≡ x ++ drop (length x) d
-  front-whole =
-      let z : 0 + length x ≡ length x = omega arith in
-      q .done ∙ sets-eq x d 0 (omega (arith, q .size)) ∙ ap (λ (j : ℕ). x ++ drop j d) z
-
-  pub front-is : take r d' ≡ x
-  front-is = ap (take r) front-whole ∙ take-at x (drop (length x) d) r front-long
-
-  pub front-count : r ≡ length (take r d')
-  front-count = sym (ap length front-is ∙ front-long)
-
-module _ (s : List ℕ) (k : ℕ) (d d' : List ℕ) (r : ℕ) (h : u2 s (2 + 2 * k) ≤ length d) (q : Put d 0 (listAt s k) (u2 s (2 + 2 * k)) r d') where
-  pub row-decided : (p : ℕ) (b : Bool) → p ≡ u2 s 0 → Decides b (UnitList p (take r d')) → Decides b (UnitList (u2 s 0) (listAt s k))
-  row-decided p b e w = subst (λ (x : ℕ). Decides b (UnitList x (listAt s k))) e (subst (λ (l : List ℕ). Decides b (UnitList p l)) (front-is q h) w)
-
+module _ (s : List ℕ) (k : ℕ) (d d' : List ℕ) (r : ℕ) (h : u2 s (2 + 2 * k) ≤ length d) (q : Written d 0 (listAt s k) (u2 s (2 + 2 * k)) r d') where
   pub list-got : k < 5 → ListTells s k d (passed r) d'
   list-got l = read l (omega (arith, q .size)) (ap passed (sym (front-long q h))) (front-whole q h)

@@ -13,11 +13,10 @@
 -- That a body written reads back, and that bytes of the right length are the writing of what they say, is in proofs/Body.antt; that
 -- OneField is an equivalence on bodies whose field is accepted is in proofs/Relation.antt: one-refl, one-sym, one-trans.
 use mathlib.Core.Path.{_≡_}
-use mathlib.Core.Logic.{_≢_}
 use mathlib.Core.List.{List, [], _∷_, _++_}
-use Prim.Native.Nat.{ℕ, _-_, _%_, _<_, _≤_}
+use Prim.Native.Nat.{ℕ, _-_, _%_, _≤_}
 use lib.ListN.{length, getD}
-use Rattle.base_answers.specs.Limits.{most, longest}
+use Rattle.base_lists.specs.Coefficients.{Coefficients}
 use Rattle.field_open.specs.Refusal.{Refusal}
 use Rattle.pair_agree.specs.OneField as pairs
 use Rattle.book_bytes.specs.Bytes.{le, words, u2, u4}
@@ -33,11 +32,8 @@ pub record Body : Type 0 where
   pub E1 : List ℕ
   pub E2 : List ℕ
 
-pub record UnitList (p : ℕ) (l : List ℕ) : Type 0 where
-  pub some : 0 < length l
-  pub short : length l ≤ longest
-  pub each : (i : ℕ) → i < length l → getD l i 0 < p
-  pub last : getD l (length l - 1) 0 ≢ 0
+abbrev pub UnitList : ℕ → List ℕ → Type 0
+UnitList p l = Coefficients 4096 p l (length l - 1)
 
 pub record First (n top : ℕ) : Type 0 where
   pub monic : top ≡ 1
@@ -49,7 +45,7 @@ FirstList l = First (length l) (getD l (length l - 1) 0)
 
 pub record Rule (b : Body) : Type 0 where
   pub from : 1 ≤ b .period
-  pub to : b .period ≤ most
+  pub to : b .period ≤ 1000000
   pub row0 : UnitList (b .p) (b .E0)
   pub row1 : UnitList (b .p) (b .E1)
   pub row2 : UnitList (b .p) (b .E2)

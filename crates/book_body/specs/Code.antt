@@ -1,30 +1,14 @@
--- What the code's own functions promise each other.
---   BothSold a b    the fields of the bodies a and b, as bytes, are accepted; BothOver a b over one p besides
---   Clipped n r     r is the smaller of n and 14
+-- Reading a list of a body.
 --   Got             the answer to reading a list, in document 01's numbers: its length; 14, there is no such list; 11, too little room
 --   ListTells s k d r d'   list k of the body's bytes s is read into the front of the slice d, which is d' then
 use mathlib.Core.Path.{_≡_}
 use mathlib.Core.List.{List, _++_}
 use Prim.Native.Nat.{ℕ, _<_, _≤_}
 use lib.ListN.{length, drop}
-use Rattle.book_bytes.specs.Bytes.{u2}
 use Rattle.base_answers.specs.Said.{Said, passed, refused}
-use Rattle.book_body.specs.Body.{FieldSays, listAt, bodyOf}
+use Rattle.book_body.specs.Body.{listAt}
 use Rattle.book_body.specs.declared.Got.{Got}
 use Rattle.book_body.specs.declared.Got.the-variants.{Length, Short, NoList}
-
-pub record BothSold (a b : List ℕ) : Type 0 where
-  pub first : FieldSays (bodyOf a) 0
-  pub second : FieldSays (bodyOf b) 0
-
-pub record BothOver (a b : List ℕ) : Type 0 where
-  pub sold : BothSold a b
-  pub over : u2 a 0 ≡ u2 b 0
-
-pub record Clipped (n r : ℕ) : Type 0 where
-  pub within : r ≤ 14
-  pub short : n ≤ 14 → r ≡ n
-  pub long : 14 < n → r ≡ 14
 
 abbrev pub gotSays : Got → Said
 gotSays (Length n) = passed n

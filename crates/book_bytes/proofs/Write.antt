@@ -1,46 +1,30 @@
--- Writing into a slice, piece after piece.
+-- Numbers and lists written into a slice, and bytes moved within one.
+--   two-put, four-put                  a number in 2 and in 4 bytes
+--   list-none, list-more, list-all     a list, number by number
+--   lift-none, lift-more, lift-all     bytes moved up, the last first
 use mathlib.Core.Path.{_≡_, refl, sym, ap, ap₂, _∙_, subst}
 use mathlib.Core.List.{List, [], _∷_, _++_, append-assoc}
 use Prim.Native.Nat.{ℕ, suc, _+_, _-_, _*_, _/_, _%_, _<_, _≤_}
-use native.Mathlib.Nat.{add-zero}
 use native.Mathlib.Numerals.{add-one}
 use native.Mathlib.Omega.{arith}
-use lib.ListN.{length, getD, take, drop, set, length-append, length-drop}
-use lib.Seq.{sets, length-sets, take-suc, take-length, length-take-le, drop-cons, set-comm, getD-set-other}
-use Rattle.book_bytes.specs.Bytes.{le, words, Put}
+use lib.ListN.{length, getD, take, drop, set, length-drop}
+use lib.Seq.{sets, length-sets, take-suc, take-length, length-take-le, drop-cons}
+use Rattle.base_lists.specs.Pieces.{Written}
+use Rattle.base_lists.proofs.Puts.{written, written-none, written-then, set-sets, put-before}
+use Rattle.book_bytes.specs.Bytes.{le, words}
 
-sets-append : (d : List ℕ) (i : ℕ) (x y : List ℕ) → sets (sets d i x) (i + length x) y ≡ sets d i (x ++ y)
-sets-append d i [] y = ap (λ (k : ℕ). sets d k y) (add-zero i)
-sets-append d i (a ∷ x) y =
-    ap (λ (k : ℕ). sets (sets (set d i a) (suc i) x) k y) (let e : i + suc (length x) ≡ suc i + length x = omega arith in e)
-    ∙ sets-append (set d i a) (suc i) x y
-
-pub put : (d : List ℕ) (at : ℕ) (x : List ℕ) (k : ℕ) → length x ≡ k → Put d at x k (at + k) (sets d at x)
-put d at x k e = record { next = refl; size = e; done = refl; same = length-sets d at x }
-
--- one piece after another
-pub andThen : (d : List ℕ) (at : ℕ) (x : List ℕ) (k r : ℕ) (d' : List ℕ) (y : List ℕ) (m q : ℕ) (e : List ℕ) → Put d at x k r d' → Put d' r y m q e → Put d at (x ++ y) (k + m) q e
-andThen d at x k r d' y m q e a b =
-    let n : r ≡ at + length x = a .next ∙ ap (λ (z : ℕ). at + z) (sym (a .size)) in
-    record {
-      next = (let u : r ≡ at + k = a .next in let v : q ≡ r + m = b .next in omega arith);
-      size = length-append x y ∙ ap (λ (z : ℕ). z + length y) (a .size) ∙ ap (λ (z : ℕ). k + z) (b .size);
-      done = b .done ∙ ap (λ (z : List ℕ). sets z r y) (a .done) ∙ ap (λ (z : ℕ). sets (sets d at x) z y) n ∙ sets-append d at x y;
-      same = b .same ∙ a .same;
-    }
-
-pub two-put : (d : List ℕ) (at v : ℕ) → Put d at (le 2 v) 2 (at + 2) (set (set d at (v % 256)) (at + 1) (v / 256 % 256))
+pub two-put : (d : List ℕ) (at v : ℕ) → Written d at (le 2 v) 2 (at + 2) (set (set d at (v % 256)) (at + 1) (v / 256 % 256))
 unfolding le
-two-put d at v = rw add-one (put d at (v % 256 ∷ v / 256 % 256 ∷ []) 2 refl)
+two-put d at v = rw add-one (written d at (v % 256 ∷ v / 256 % 256 ∷ []) 2 refl)
 
 pub four-put : (d : List ℕ) (at v : ℕ)
-    → Put d at (le 4 v) 4 (at + 4) (set (set (set (set d at (v % 256)) (at + 1) (v / 256 % 256)) (at + 2) (v / 256 / 256 % 256)) (at + 3) (v / 256 / 256 / 256 % 256))
+    → Written d at (le 4 v) 4 (at + 4) (set (set (set (set d at (v % 256)) (at + 1) (v / 256 % 256)) (at + 2) (v / 256 / 256 % 256)) (at + 3) (v / 256 / 256 / 256 % 256))
 unfolding le
 four-put d at v =
     let e1 : at + 1 ≡ suc at = omega arith in
     let e2 : at + 2 ≡ suc (suc at) = omega arith in
     let e3 : at + 3 ≡ suc (suc (suc at)) = omega arith in
-    rw (e1, e2, e3) (put d at (v % 256 ∷ v / 256 % 256 ∷ v / 256 / 256 % 256 ∷ v / 256 / 256 / 256 % 256 ∷ []) 4 refl)
+    rw (e1, e2, e3) (written d at (v % 256 ∷ v / 256 % 256 ∷ v / 256 / 256 % 256 ∷ v / 256 / 256 / 256 % 256 ∷ []) 4 refl)
 
 words-append : (x y : List ℕ) → words (x ++ y) ≡ words x ++ words y
 unfolding words
@@ -51,54 +35,31 @@ words-one : (a : ℕ) → words (a ∷ []) ≡ le 2 a
 unfolding words le
 words-one a = refl
 
-pub list-none : (d : List ℕ) (at : ℕ) (l : List ℕ) → Put d at (words (take 0 l)) (2 * 0) at d
+pub list-none : (d : List ℕ) (at : ℕ) (l : List ℕ) → Written d at (words (take 0 l)) (2 * 0) at d
 unfolding words
 list-none d at l = record { next = (let e : at ≡ at + 0 = omega arith in e); size = refl; done = refl; same = refl }
 
 pub list-more : (d : List ℕ) (at : ℕ) (l : List ℕ) (i o : ℕ) (d' : List ℕ) (q : ℕ) (e : List ℕ) → i < length l
-    → Put d at (words (take i l)) (2 * i) o d' → Put d' o (le 2 (getD l i 0)) 2 q e → Put d at (words (take (i + 1) l)) (2 * (i + 1)) q e
+    → Written d at (words (take i l)) (2 * i) o d' → Written d' o (le 2 (getD l i 0)) 2 q e → Written d at (words (take (i + 1) l)) (2 * (i + 1)) q e
 list-more d at l i o d' q e h a b =
     let w : words (take i l) ++ le 2 (getD l i 0) ≡ words (take (i + 1) l) =
     ap (λ (z : List ℕ). words (take i l) ++ z) (sym (words-one (getD l i 0))) ∙ sym (words-append (take i l) (getD l i 0 ∷ []))
     ∙ ap words (sym (take-suc l i 0 h)) ∙ ap (λ (k : ℕ). words (take k l)) (sym (add-one i)) in
     let n : 2 * i + 2 ≡ 2 * (i + 1) = omega arith in
-    subst (λ (k : ℕ). Put d at (words (take (i + 1) l)) k q e) n
-    (subst (λ (x : List ℕ). Put d at x (2 * i + 2) q e) w (andThen d at (words (take i l)) (2 * i) o d' (le 2 (getD l i 0)) 2 q e a b))
+    subst (λ (k : ℕ). Written d at (words (take (i + 1) l)) k q e) n
+    (subst (λ (x : List ℕ). Written d at x (2 * i + 2) q e) w (written-then d at (words (take i l)) (2 * i) o d' (le 2 (getD l i 0)) 2 q e a b))
 
-pub list-all : (d : List ℕ) (at : ℕ) (l : List ℕ) (i o : ℕ) (d' : List ℕ) → i ≤ length l → length l ≤ i → Put d at (words (take i l)) (2 * i) o d'
-    → Put d at (words l) (2 * length l) o d'
+pub list-all : (d : List ℕ) (at : ℕ) (l : List ℕ) (i o : ℕ) (d' : List ℕ) → i ≤ length l → length l ≤ i → Written d at (words (take i l)) (2 * i) o d'
+    → Written d at (words l) (2 * length l) o d'
 list-all d at l i o d' h k a =
     let e : i ≡ length l = omega arith in
-    subst (λ (x : List ℕ). Put d at (words x) (2 * length l) o d') (take-length l) (subst (λ (j : ℕ). Put d at (words (take j l)) (2 * j) o d') e a)
+    subst (λ (x : List ℕ). Written d at (words x) (2 * length l) o d') (take-length l) (subst (λ (j : ℕ). Written d at (words (take j l)) (2 * j) o d') e a)
 
 -- ---- bytes copied one by one
-pub copy-none : (d : List ℕ) (at : ℕ) (s : List ℕ) → Put d at (take 0 s) 0 at d
-copy-none d at s = record { next = (let e : at ≡ at + 0 = omega arith in e); size = refl; done = refl; same = refl }
-
-pub copy-more : (d : List ℕ) (at : ℕ) (s : List ℕ) (i o v : ℕ) (d' : List ℕ) → i < length s → v ≡ getD s i 0
-    → Put d at (take i s) i o d' → Put d at (take (i + 1) s) (i + 1) (o + 1) (set d' o v)
-copy-more d at s i o v d' h g a =
-    let e : take i s ++ (v ∷ []) ≡ take (i + 1) s =
-    ap (λ (z : ℕ). take i s ++ (z ∷ [])) g ∙ sym (take-suc s i 0 h) ∙ ap (λ (k : ℕ). take k s) (sym (add-one i)) in
-    subst (λ (x : List ℕ). Put d at x (i + 1) (o + 1) (set d' o v)) e
-    (andThen d at (take i s) i o d' (v ∷ []) 1 (o + 1) (set d' o v) a (put d' o (v ∷ []) 1 refl))
-
-pub copy-all : (d : List ℕ) (at : ℕ) (s : List ℕ) (n i o : ℕ) (d' : List ℕ) → length s ≡ n → i ≤ n → n ≤ i → Put d at (take i s) i o d' → Put d at s n o d'
-copy-all d at s n i o d' l h k a =
-    let e : i ≡ n = omega arith in
-    let f : take n s ≡ s = ap (λ (j : ℕ). take j s) (sym l) ∙ take-length s in
-    subst (λ (x : List ℕ). Put d at x n o d') f (subst (λ (j : ℕ). Put d at (take j s) j o d') e a)
+pub copy-none : (d : List ℕ) (at : ℕ) (s : List ℕ) → Written d at (take 0 s) 0 at d
+copy-none d at s = written-none d at
 
 -- ---- bytes moved up within one slice, the last first
-set-sets : (d : List ℕ) (j k v : ℕ) (x : List ℕ) → k < j → set (sets d j x) k v ≡ sets (set d k v) j x
-set-sets d j k v [] h = refl
-set-sets d j k v (a ∷ x) h =
-    set-sets (set d j a) (suc j) k v x (omega arith) ∙ ap (λ (z : List ℕ). sets z (suc j) x) (set-comm d j k a v (λ e. omega arith))
-
-pub getD-sets : (d : List ℕ) (j k : ℕ) (x : List ℕ) → k < j → getD (sets d j x) k 0 ≡ getD d k 0
-getD-sets d j k [] h = refl
-getD-sets d j k (a ∷ x) h = getD-sets (set d j a) (suc j) k x (omega arith) ∙ getD-set-other d j k a 0 (λ e. omega arith)
-
 pub lift-none : (d : List ℕ) (to by : ℕ) → d ≡ sets d (to + by) (take (to - to) (drop to d))
 lift-none d to by = let e : to - to ≡ 0 = omega arith in rw e refl
 
@@ -107,7 +68,7 @@ pub lift-more : (d d' : List ℕ) (i to by : ℕ) → 0 < i → i ≤ to → to 
 lift-more d d' i to by h k l e =
     let x : List ℕ = take (to - i) (drop i d) in
     let v : ℕ = getD d (i - 1) 0 in
-    let g : getD d' (i - 1) 0 ≡ v = ap (λ (z : List ℕ). getD z (i - 1) 0) e ∙ getD-sets d (i + by) (i - 1) x (omega arith) in
+    let g : getD d' (i - 1) 0 ≡ v = ap (λ (z : List ℕ). getD z (i - 1) 0) e ∙ put-before d (i + by) (i - 1) x (omega arith) in
     let f : i + by ≡ suc (i - 1 + by) = omega arith in
     let s : suc (i - 1) ≡ i = omega arith in
     let n : to - (i - 1) ≡ suc (to - i) = omega arith in
@@ -119,7 +80,7 @@ lift-more d d' i to by h k l e =
     ∙ ap (sets d (i - 1 + by)) (sym c)
 
 pub lift-all : (d d' : List ℕ) (from i to by : ℕ) → from ≤ i → i ≤ from → from ≤ to → to ≤ length d → d' ≡ sets d (i + by) (take (to - i) (drop i d))
-    → Put d (from + by) (take (to - from) (drop from d)) (to - from) (to + by) d'
+    → Written d (from + by) (take (to - from) (drop from d)) (to - from) (to + by) d'
 lift-all d d' from i to by h k l m e =
     let q : i ≡ from = omega arith in
     let n : length (drop from d) ≡ length d - from = length-drop from d in

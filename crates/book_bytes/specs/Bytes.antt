@@ -9,14 +9,12 @@
 --   listAt head from s k      list k of s
 --   Bytes s      every entry of s is below 256
 --   Small l      every entry of l fits 2 bytes
---   Put d at x k r d'   d' is d with the piece x, of k bytes, from `at` on, and r is the place after it
+-- A piece of bytes is written by `Written` of crate base_lists.
 -- That what is written reads back, and what is read is what was written, is in proofs/Read.antt; lists in
--- proofs/Lists.antt; pieces in proofs/Write.antt.
-use mathlib.Core.Path.{_≡_}
+-- proofs/Lists.antt; numbers and lists written in proofs/Write.antt.
 use mathlib.Core.List.{List, [], _∷_, _++_}
 use Prim.Native.Nat.{ℕ, zero, suc, _+_, _*_, _/_, _%_, _<_}
 use lib.ListN.{length, getD, drop}
-use lib.Seq.{sets}
 
 unfoldable pub le : ℕ → ℕ → List ℕ
 le zero n = []
@@ -52,9 +50,3 @@ Bytes s = (i : ℕ) → getD s i 0 < 256
 
 abbrev pub Small : List ℕ → Type 0
 Small l = (i : ℕ) → i < length l → getD l i 0 < 65536
-
-pub record Put (d : List ℕ) (at : ℕ) (x : List ℕ) (k r : ℕ) (d' : List ℕ) : Type 0 where
-  pub next : r ≡ at + k
-  pub size : length x ≡ k
-  pub done : d' ≡ sets d at x
-  pub same : length d' ≡ length d

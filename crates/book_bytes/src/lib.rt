@@ -2,7 +2,8 @@
 ghost use mathlib.Core.Path.{_≡_};
 ghost use Prim.Native.Nat.{_+_, _-_, _*_, _≤_, _<_};
 ghost use lib.ListN.{length, getD, take, drop};
-ghost use Rattle.book_bytes.specs.Bytes.{u2, u4, le, words, listStart, listAt, Small, Put};
+ghost use Rattle.base_lists.specs.Pieces.{Written};
+ghost use Rattle.book_bytes.specs.Bytes.{u2, u4, le, words, listStart, listAt, Small};
 
 // The byte at i; 0 past the end.
 fn byte(s: &[u8], i: usize) -> usize
@@ -71,7 +72,7 @@ pub fn item(s: &[u8], head: usize, from: usize, k: usize, i: usize) -> u64
 pub fn read_list(s: &[u8], head: usize, from: usize, k: usize, out: &mut [u64]) -> usize
     requires { ⌜ (head < 1000) × (from < 1000) × (k < 8) × (u2 (now s) (from + 2 * k) ≤ length (now out)) ⌝ }
     ensures { λ r.
-        ⌜ Put (now (out .entry)) 0 (listAt head from (now (s .entry)) k) (u2 (now (s .entry)) (from + 2 * k)) r (now (out .exit)) ⌝ }
+        ⌜ Written (now (out .entry)) 0 (listAt head from (now (s .entry)) k) (u2 (now (s .entry)) (from + 2 * k)) r (now (out .exit)) ⌝ }
 {
     let n = two(s, from + 2 * k);
     let at = start(s, head, from, k);
@@ -87,7 +88,7 @@ pub fn read_list(s: &[u8], head: usize, from: usize, k: usize, out: &mut [u64]) 
 // v in 2 bytes at `at`; the place after them.
 pub fn put_two(out: &mut [u8], at: usize, v: u64) -> usize
     requires { ⌜ (at + 2 ≤ length (now out)) × (v < 65536) ⌝ }
-    ensures { λ r. ⌜ Put (now (out .entry)) at (le 2 v) 2 r (now (out .exit)) ⌝ }
+    ensures { λ r. ⌜ Written (now (out .entry)) at (le 2 v) 2 r (now (out .exit)) ⌝ }
 {
     out[at] = (v % 256) as u8;
     out[at + 1] = (v / 256 % 256) as u8;
@@ -97,7 +98,7 @@ pub fn put_two(out: &mut [u8], at: usize, v: u64) -> usize
 // v in 4 bytes at `at`; the place after them.
 pub fn put_four(out: &mut [u8], at: usize, v: u64) -> usize
     requires { ⌜ (at + 4 ≤ length (now out)) × (v < 4294967296) ⌝ }
-    ensures { λ r. ⌜ Put (now (out .entry)) at (le 4 v) 4 r (now (out .exit)) ⌝ }
+    ensures { λ r. ⌜ Written (now (out .entry)) at (le 4 v) 4 r (now (out .exit)) ⌝ }
 {
     out[at] = (v % 256) as u8;
     out[at + 1] = (v / 256 % 256) as u8;
@@ -109,7 +110,7 @@ pub fn put_four(out: &mut [u8], at: usize, v: u64) -> usize
 // A list, 2 bytes a number, at `at`; the place after it.
 pub fn put_list(out: &mut [u8], at: usize, l: &[u64]) -> usize
     requires { ⌜ (at + 2 * length (now l) ≤ length (now out)) × Small (now l) ⌝ }
-    ensures { λ r. ⌜ Put (now (out .entry)) at (words (now (l .entry))) (2 * length (now (l .entry))) r (now (out .exit)) ⌝ }
+    ensures { λ r. ⌜ Written (now (out .entry)) at (words (now (l .entry))) (2 * length (now (l .entry))) r (now (out .exit)) ⌝ }
 {
     let mut o = at;
     let mut i: usize = 0;
@@ -125,7 +126,7 @@ pub fn put_list(out: &mut [u8], at: usize, l: &[u64]) -> usize
 // The bytes of s at `at`; the place after them.
 pub fn copy_in(out: &mut [u8], at: usize, s: &[u8]) -> usize
     requires { ⌜ at + length (now s) ≤ length (now out) ⌝ }
-    ensures { λ r. ⌜ Put (now (out .entry)) at (now (s .entry)) (length (now (s .entry))) r (now (out .exit)) ⌝ }
+    ensures { λ r. ⌜ Written (now (out .entry)) at (now (s .entry)) (length (now (s .entry))) r (now (out .exit)) ⌝ }
 {
     let mut o = at;
     let mut i: usize = 0;
@@ -142,7 +143,7 @@ pub fn copy_in(out: &mut [u8], at: usize, s: &[u8]) -> usize
 pub fn lift(out: &mut [u8], from: usize, to: usize, by: usize) -> usize
     requires { ⌜ (from ≤ to) × (to + by ≤ length (now out)) ⌝ }
     ensures { λ r.
-        ⌜ Put (now (out .entry)) (from + by) (take (to - from) (drop from (now (out .entry)))) (to - from) r (now (out .exit)) ⌝ }
+        ⌜ Written (now (out .entry)) (from + by) (take (to - from) (drop from (now (out .entry)))) (to - from) r (now (out .exit)) ⌝ }
 {
     let mut i = to;
     while i > from {

@@ -6,7 +6,7 @@ use native.Mathlib.Omega.{arith}
 use Rattle.base_answers.specs.Said.{Said}
 use Rattle.book_check.specs.Book.{Accepted, count}
 use Rattle.book_check.specs.Answer.{reasonSays, answerSays, requestSays, Tells, AskTells, AskedPart, book, no-entry, there, empty}
-use Rattle.book_check.specs.Code.{Ready}
+use Rattle.book_contents.specs.Contents.{Ready}
 use Rattle.book_check.proofs.Facts.{told-fine, thirteen}
 use Rattle.book_check.proofs.One.{accepted-fine}
 use Rattle.book_check.specs.declared.Reason.{Reason}

@@ -1,16 +1,19 @@
 -- Looking for the first entry of one field with a body.
 --   Search s b i r j   of the entries before j none before r is of one field with b; r is, where it is before i
 --   start, hit, miss, end   its loop: nothing found yet; entry j, in hand as o, is of one field with b; it is not; what is found at last
---   sold-here               the entry in hand can be compared with b
+--   sold-here               the entry in hand can be compared
+--   search-own, earliest-own   the search for a body is that for its own p, G, H
 use mathlib.Core.Path.{_≡_, sym, subst}
 use mathlib.Core.List.{List}
 use Prim.Native.Nat.{ℕ, _+_, _<_, _≤_}
 use native.Mathlib.Omega.{arith}
 use borrow.Author.Count.{below-more}
-use Rattle.book_body.specs.Body.{Body, FieldSays, OneField, bodyOf}
-use Rattle.book_body.specs.Code.{BothSold}
+use Rattle.book_bytes.specs.Bytes.{u2}
+use Rattle.book_body.specs.Body.{Body, FieldSays, OneField, listAt, bodyOf}
+use Rattle.book_field.specs.Code.{pairOf, Sold}
+use Rattle.book_field.proofs.Compare.{own-sold, own-field, field-own}
 use Rattle.book_check.specs.Book.{part, entry}
-use Rattle.book_check.specs.Code.{EarlierIn, Earliest}
+use Rattle.book_check.specs.Code.{EarlierIn, SearchIn, Earliest}
 
 pub record Search (s : List ℕ) (b : Body) (i r j : ℕ) : Type 0 where
   pub within : r ≤ i
@@ -39,5 +42,17 @@ module _ {s : List ℕ} {b : Body} {i : ℕ} where
   end w h = record { within = w .within; none = λ k u. w .none k (omega arith) u; found = w .found }
 
 -- bodies that are compared have accepted fields
-pub sold-here : (s b o : List ℕ) (i j : ℕ) → EarlierIn s b i → j < i → o ≡ part s j → BothSold b o
-sold-here s b o i j w h e = record { first = w .own; second = subst (λ (z : List ℕ). FieldSays (bodyOf z) 0) (sym e) (w .each j h) }
+pub sold-here : {s : List ℕ} {p : ℕ} {G H o : List ℕ} {i j : ℕ} → SearchIn s p G H i → j < i → o ≡ part s j → Sold p G H o
+sold-here {j = j} w h e = record { first = w .own; second = subst (λ (z : List ℕ). FieldSays (bodyOf z) 0) (sym e) (w .each j h) }
+
+-- ---- a body's own p, G, H, read once, in place of the body
+module _ (s b : List ℕ) {p : ℕ} {g h : List ℕ} (e : p ≡ u2 b 0) (eg : g ≡ listAt b 0) (eh : h ≡ listAt b 1) where
+  pub search-own : {i : ℕ} → EarlierIn s b i → SearchIn s p g h i
+  search-own w = record { marked = w .marked; listed = w .listed; within = w .within; own = own-sold b e eg eh (w .own); each = w .each }
+
+  pub earliest-own : {i r : ℕ} → Earliest s (pairOf p g h) i r → Earliest s (bodyOf b) i r
+  earliest-own {r = r} w = record {
+    within = w .within;
+    none = λ k u o. w .none k u (field-own b e eg eh (entry s k) o);
+    found = λ u. own-field b e eg eh (entry s r) (w .found u);
+  }

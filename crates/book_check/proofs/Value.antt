@@ -12,7 +12,7 @@ use Rattle.book_body.specs.Body.{Body, Rule, FieldSays, OneField, bodyBytes}
 use Rattle.book_body.proofs.Body.{body-back}
 use Rattle.book_check.specs.Book.{mark, count, startAt, lengthAt, ends, part, entry, Accepted}
 use Rattle.book_check.specs.Value.{rows, valueOf, table, bodies, bookBytes, at, Obeys}
-use Rattle.book_check.proofs.Facts.{ends-zero, inside}
+use Rattle.book_contents.proofs.Contents.{ends-zero, inside}
 
 -- ---- accepted bytes are the writing of what they say
 pub bytes-part : (s : List ℕ) (i : ℕ) → Bytes s → Bytes (part s i)

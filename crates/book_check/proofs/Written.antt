@@ -13,7 +13,7 @@ use Rattle.book_body.proofs.Body.{body-reads, body-size}
 use Rattle.book_body.proofs.Field.{fits}
 use Rattle.book_check.specs.Book.{mark, Marked, Listed, count, startAt, lengthAt, ends, part, entry, Accepted}
 use Rattle.book_check.specs.Value.{valueOf, table, bodies, bookBytes, none, at, Obeys, Written}
-use Rattle.book_check.proofs.Facts.{ends-zero}
+use Rattle.book_contents.proofs.Contents.{ends-zero}
 use Rattle.book_check.proofs.Value.{length-rows, at-rows, book-obeys, book-back}
 
 -- ---- the writing of a value that obeys the rules is accepted, and reads back

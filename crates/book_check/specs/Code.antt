@@ -1,23 +1,20 @@
 -- What the code's own functions promise each other.
---   Ready s i          mark and contents are right, and entry i is there
 --   EntryIn s i        it is ready, and the entries before it are sound
 --   EarlierIn s b i    mark and contents are right, there are i entries or more, and the fields of the body b and of the entries before
 --                      i are accepted: bodies whose field is not are not compared
+--   SearchIn s p G H i the same for a field p, G, H in place of the body
 --   Earliest s b i j   j is the first entry before i that is of one field with the body b, or i
 --   JudgeTells b i r   the bytes b of a body, as entry i: good, or the first of the body's reasons
 --   EntryTells s i r   entry i: sound, or its first fault
 use mathlib.Core.List.{List}
 use Prim.Native.Nat.{ℕ, _<_, _≤_}
 use Rattle.book_body.specs.Body.{Body, FieldSays, OneField, bodyOf, Formed}
+use Rattle.book_field.specs.Code.{pairOf}
+use Rattle.book_contents.specs.Contents.{Ready}
 use Rattle.book_check.specs.Book.{Marked, Listed, count, entry, Sound}
 use Rattle.book_check.specs.Answer.{reasonSays, BodyFault, Fault}
 use Rattle.book_check.specs.declared.Seen.{Seen}
 use Rattle.book_check.specs.declared.Seen.the-variants.{Good, Bad}
-
-pub record Ready (s : List ℕ) (i : ℕ) : Type 0 where
-  pub marked : Marked s
-  pub listed : Listed s
-  pub there : i < count s
 
 pub record EntryIn (s : List ℕ) (i : ℕ) : Type 0 where
   pub ready : Ready s i
@@ -28,6 +25,13 @@ pub record EarlierIn (s b : List ℕ) (i : ℕ) : Type 0 where
   pub listed : Listed s
   pub within : i ≤ count s
   pub own : FieldSays (bodyOf b) 0
+  pub each : (j : ℕ) → j < i → FieldSays (entry s j) 0
+
+pub record SearchIn (s : List ℕ) (p : ℕ) (G H : List ℕ) (i : ℕ) : Type 0 where
+  pub marked : Marked s
+  pub listed : Listed s
+  pub within : i ≤ count s
+  pub own : FieldSays (pairOf p G H) 0
   pub each : (j : ℕ) → j < i → FieldSays (entry s j) 0
 
 pub record Earliest (s : List ℕ) (b : Body) (i j : ℕ) : Type 0 where

@@ -1,14 +1,8 @@
-// The book of units, PCF1: a check of the whole book, and the part that an entry names.
-ghost use mathlib.Core.Path.{_≡_};
-ghost use Prim.Native.Nat.{_<_};
-ghost use Rattle.base_answers.specs.Decides.{Decides};
+// The book of units, PCF1: a check of the whole book, and asking for an entry.
 ghost use Rattle.book_body.specs.Body.{bodyOf};
-ghost use Rattle.book_check.specs.Book.{Marked, Listed, count, part};
+ghost use Rattle.book_field.specs.Code.{pairOf};
 ghost use Rattle.book_check.specs.Answer.{answerSays, requestSays, Tells, AskTells, AskedPart};
-ghost use Rattle.book_check.specs.Code.{Ready, EntryIn, EarlierIn, Earliest, JudgeTells, EntryTells};
-
-// The bytes of a contents entry: start and length.
-const WIDTH: usize = 8;
+ghost use Rattle.book_check.specs.Code.{EntryIn, EarlierIn, SearchIn, Earliest, JudgeTells, EntryTells};
 
 // What is wrong with a book: the first found.
 pub enum Reason {
@@ -38,79 +32,16 @@ pub enum Request {
     NoEntry,
 }
 
-// The mark: its bytes, and the file's length.
-fn marked(s: &[u8]) -> bool
-    ensures { λ r. ⌜ Decides r (Marked (now (s .entry))) ⌝ }
-{
-    if s.len() < 6 {
-        return false;
-    }
-    if s.len() > 65536 {
-        return false;
-    }
-    let mark = b"PCF1";
-    let mut i: usize = 0;
-    while i < 4 {
-        let x = s[i];
-        let y = mark[i];
-        if x != y {
-            return false;
-        }
-        i += 1;
-    }
-    true
-}
-
-// The contents.
-fn listed(s: &[u8]) -> bool
-    ensures { λ r. ⌜ Decides r (Listed (now (s .entry))) ⌝ }
-{
-    let n = book_bytes::two(s, 4);
-    let mut at = 6 + WIDTH * n;
-    let mut i: usize = 0;
-    while i < n {
-        let a = book_bytes::four(s, 6 + WIDTH * i);
-        if a != at {
-            return false;
-        }
-        let l = book_bytes::four(s, 10 + WIDTH * i);
-        at += l;
-        i += 1;
-    }
-    if at != s.len() {
-        return false;
-    }
-    true
-}
-
-// The number of bodies.
-pub fn bodies(s: &[u8]) -> usize
-    ensures { λ r. ⌜ (r ≡ count (now (s .entry))) × (r < 65536) ⌝ }
-{
-    book_bytes::two(s, 4)
-}
-
-// The part that entry i names.
-pub fn part_of(s: &[u8], i: usize) -> &[u8]
-    requires { ⌜ Ready (now s) i ⌝ }
-    ensures { λ r. ⌜ now r ≡ part (now (s .entry)) i ⌝ }
-{
-    let a = book_bytes::four(s, 6 + WIDTH * i);
-    let l = book_bytes::four(s, 10 + WIDTH * i);
-    let e = a + l;
-    &s[a..e]
-}
-
-// The first of the entries before i that is of one field with the body b, or i.
-pub fn earlier(s: &[u8], b: &[u8], i: usize) -> usize
-    requires { ⌜ EarlierIn (now s) (now b) i ⌝ }
-    ensures { λ r. ⌜ Earliest (now (s .entry)) (bodyOf (now (b .entry))) i r ⌝ }
+// The first of the entries before i that is of the field p, G, H, or i.
+fn first_of(s: &[u8], p: u64, g: &[u64], h: &[u64], i: usize) -> usize
+    requires { ⌜ SearchIn (now s) p (now g) (now h) i ⌝ }
+    ensures { λ r. ⌜ Earliest (now (s .entry)) (pairOf p (now (g .entry)) (now (h .entry))) i r ⌝ }
 {
     let mut r = i;
     let mut j: usize = 0;
     while j < r {
-        let o = part_of(s, j);
-        let same = book_body::one_field(b, o);
+        let o = book_contents::part_of(s, j);
+        let same = book_field::of_field(p, g, h, o);
         if same {
             r = j;
         }
@@ -119,15 +50,28 @@ pub fn earlier(s: &[u8], b: &[u8], i: usize) -> usize
     r
 }
 
+// The first of the entries before i that is of one field with the body b, or i. The body's own lists, which are short, are read once.
+pub fn earlier(s: &[u8], b: &[u8], i: usize) -> usize
+    requires { ⌜ EarlierIn (now s) (now b) i ⌝ }
+    ensures { λ r. ⌜ Earliest (now (s .entry)) (bodyOf (now (b .entry))) i r ⌝ }
+{
+    let p = book_bytes::two(b, 0);
+    let mut g: [u64; 13] = [0; 13];
+    let mut h: [u64; 13] = [0; 13];
+    let n = book_bytes::read_list(b, book_body::HEAD, book_body::LENGTHS, 0, &mut g);
+    let m = book_bytes::read_list(b, book_body::HEAD, book_body::LENGTHS, 1, &mut h);
+    first_of(s, p as u64, &g[..n], &h[..m], i)
+}
+
 // A body by itself, as entry i: the body rule, then the field.
 pub fn judge(b: &[u8], i: usize) -> Seen
     ensures { λ r. ⌜ JudgeTells (now (b .entry)) i r ⌝ }
 {
-    let ok = book_body::body_rule(b);
+    let ok = book_rule::body_rule(b);
     if !ok {
         return Seen::Bad(Reason::BodyRule(i));
     }
-    let x = book_body::field_refusal(b);
+    let x = book_field::field_refusal(b);
     if x != 0 {
         return Seen::Bad(Reason::Field(i, x));
     }
@@ -139,7 +83,7 @@ fn entry_of(s: &[u8], i: usize) -> Seen
     requires { ⌜ EntryIn (now s) i ⌝ }
     ensures { λ r. ⌜ EntryTells (now (s .entry)) i r ⌝ }
 {
-    let b = part_of(s, i);
+    let b = book_contents::part_of(s, i);
     let own = judge(b, i);
     match own {
         Seen::Good => {
@@ -157,15 +101,15 @@ fn entry_of(s: &[u8], i: usize) -> Seen
 pub fn check(s: &[u8]) -> Answer
     ensures { λ r. ⌜ Tells (now (s .entry)) (answerSays r) ⌝ }
 {
-    let m = marked(s);
+    let m = book_contents::marked(s);
     if !m {
         return Answer::Refused(Reason::Mark);
     }
-    let l = listed(s);
+    let l = book_contents::listed(s);
     if !l {
         return Answer::Refused(Reason::Contents);
     }
-    let n = bodies(s);
+    let n = book_contents::bodies(s);
     let mut i: usize = 0;
     while i < n {
         let e = entry_of(s, i);
@@ -188,7 +132,7 @@ pub fn ask_answer(s: &[u8], i: usize) -> Request
     let a = check(s);
     match a {
         Answer::Yes => {
-            let n = bodies(s);
+            let n = book_contents::bodies(s);
             if i < n {
                 Request::There
             } else {
@@ -205,7 +149,7 @@ pub fn ask(s: &[u8], i: usize) -> &[u8]
 {
     let a = ask_answer(s, i);
     match a {
-        Request::There => part_of(s, i),
+        Request::There => book_contents::part_of(s, i),
         Request::Refused(_) => &s[..0],
         Request::NoEntry => &s[..0],
     }

@@ -7,7 +7,7 @@ use lib.ListN.{getD}
 use Rattle.base_answers.specs.Said.{Said}
 use Rattle.book_check.specs.Book.{Accepted, count, startAt, lengthAt}
 use Rattle.book_check.specs.Answer.{AskTells}
-use Rattle.book_check.proofs.Facts.{few-of}
+use Rattle.book_contents.proofs.Contents.{few-of}
 use Rattle.book_check.proofs.Asking.{told-there, told-none}
 use Rattle.book_numbers.specs.Numbers.{numbers}
 use Rattle.book_place.specs.Place.{found, none, AskSays}

@@ -8,9 +8,10 @@ use lib.ListN.{length, drop, length-append}
 use lib.Seq.{sets-eq}
 use Rattle.field_open.specs.Refusal.{Refusal}
 use Rattle.field_open.proofs.Stages.{numbered}
-use Rattle.book_bytes.specs.Bytes.{le, words, Put}
+use Rattle.base_lists.specs.Pieces.{Written}
+use Rattle.book_bytes.specs.Bytes.{le, words}
 use Rattle.book_bytes.proofs.Read.{length-words}
-use Rattle.book_bytes.proofs.Write.{andThen}
+use Rattle.base_lists.proofs.Puts.{written-then}
 use Rattle.base_answers.specs.Said.{passed, refused}
 use Rattle.book_body.specs.Body.{Body, Rule, FieldSays, bodyBytes}
 use Rattle.book_body.proofs.Field.{Fits, fits}
@@ -19,30 +20,30 @@ use Rattle.book_write.specs.Code.{Head, headBytes, Lists, listBytes, lis
 
 -- ---- the numbers of a body
 pub head-put : (d0 d1 d2 d3 d4 d5 d6 d7 : List ℕ) (p g h a b c t x0 x1 x2 x3 x4 x5 r : ℕ)
-    → Put d0 0 (le 2 p) 2 x0 d1 → Put d1 x0 (le 2 g) 2 x1 d2 → Put d2 x1 (le 2 h) 2 x2 d3 → Put d3 x2 (le 2 a) 2 x3 d4 → Put d4 x3 (le 2 b) 2 x4 d5
-    → Put d5 x4 (le 2 c) 2 x5 d6 → Put d6 x5 (le 4 t) 4 r d7 → Put d0 0 (headBytes p g h a b c t) 16 r d7
+    → Written d0 0 (le 2 p) 2 x0 d1 → Written d1 x0 (le 2 g) 2 x1 d2 → Written d2 x1 (le 2 h) 2 x2 d3 → Written d3 x2 (le 2 a) 2 x3 d4 → Written d4 x3 (le 2 b) 2 x4 d5
+    → Written d5 x4 (le 2 c) 2 x5 d6 → Written d6 x5 (le 4 t) 4 r d7 → Written d0 0 (headBytes p g h a b c t) 16 r d7
 unfolding headBytes
 head-put d0 d1 d2 d3 d4 d5 d6 d7 p g h a b c t x0 x1 x2 x3 x4 x5 r q0 q1 q2 q3 q4 q5 q6 =
-    let s1 = andThen d0 0 _ 2 x0 d1 (le 2 g) 2 x1 d2 q0 q1 in
-    let s2 = andThen d0 0 _ 4 x1 d2 (le 2 h) 2 x2 d3 s1 q2 in
-    let s3 = andThen d0 0 _ 6 x2 d3 (le 2 a) 2 x3 d4 s2 q3 in
-    let s4 = andThen d0 0 _ 8 x3 d4 (le 2 b) 2 x4 d5 s3 q4 in
-    let s5 = andThen d0 0 _ 10 x4 d5 (le 2 c) 2 x5 d6 s4 q5 in
-    andThen d0 0 _ 12 x5 d6 (le 4 t) 4 r d7 s5 q6
+    let s1 = written-then d0 0 _ 2 x0 d1 (le 2 g) 2 x1 d2 q0 q1 in
+    let s2 = written-then d0 0 _ 4 x1 d2 (le 2 h) 2 x2 d3 s1 q2 in
+    let s3 = written-then d0 0 _ 6 x2 d3 (le 2 a) 2 x3 d4 s2 q3 in
+    let s4 = written-then d0 0 _ 8 x3 d4 (le 2 b) 2 x4 d5 s3 q4 in
+    let s5 = written-then d0 0 _ 10 x4 d5 (le 2 c) 2 x5 d6 s4 q5 in
+    written-then d0 0 _ 12 x5 d6 (le 4 t) 4 r d7 s5 q6
 
 -- ---- the lists of a body
 abbrev PutLists : List ℕ → ℕ → List ℕ → List ℕ → List ℕ → List ℕ → List ℕ → ℕ → List ℕ → Type 0
-PutLists d at g h a b c r d' = Put d at (listBytes g h a b c) (listLong g h a b c) r d'
+PutLists d at g h a b c r d' = Written d at (listBytes g h a b c) (listLong g h a b c) r d'
 
 pub lists-put : (d0 d1 d2 d3 d4 d5 : List ℕ) (at : ℕ) (g h a b c : List ℕ) (x0 x1 x2 x3 r : ℕ)
-    → Put d0 at (words g) (2 * length g) x0 d1 → Put d1 x0 (words h) (2 * length h) x1 d2 → Put d2 x1 (words a) (2 * length a) x2 d3
-    → Put d3 x2 (words b) (2 * length b) x3 d4 → Put d4 x3 (words c) (2 * length c) r d5 → PutLists d0 at g h a b c r d5
+    → Written d0 at (words g) (2 * length g) x0 d1 → Written d1 x0 (words h) (2 * length h) x1 d2 → Written d2 x1 (words a) (2 * length a) x2 d3
+    → Written d3 x2 (words b) (2 * length b) x3 d4 → Written d4 x3 (words c) (2 * length c) r d5 → PutLists d0 at g h a b c r d5
 unfolding listBytes
 lists-put d0 d1 d2 d3 d4 d5 at g h a b c x0 x1 x2 x3 r q0 q1 q2 q3 q4 =
-    let s1 = andThen d0 at _ _ x0 d1 (words h) _ x1 d2 q0 q1 in
-    let s2 = andThen d0 at _ _ x1 d2 (words a) _ x2 d3 s1 q2 in
-    let s3 = andThen d0 at _ _ x2 d3 (words b) _ x3 d4 s2 q3 in
-    andThen d0 at _ _ x3 d4 (words c) _ r d5 s3 q4
+    let s1 = written-then d0 at _ _ x0 d1 (words h) _ x1 d2 q0 q1 in
+    let s2 = written-then d0 at _ _ x1 d2 (words a) _ x2 d3 s1 q2 in
+    let s3 = written-then d0 at _ _ x2 d3 (words b) _ x3 d4 s2 q3 in
+    written-then d0 at _ _ x3 d4 (words c) _ r d5 s3 q4
 
 -- numbers and lists are the body's bytes
 pub body-bytes : (b : Body)
@@ -67,20 +68,20 @@ rule-any p G H G' H' t a b c r =
 
 -- head and lists, one after the other, are the body
 pub body-put : (b : Body) (d d1 d2 : List ℕ) (x r : ℕ)
-    → Put d 0 (headBytes (b .p) (length (b .G)) (length (b .H)) (length (b .E0)) (length (b .E1)) (length (b .E2)) (b .period)) 16 x d1
+    → Written d 0 (headBytes (b .p) (length (b .G)) (length (b .H)) (length (b .E0)) (length (b .E1)) (length (b .E2)) (b .period)) 16 x d1
     → PutLists d1 x (b .G) (b .H) (b .E0) (b .E1) (b .E2) r d2
-    → Put d 0 (bodyBytes b) (16 + listLong (b .G) (b .H) (b .E0) (b .E1) (b .E2)) r d2
+    → Written d 0 (bodyBytes b) (16 + listLong (b .G) (b .H) (b .E0) (b .E1) (b .E2)) r d2
 body-put b d d1 d2 x r q u =
-    subst (λ (z : List ℕ). Put d 0 z (16 + listLong (b .G) (b .H) (b .E0) (b .E1) (b .E2)) r d2) (body-bytes b)
-    (andThen d 0 _ 16 x d1 (listBytes (b .G) (b .H) (b .E0) (b .E1) (b .E2)) _ r d2 q u)
+    subst (λ (z : List ℕ). Written d 0 z (16 + listLong (b .G) (b .H) (b .E0) (b .E1) (b .E2)) r d2) (body-bytes b)
+    (written-then d 0 _ 16 x d1 (listBytes (b .G) (b .H) (b .E0) (b .E1) (b .E2)) _ r d2 q u)
 
 pub done-of : (b : Body) (d d1 d2 : List ℕ) (x r : ℕ) → FieldSays b 0 → Rule b
     → 16 + listLong (b .G) (b .H) (b .E0) (b .E1) (b .E2) ≤ length d
-    → Put d 0 (headBytes (b .p) (length (b .G)) (length (b .H)) (length (b .E0)) (length (b .E1)) (length (b .E2)) (b .period)) 16 x d1
+    → Written d 0 (headBytes (b .p) (length (b .G)) (length (b .H)) (length (b .E0)) (length (b .E1)) (length (b .E2)) (b .period)) 16 x d1
     → PutLists d1 x (b .G) (b .H) (b .E0) (b .E1) (b .E2) r d2
     → WriteTells b d (passed r) d2
 done-of b d d1 d2 x r o ru m q u =
-    let w : Put d 0 (bodyBytes b) (16 + listLong (b .G) (b .H) (b .E0) (b .E1) (b .E2)) r d2 = body-put b d d1 d2 x r q u in
+    let w : Written d 0 (bodyBytes b) (16 + listLong (b .G) (b .H) (b .E0) (b .E1) (b .E2)) r d2 = body-put b d d1 d2 x r q u in
     let k : ℕ = 16 + listLong (b .G) (b .H) (b .E0) (b .E1) (b .E2) in
     let n : r ≡ 0 + k = w .next in
     let s : length (bodyBytes b) ≡ k = w .size in
@@ -124,7 +125,7 @@ head-of b d k h =
     }
 
 pub lists-of : (b : Body) (d d1 y : List ℕ) (x : ℕ) → Known b → 16 + listLong (b .G) (b .H) (b .E0) (b .E1) (b .E2) ≤ length d
-    → Put d 0 y 16 x d1 → Lists d1 x (b .G) (b .H) (b .E0) (b .E1) (b .E2)
+    → Written d 0 y 16 x d1 → Lists d1 x (b .G) (b .H) (b .E0) (b .E1) (b .E2)
 lists-of b d d1 y x k h q =
     let f : Fits b = fits b (k .rule) (k .field) in
     let n : x ≡ 0 + 16 = q .next in

@@ -1,7 +1,7 @@
 // Writing a body of the book into a lent slice.
 ghost use mathlib.Core.List.{[]};
 ghost use Prim.Native.Nat.{_+_, _*_, _<_};
-ghost use Rattle.book_bytes.specs.Bytes.{Put};
+ghost use Rattle.base_lists.specs.Pieces.{Written};
 ghost use Rattle.base_answers.specs.Decides.{Decides};
 ghost use Rattle.book_body.specs.Body.{Rule};
 ghost use Rattle.book_write.specs.Code.{Head, headBytes, Lists, listBytes, listLong};
@@ -18,7 +18,7 @@ pub enum Wrote {
 // The numbers of a body: p, the lengths, the period.
 fn put_head(out: &mut [u8], p: u64, g: u64, h: u64, a: u64, b: u64, c: u64, t: u64) -> usize
     requires { ⌜ Head (now out) p g h a b c t ⌝ }
-    ensures { λ r. ⌜ Put (now (out .entry)) 0 (headBytes p g h a b c t) 16 r (now (out .exit)) ⌝ }
+    ensures { λ r. ⌜ Written (now (out .entry)) 0 (headBytes p g h a b c t) 16 r (now (out .exit)) ⌝ }
 {
     let x0 = book_bytes::put_two(out, 0, p);
     let x1 = book_bytes::put_two(out, x0, g);
@@ -41,7 +41,7 @@ fn put_lists(
 ) -> usize
     requires { ⌜ Lists (now out) at (now g) (now h) (now a) (now b) (now c) ⌝ }
     ensures { λ r.
-        ⌜ Put (now (out .entry)) at (listBytes (now (g .entry)) (now (h .entry)) (now (a .entry)) (now (b .entry)) (now (c .entry)))
+        ⌜ Written (now (out .entry)) at (listBytes (now (g .entry)) (now (h .entry)) (now (a .entry)) (now (b .entry)) (now (c .entry)))
         (listLong (now (g .entry)) (now (h .entry)) (now (a .entry)) (now (b .entry)) (now (c .entry))) r (now (out .exit)) ⌝ }
 {
     let x0 = book_bytes::put_list(out, at, g);
@@ -61,21 +61,21 @@ fn rule_of(p: u64, t: u64, a: &[u64], b: &[u64], c: &[u64]) -> bool
     if t > 1000000 {
         return false;
     }
-    let r0 = book_body::unit_list(p, a);
+    let r0 = book_rule::unit_list(p, a);
     if !r0 {
         return false;
     }
-    let r1 = book_body::unit_list(p, b);
+    let r1 = book_rule::unit_list(p, b);
     if !r1 {
         return false;
     }
-    let r2 = book_body::unit_list(p, c);
+    let r2 = book_rule::unit_list(p, c);
     if !r2 {
         return false;
     }
     let n = a.len();
     let top = a[n - 1];
-    let first = book_body::first_list(n, top);
+    let first = book_rule::first_list(n, top);
     if !first {
         return false;
     }

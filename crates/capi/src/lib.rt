@@ -182,7 +182,7 @@ pub extern "C" fn zaminuk_book_check(book: &[u8], said: &mut [u64; 5])
 pub extern "C" fn zaminuk_book_bodies(book: &[u8]) -> usize
     ensures { λ n. ⌜ n ≡ count (now (book .entry)) ⌝ }
 {
-    book_check::bodies(book)
+    book_contents::bodies(book)
 }
 
 // Asks for entry i: where its part of the book starts, and how long it is.

@@ -3,7 +3,7 @@ use mathlib.Core.Path.{_≡_, sym, _∙_}
 use mathlib.Core.List.{List}
 use Prim.Native.Nat.{ℕ}
 use Rattle.base_answers.specs.declared.Period.{Period}
-use Rattle.book_bytes.specs.Bytes.{Put}
+use Rattle.base_lists.specs.Pieces.{Written}
 use Rattle.book_body.specs.Body.{FieldSays, bodyOf}
 use Rattle.book_check.specs.Answer.{answerSays, requestSays, Tells, AskTells}
 use Rattle.book_check.specs.declared.Answer.{Answer}
@@ -11,7 +11,7 @@ use Rattle.book_check.specs.declared.Request.{Request}
 use Rattle.book_check.proofs.One.{field-one, answer-one, request-one, tells-one, ask-one}
 
 -- book_bytes: read_list, put_two, put_four, put_list, copy_in, lift
-pub put-one : {d : List ℕ} {at : ℕ} {x : List ℕ} {k r s : ℕ} {e f : List ℕ} → Put d at x k r e → Put d at x k s f → (r ≡ s) × (e ≡ f)
+pub put-one : {d : List ℕ} {at : ℕ} {x : List ℕ} {k r s : ℕ} {e f : List ℕ} → Written d at x k r e → Written d at x k s f → (r ≡ s) × (e ≡ f)
 put-one h k = (h .next ∙ sym (k .next), h .done ∙ sym (k .done))
 
 -- ---- book_body

@@ -9,20 +9,22 @@ use native.Mathlib.Omega.{arith}
 use lib.ListN.{length, getD, take, drop}
 use lib.Seq.{getD-take, getD-drop}
 use Rattle.poly_long.specs.Long.{Scaled}
-use Rattle.unit_rows.proofs.Parts.{mid, mid-length, Put, put-back}
+use Rattle.base_lists.specs.Pieces.{between}
+use Rattle.base_lists.proofs.Pieces.{between-length}
+use Rattle.base_lists.proofs.Puts.{Around, put-back}
 use Rattle.pair_agree.specs.Rows.{Straight}
 use Rattle.door_transfer.specs.Code.{PartIn, Part, Multiplied}
 
 module _ (p k at c : ℕ) (l : List ℕ) (h : PartIn p k at c l) where
-  long : length (mid at (at + c) l) ≡ c
-  long = mid-length at (at + c) l (omega arith) (h .inside) ∙ (let o : at + c - at ≡ c = omega arith in o)
+  long : length (between at (at + c) l) ≡ c
+  long = between-length at (at + c) l (omega arith) (h .inside) ∙ (let o : at + c - at ≡ c = omega arith in o)
 
-  mid-at : (i : ℕ) → i < c → getD (mid at (at + c) l) i 0 ≡ getD l (at + i) 0
+  mid-at : (i : ℕ) → i < c → getD (between at (at + c) l) i 0 ≡ getD l (at + i) 0
   mid-at i u = getD-take (at + c - at) (drop at l) i 0 (omega arith) ∙ getD-drop at l i 0
 
-  pub part-made : (d : List ℕ) (m : ℕ) → m ≡ c → Scaled p k (mid at (at + c) l) d → Part p k at c l (take at l ++ (d ++ drop m (drop at l)))
+  pub part-made : (d : List ℕ) (m : ℕ) → m ≡ c → Scaled p k (between at (at + c) l) d → Part p k at c l (take at l ++ (d ++ drop m (drop at l)))
   part-made d m e s =
-      let put : Put at c l d (take at l ++ (d ++ drop m (drop at l))) = subst (λ j. Put at c l d (take at l ++ (d ++ drop j (drop at l)))) (sym e) (put-back at c l d (h .inside) (s .size ∙ long)) in
+      let put : Around at c l d (take at l ++ (d ++ drop m (drop at l))) = subst (λ j. Around at c l d (take at l ++ (d ++ drop j (drop at l)))) (sym e) (put-back at c l d (h .inside) (s .size ∙ long)) in
       let z = long in record {
         size = put .size;
         before = put .before;

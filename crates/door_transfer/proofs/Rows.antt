@@ -13,6 +13,8 @@ use native.Mathlib.Omega.{arith}
 use native.Mathlib.Decide.{decLt}
 use lib.ListN.{length, getD, List·getD-eq-default}
 use lib.Seq.{ext-getD}
+use Rattle.base_lists.proofs.Pieces.{six}
+pub use Rattle.base_lists.proofs.Pieces.{three}
 use Rattle.field_open.specs.Refusal.{Accepted}
 use Rattle.pair_agree.specs.OneField.{OneField}
 use Rattle.pair_agree.specs.Rows.{Stays, Times, Straight, Crossed, RowsCarry, straight, crossed}
@@ -20,20 +22,6 @@ use Rattle.pair_agree.specs.Answer.{Both}
 use Rattle.pair_agree.proofs.Lists.{leading-not}
 use Rattle.pair_agree.proofs.Relation.{not-both}
 use Rattle.pair_agree.proofs.Laws.{law-one}
-
--- ---- what holds at three rows holds from the first to the last
-pub three : (c at : ℕ) (P : ℕ → Type 0) → ((i : ℕ) → i < c → P (at + i)) → ((i : ℕ) → i < c → P (at + c + i)) → ((i : ℕ) → i < c → P (at + c + c + i))
-    → (i : ℕ) → at ≤ i → i < at + c + c + c → P i
-three c at P a b d i u v = elim (decLt i (at + c)) [
-  | yes k ↦ subst P (let o : at + (i - at) ≡ i = omega arith in o) (a (i - at) (omega arith))
-  | no k ↦ elim (decLt i (at + c + c)) [
-    | yes m ↦ subst P (let o : at + c + (i - (at + c)) ≡ i = omega arith in o) (b (i - (at + c)) (omega arith))
-    | no m ↦ subst P (let o : at + c + c + (i - (at + c + c)) ≡ i = omega arith in o) (d (i - (at + c + c)) (omega arith))
-  ]
-]
-
-six : (c : ℕ) (P : ℕ → Type 0) → ((i : ℕ) → 0 ≤ i → i < 0 + c + c + c → P i) → ((i : ℕ) → c + c + c ≤ i → i < c + c + c + c + c + c → P i) → (i : ℕ) → i < 6 * c → P i
-six c P a b i u = elim (decLt i (c + c + c)) [ yes k ↦ a i (omega arith) (omega arith) | no k ↦ b i (omega arith) (omega arith) ]
 
 abbrev pub Three : ℕ → List ℕ → ℕ → List ℕ → Type 0
 Three c l at l′ = Stays c l at l′ × Stays c l (at + c) l′ × Stays c l (at + c + c) l′

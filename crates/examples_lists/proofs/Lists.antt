@@ -1,6 +1,6 @@
 -- The operations on lists are those of the polynomials, in any reading.
 --   row-cons                      a + t·x
---   row-plus, row-scale, row-times, row-minus, row-cut   sum, multiple, product, negative, zeros cut off
+--   row-plus, row-scale, row-times, row-minus   sum, multiple, product, negative
 --   row-slope                     the derivative
 --   nought-sound, alike-sound     the tests
 --   ends-sound, lead-list, lt-list, has-list   zeros from a place on; degree and leading coefficient
@@ -25,7 +25,7 @@ use Rattle.math_rows.specs.Reading.{Reading}
 use Rattle.math_rows.specs.Derivation.{Derivation}
 use Rattle.math_rows.specs.Row.{tpow, psum, coefs, row}
 use Rattle.math_rows.proofs.Rows.{const-zero, const-neg, cast-sub, psum-lt, psum-lead, row-upto}
-use Rattle.examples_lists.specs.Lists.{before, cut, plus, scale, times, minus, slope, nought, alike, ends}
+use Rattle.examples_lists.specs.Lists.{plus, scale, times, minus, slope, nought, alike, ends}
 
 -- ---- zeros from a place on
 pub ends-sound : (l : List ℕ) (n : ℕ) → T (ends l n) → (i : ℕ) → n ≤ i → getD l i 0 ≡ 0
@@ -109,15 +109,6 @@ module _ {p : ℕ} (ρ : Reading p) where
 
       const-neg′ : const (-ᵏ cast a) ≡ - const (cast a)
       const-neg′ = const-neg ρ (cast a)
-
-  row-before : (a : ℕ) (x : List ℕ) → row ρ (before a x) ≡ row ρ (a ∷ x)
-  row-before zero [] = row-nil ∙ sym (row-zero [] ∙ ap (λ z. t * z) row-nil ∙ r.mul-zero L t)
-  row-before zero (b ∷ x) = refl
-  row-before (suc a) x = refl
-
-  pub row-cut : (x : List ℕ) → row ρ (cut x) ≡ row ρ x
-  row-cut [] = refl
-  row-cut (a ∷ x) = row-before a (cut x) ∙ row-cons a (cut x) ∙ ap (λ z. const (cast a) + t * z) (row-cut x) ∙ sym (row-cons a x)
 
   -- ---- the tests
   nought-cast : (a : ℕ) → T (eqb (a % p) 0) → cast a ≡ 0ᵏ

@@ -23,8 +23,10 @@ use Rattle.math_rows.specs.Reading.{Reading}
 use Rattle.math_rows.specs.Made.{reading, derivation}
 use Rattle.math_rows.proofs.Square.{∂, squarefree-unit}
 use Rattle.poly_rows.specs.Factors.{polynomial}
-use Rattle.examples_lists.specs.Lists.{cut, plus, slope, lists, alike, alikeT}
-use Rattle.examples_lists.proofs.Lists.{row-nil, row-one, row-plus, row-times, row-minus, row-cut, row-slope, alike-sound}
+use Rattle.base_lists.specs.Coefficients.{trim}
+use Rattle.examples_lists.specs.Lists.{plus, slope, lists, alike, alikeT}
+use Rattle.math_rows.proofs.Trims.{trim-row}
+use Rattle.examples_lists.proofs.Lists.{row-nil, row-one, row-plus, row-times, row-minus, row-slope, alike-sound}
 
 -- ---- lists as polynomials
 module _ (p : ℕ) (pr : Prime p) where
@@ -37,7 +39,7 @@ module _ (p : ℕ) (pr : Prime p) where
   pub poly-hom : Hom (lists p) (polys (reading p pr .𝓥) .ops) (polynomial p pr)
   poly-hom = record {
     add = λ x y. P-path (ρ .𝓥) (row-plus ρ x y);
-    mul = λ x y. P-path (ρ .𝓥) (row-times ρ (cut x) (cut y) ∙ ap₂ (ρ .𝓥 .L .ops .mul) (row-cut ρ x) (row-cut ρ y));
+    mul = λ x y. P-path (ρ .𝓥) (row-times ρ (trim x) (trim y) ∙ ap₂ (ρ .𝓥 .L .ops .mul) (trim-row ρ x) (trim-row ρ y));
     neg = λ x. P-path (ρ .𝓥) (row-minus ρ x);
     𝟎 = P-path (ρ .𝓥) (row-nil ρ);
     𝟏 = P-path (ρ .𝓥) (row-one ρ);

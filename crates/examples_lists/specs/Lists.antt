@@ -1,7 +1,6 @@
 -- Reckoning with lists of coefficients mod p, lowest first. Every function here computes on written numbers.
 --   plus, scale, times, minus   sum, multiple by a number, product, negative
 --   slope                       the derivative
---   cut                         the list without the zeros at its end
 --   lists p                     the operations, for every definition that is written over any operations
 --   nought, alike               a list of zeros mod p; two lists of one polynomial
 --   ends                        zeros from a place on
@@ -11,18 +10,9 @@ use mathlib.Core.Bool.{Bool, true, _&&_}
 use mathlib.Core.List.{List, [], _∷_}
 use Prim.Native.Nat.{ℕ, zero, suc, _+_, _*_, _-_, _%_}
 use lib.Dec.{eqb}
+use Rattle.base_lists.specs.Coefficients.{trim}
 use Rattle.math_ring.specs.Ring.{Ops}
 use Rattle.math_triple.specs.Tri.{Tri}
-
--- 0 in front of nothing is nothing
-abbrev pub before : ℕ → List ℕ → List ℕ
-before zero [] = []
-before zero (b ∷ x) = 0 ∷ b ∷ x
-before (suc a) x = suc a ∷ x
-
-abbrev pub cut : List ℕ → List ℕ
-cut [] = []
-cut (a ∷ x) = before a (cut x)
 
 module _ (p : ℕ) where
   abbrev pub plus : List ℕ → List ℕ → List ℕ
@@ -47,7 +37,7 @@ module _ (p : ℕ) where
   slope (a ∷ x) = plus x (0 ∷ slope x)
 
   abbrev pub lists : Ops (List ℕ)
-  lists = record { add = plus; mul = λ x y. times (cut x) (cut y); neg = minus; 𝟎 = []; 𝟏 = 1 ∷ [] }
+  lists = record { add = plus; mul = λ x y. times (trim x) (trim y); neg = minus; 𝟎 = []; 𝟏 = 1 ∷ [] }
 
   abbrev pub nought : List ℕ → Bool
   nought [] = true

@@ -6,7 +6,8 @@
 use mathlib.Core.List.{List, [], _∷_, reverse}
 use Prim.Native.Nat.{ℕ, zero, suc, _+_, _*_, _-_, _%_}
 use lib.ListN.{length}
-use Rattle.examples_lists.specs.Lists.{cut, plus, scale, times, minus}
+use Rattle.base_lists.specs.Coefficients.{trim}
+use Rattle.examples_lists.specs.Lists.{plus, scale, times, minus}
 
 abbrev pub lead : List ℕ → ℕ
 lead [] = 0
@@ -32,10 +33,10 @@ module _ (p : ℕ) where
   byReverse n a (l ∷ b) = digits (suc n - length (l ∷ b)) (inverse l) b a
 
   abbrev pub quotient : List ℕ → List ℕ → List ℕ
-  quotient a b = reverse (byReverse (length (cut a)) (reverse (cut a)) (reverse (cut b)))
+  quotient a b = reverse (byReverse (length (trim a)) (reverse (trim a)) (reverse (trim b)))
 
   abbrev pub rest : List ℕ → List ℕ → List ℕ
-  rest a b = cut (plus p a (minus p (times p (quotient a b) b)))
+  rest a b = trim (plus p a (minus p (times p (quotient a b) b)))
 
   -- a = u f + v g and b = s f + t g
   abbrev pub euclid : ℕ → List ℕ → List ℕ → List ℕ → List ℕ → List ℕ → List ℕ → List ℕ × List ℕ
@@ -47,4 +48,4 @@ module _ (p : ℕ) where
       (plus p v (minus p (times p (quotient a (c ∷ b)) t)))
 
   abbrev pub bezout : List ℕ → List ℕ → List ℕ × List ℕ
-  bezout f g = euclid (length f + length g) (cut f) (1 ∷ []) [] (cut g) [] (1 ∷ [])
+  bezout f g = euclid (length f + length g) (trim f) (1 ∷ []) [] (trim g) [] (1 ∷ [])

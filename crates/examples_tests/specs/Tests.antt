@@ -25,7 +25,8 @@ use Rattle.field_roots.specs.SeriesOf.{top, entry, prod}
 use Rattle.field_roots.specs.Prefix.{enough, plusPart, minusPart}
 use Rattle.field_roots.specs.Pair.{degR, degW}
 use Rattle.basis_record.specs.Record.{part}
-use Rattle.examples_lists.specs.Lists.{cut, plus, scale, minus, slope, lists, alike, alikeT, ends}
+use Rattle.base_lists.specs.Coefficients.{trim}
+use Rattle.examples_lists.specs.Lists.{plus, scale, minus, slope, lists, alike, alikeT, ends}
 use Rattle.examples_lists.specs.Quotients.{quotient, bezout}
 use Rattle.examples_tests.specs.Rows.{Rows}
 
@@ -39,7 +40,7 @@ upTo (suc n) f = f n && upTo n f
 
 -- the place of the last entry that is not 0
 abbrev pub last : List ℕ → ℕ
-last l = length (cut l) - 1
+last l = length (trim l) - 1
 
 module _ (p : ℕ) where
   abbrev pub below : List ℕ → Bool

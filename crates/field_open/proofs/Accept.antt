@@ -27,6 +27,7 @@ use Rattle.math_rows.specs.Row.{row, Size}
 use Rattle.math_rows.proofs.Rows.{size-lead}
 use Rattle.num_prime.specs.Table.{largest}
 use Rattle.poly_rows.specs.Factors.{polynomial}
+use Rattle.base_lists.proofs.Coefs.{coefs-size}
 use Rattle.field_open.specs.Refusal.{longest, highest, Degree, Fault1, Fault2, Fault3, Fault4, Fault5, Fault6, Fault7, Fault8, Rows12, Rows36, Rows78, Refusal, Accepted}
 use Rattle.field_open.specs.Parts.{Shaped}
 use Rattle.field_open.proofs.Stages.{degree-one}
@@ -80,12 +81,7 @@ with-prime A pr = record {
 
 -- ---- the degree of the polynomial
 pub degree-size : {p d : ℕ} {l : List ℕ} → Degree p l d → Size l (suc d)
-degree-size {p} {d} {l} s =
-    let e : length l ≡ suc d = s .whole in record {
-      fits = omega arith;
-      above = λ i h. List·getD-eq-default l 0 {n = i} (omega arith);
-      top = λ h. let w : suc d - 1 ≡ d = omega arith in λ z. s .last (ap (λ n. getD l n 0) (sym w) ∙ z);
-    }
+degree-size = coefs-size
 
 pub degree-lead : {p d : ℕ} {l : List ℕ} (pr : Prime p) → Degree p l d → reading p pr .cast (getD l d 0) ≢ reading p pr .𝓥 .K .ops .𝟎
 degree-lead {p} {d} {l} pr s z = let e : length l ≡ suc d = s .whole in s .last (reading p pr .cast-small (getD l d 0) (s .each d (omega arith)) z)

@@ -1,7 +1,4 @@
 -- The parts of the opening.
---   is-list, no-list   the two answers on a list
---   list-one           one answer for each list
---   list-degree        the degree is the number of coefficients less 1
 --   row-three ..       the answers of rows 3 to 6
 --   no-prime, is-good  what the prime test's answer says of fault 1
 use mathlib.Core.Path.{_≡_, refl, sym, ap, _∙_, subst}
@@ -13,45 +10,12 @@ use native.Mathlib.Omega.{arith}
 use native.Mathlib.Decide.{decLe}
 use lib.ListN.{length, getD}
 use Rattle.base_answers.specs.Stage.{End}
+use Rattle.base_lists.proofs.Coefs.{list-degree}
+pub use Rattle.base_lists.proofs.Coefs.{length-of, list-short}
 use Rattle.num_prime.specs.Table.{largest, PrimeTest}
 use Rattle.field_open.specs.Refusal.{longest, highest, Degree, Fault1, Fault3, Fault4, Fault5, Fault6, Rows36}
 use Rattle.field_open.specs.Parts.{ListLength}
 use Rattle.field_open.proofs.Stages.{degree-one}
-
--- ---- lists
-pub no-list : {p : ℕ} {l : List ℕ} → Fault3 p l → ListLength p l 0
-no-list f = record { none = λ e. f; some = λ d e. absurd (let z : _≡_ {A = ℕ} 0 (suc d) = e in omega arith) }
-
-pub is-list : {p n : ℕ} {l : List ℕ} → n ≡ length l → 0 < n → n ≤ longest → ((i : ℕ) → i < n → getD l i 0 < p) → getD l (n - 1) 0 ≢ 0 → ListLength p l n
-is-list {p} {n} {l} e pos short each last = record {
-  none = λ z. absurd (omega arith);
-  some = λ d s. record {
-    whole = omega arith;
-    short = omega arith;
-    each = λ i h. each i (omega arith);
-    last = λ z. last (let w : n - 1 ≡ d = omega arith in ap (λ m. getD l m 0) w ∙ z);
-  };
-}
-
-pub list-one : {p : ℕ} {l : List ℕ} (m n : ℕ) → ListLength p l m → ListLength p l n → m ≡ n
-list-one zero zero a b = refl
-list-one zero (suc n) a b = absurd (a .none refl n (b .some n refl))
-list-one (suc m) zero a b = absurd (b .none refl m (a .some m refl))
-list-one (suc m) (suc n) a b = sym (a .some m refl .whole) ∙ b .some n refl .whole
-
-pub last-zero : {p : ℕ} {l : List ℕ} → getD l (length l - 1) 0 ≡ 0 → Fault3 p l
-last-zero {p} {l} z d h = h .last (let e : length l ≡ suc d = h .whole in let w : d ≡ length l - 1 = omega arith in ap (λ m. getD l m 0) w ∙ z)
-
-pub list-degree : {p n : ℕ} {l : List ℕ} → ListLength p l n → n ≢ 0 → Degree p l (n - 1)
-list-degree {n = n} a f = a .some (n - 1) (omega arith)
-
-pub length-of : {p d : ℕ} {l : List ℕ} (n : ℕ) → Degree p l d → ListLength p l n → n ≡ suc d
-length-of {d = d} zero s a = absurd (a .none refl d s)
-length-of (suc m) s a = ap suc (degree-one (a .some m refl) s)
-
-pub list-short : {p : ℕ} {l : List ℕ} (n : ℕ) → ListLength p l n → n ≤ longest
-list-short zero a = omega arith
-list-short {l = l} (suc d) a = let s = a .some d refl in let e : length l ≡ suc d = s .whole in let b : length l ≤ longest = s .short in omega arith
 
 -- ---- rows 3 to 6, by the numbers of coefficients
 pub row-three : {p lg lh : ℕ} {G H : List ℕ} → ListLength p G lg → ListLength p H lh → lg ≢ 0 → lh ≡ 0 → Rows36 p G H End 3

@@ -6,6 +6,7 @@ use mathlib.Core.Path.{_≡_, sym, _∙_}
 use mathlib.Core.List.{List}
 use Prim.Native.Nat.{ℕ, suc, _≤_}
 use native.Mathlib.Omega.{arith}
+use Rattle.base_lists.proofs.Coefs.{degree-unique}
 use Rattle.base_answers.proofs.Stages.{stage-unique, end-unique, stage-low}
 use Rattle.field_open.specs.Refusal.{Degree, Fault1, Fault2, Fault3, Fault4, Fault5, Fault6, Fault7, Fault8, Refusal}
 
@@ -22,4 +23,4 @@ numbered p G H n =
     (stage-low (omega arith) (stage-low (omega arith) (stage-low (omega arith) (λ e. omega arith)))))))))
 
 pub degree-one : {p d e : ℕ} {l : List ℕ} → Degree p l d → Degree p l e → d ≡ e
-degree-one {p} {d} {e} {l} a b = let h : suc d ≡ suc e = sym (a .whole) ∙ b .whole in omega arith
+degree-one = degree-unique

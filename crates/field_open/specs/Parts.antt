@@ -3,11 +3,11 @@
 --   Shaped p G H       what the faults 1 and 3 leave: p is prime and not too large, G and H are lists of coefficients
 --   FreeTest p x y r   true: the polynomials of x and y are squarefree; false: one of them has a square factor
 --   factorNumber       7 where they are not squarefree, else 8 where they are not coprime, else 0
-use mathlib.Core.Path.{_≡_}
 use mathlib.Core.Logic.{_⊎_}
 use mathlib.Core.Bool.{Bool, true, false}
 use mathlib.Core.List.{List}
-use Prim.Native.Nat.{ℕ, suc, _≤_}
+use Prim.Native.Nat.{ℕ, _≤_}
+use Rattle.base_lists.specs.Coefficients as lists
 use Rattle.math_fp.specs.Fp.{Prime}
 use Rattle.math_valued.specs.Polynomial.{Squarefree}
 use Rattle.math_valued.specs.Factor.{SquareFactor}
@@ -16,11 +16,10 @@ use Rattle.math_rows.specs.Reading.{Reading}
 use Rattle.math_rows.specs.Made.{reading}
 use Rattle.num_prime.specs.Table.{largest}
 use Rattle.poly_rows.specs.Factors.{polynomial}
-use Rattle.field_open.specs.Refusal.{Degree, Fault3}
+use Rattle.field_open.specs.Refusal.{longest, Degree}
 
-pub record ListLength (p : ℕ) (l : List ℕ) (n : ℕ) : Type 0 where
-  pub none : n ≡ 0 → Fault3 p l
-  pub some : (d : ℕ) → n ≡ suc d → Degree p l d
+abbrev pub ListLength : ℕ → List ℕ → ℕ → Type 0
+ListLength = lists.ListLength longest
 
 pub record Shaped (p : ℕ) (G H : List ℕ) : Type 0 where
   pub prime : Prime p

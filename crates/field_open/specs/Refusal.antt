@@ -15,9 +15,9 @@
 use mathlib.Core.Path.{_≡_}
 use mathlib.Core.Logic.{_≢_, _⊎_}
 use mathlib.Core.List.{List}
-use Prim.Native.Nat.{ℕ, suc, _+_, _%_, _<_, _≤_}
-use lib.ListN.{length, getD}
+use Prim.Native.Nat.{ℕ, _+_, _%_, _<_, _≤_}
 use Rattle.base_answers.specs.Stage.{Stage, End}
+use Rattle.base_lists.specs.Coefficients.{Coefficients}
 use Rattle.math_fp.specs.Fp.{Prime}
 use Rattle.math_valued.specs.Val.{Valued}
 use Rattle.math_valued.specs.Polynomial.{Squarefree, Coprime}
@@ -34,11 +34,8 @@ longest = 13
 abbrev pub highest : ℕ
 highest = 16
 
-pub record Degree (p : ℕ) (l : List ℕ) (d : ℕ) : Type 0 where
-  pub whole : length l ≡ suc d
-  pub short : length l ≤ longest
-  pub each : (i : ℕ) → i < length l → getD l i 0 < p
-  pub last : getD l d 0 ≢ 0
+abbrev pub Degree : ℕ → List ℕ → ℕ → Type 0
+Degree = Coefficients longest
 
 abbrev pub Fault1 : ℕ → Type 0
 Fault1 p = (p < 5) ⊎ ((largest < p) ⊎ (Prime p → ⊥))

@@ -31,26 +31,7 @@ pub struct Opened {
 pub fn list_length(p: u64, s: &[u64]) -> usize
     ensures { λ n. ⌜ ListLength p (now (s .entry)) n ⌝ }
 {
-    let n = s.len();
-    if n == 0 {
-        return 0;
-    }
-    if n > LONGEST {
-        return 0;
-    }
-    let top = s[n - 1];
-    if top == 0 {
-        return 0;
-    }
-    let mut i: usize = 0;
-    while i < n {
-        let v = s[i];
-        if v >= p {
-            return 0;
-        }
-        i += 1;
-    }
-    n
+    base_lists::list_length(LONGEST, p, s)
 }
 
 // 1 and 2.

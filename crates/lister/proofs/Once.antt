@@ -10,8 +10,9 @@ use Prim.Native.Nat.{ℕ, zero, suc, _+_, _≤_, _<_}
 use native.Mathlib.Omega.{arith}
 use native.Mathlib.Decide.{ℕ-discrete, decLt}
 use lib.ListN.{length, take}
-use Rattle.text_put.specs.Print.{Put, line-text, refused-text}
-use Rattle.text_put.proofs.Puts.{placed-unique}
+use Rattle.base_lists.specs.Pieces.{Put, cut}
+use Rattle.text_put.specs.Print.{line-text, refused-text}
+use Rattle.base_lists.proofs.Puts.{placed-unique}
 use Rattle.text_cut.specs.Lines.{Line, whole, broken}
 use Rattle.text_cut.specs.Feed.{Answered, no-line, whole-line, broken-line}
 use Rattle.text_cut.specs.declared.Step.{Step}
@@ -21,8 +22,8 @@ use Rattle.text_read.proofs.Writings.{reads-unique}
 use Rattle.door_unit.specs.declared.Made.{Made}
 use Rattle.door_unit.specs.Unit.{Makes}
 use Rattle.door_unit.proofs.Once.{makes-one, Same}
-use Rattle.lister_print.specs.Text.{unit-text, told, made-text, trim}
-use Rattle.unit_rows.specs.Six.{cut}
+use Rattle.base_lists.specs.Coefficients.{trim}
+use Rattle.lister_print.specs.Text.{unit-text, told, made-text}
 use Rattle.lister.specs.Listing.{budget, blank, room, Lists, malformed, read, Answer, Does, Steps, Way, here, more, Passes}
 use Rattle.lister.specs.declared.Going.{Going}
 use Rattle.lister.proofs.Paces.{going-same}

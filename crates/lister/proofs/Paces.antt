@@ -9,8 +9,9 @@ use mathlib.Core.List.{List, _++_}
 use Prim.Native.Nat.{ℕ, _+_, _≤_, _<_}
 use native.Mathlib.Omega.{arith}
 use lib.ListN.{length, take, length-append}
-use Rattle.text_put.specs.Print.{Put, refused-text}
-use Rattle.text_put.proofs.Puts.{placed-same, put-fits}
+use Rattle.base_lists.specs.Pieces.{Put}
+use Rattle.text_put.specs.Print.{refused-text}
+use Rattle.base_lists.proofs.Puts.{placed-same, put-fits}
 use Rattle.text_cut.specs.Tells.{CutTells}
 use Rattle.text_cut.specs.Feed.{Served}
 use Rattle.text_cut.specs.declared.Step.{Step}

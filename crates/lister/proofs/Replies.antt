@@ -8,7 +8,8 @@ use Prim.Native.Nat.{ℕ, _+_, _≤_}
 use native.Mathlib.Omega.{arith}
 use lib.ListN.{length, take, drop, length-append}
 use lib.Seq.{take-at}
-use Rattle.text_put.specs.Print.{Put, line-text, refused-text}
+use Rattle.base_lists.specs.Pieces.{Put}
+use Rattle.text_put.specs.Print.{line-text, refused-text}
 use Rattle.text_read.specs.Tells.{ReadAs, ParseTells}
 use Rattle.text_read.specs.declared.Line.{Line}
 use Rattle.text_read.specs.declared.Parsed.{Parsed}

@@ -9,18 +9,19 @@ use native.Mathlib.Decide.{ℕ-discrete}
 use lib.ListN.{length, getD, take, length-append, length-take, length-replicate}
 use lib.Seq.{getD-take}
 use Rattle.text_put.specs.Print.{comma, semicolon, newline, number-text, join, list-text, refused-text}
-use Rattle.text_read.proofs.Inverse.{text-numeral}
+use Rattle.text_number.proofs.Inverse.{text-numeral}
 use Rattle.text_read.proofs.Writings.{Small, line-is-text, reads-below}
 use Rattle.math_rows.proofs.Floors.{sized}
 use Rattle.math_rows.proofs.Tab.{length-tab, at-tab}
 use Rattle.field_open.proofs.Door.{door-out}
 use Rattle.door_unit.proofs.Once.{refused-number}
-use Rattle.unit_rows.specs.Six.{cut}
+use Rattle.base_lists.specs.Pieces.{cut}
 use Rattle.door_unit.specs.declared.Made.{Made}
 use Rattle.door_unit.specs.Unit.{Makes, Goes, bad, spent, narrow, made}
-use Rattle.lister_print.specs.Text.{trim, rows-text, unit-text, made-text}
+use Rattle.base_lists.specs.Coefficients.{trim}
+use Rattle.lister_print.specs.Text.{rows-text, unit-text, made-text}
 use Rattle.lister.specs.Listing.{budget, blank, room, Lists, malformed, read}
-use Rattle.lister_print.proofs.Trims.{trim-size}
+use Rattle.base_lists.proofs.Trims.{trim-size}
 use Rattle.lister_print.proofs.Prints.{made-unit, made-refused}
 
 -- ---- numbers and lists

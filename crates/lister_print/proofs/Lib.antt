@@ -1,2 +1,1 @@
-pub mod Trims
 pub mod Prints

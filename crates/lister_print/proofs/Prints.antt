@@ -8,15 +8,16 @@ use mathlib.Core.List.{List, [], _∷_, _++_}
 use Prim.Native.Nat.{ℕ, zero, suc, _-_, _≤_}
 use native.Mathlib.Omega.{arith}
 use lib.ListN.{length, take}
-use Rattle.text_put.specs.Print.{semicolon, newline, Put, number-text, list-text, refused-text}
-use Rattle.text_put.proofs.Puts.{placed-none, put-then}
+use Rattle.base_lists.specs.Pieces.{Put, cut, between}
+use Rattle.text_put.specs.Print.{semicolon, newline, number-text, list-text, refused-text}
+use Rattle.base_lists.proofs.Puts.{placed-none, put-then}
 use Rattle.text_cut.specs.Feed.{end-text}
 use Rattle.math_rows.specs.Row.{Size}
-use Rattle.unit_rows.specs.Six.{cut}
-use Rattle.unit_rows.proofs.Parts.{mid, mid-cut}
+use Rattle.base_lists.proofs.Pieces.{between-cut}
 use Rattle.door_unit.specs.declared.Made.{Made}
-use Rattle.lister_print.specs.Text.{trim, rows-text, unit-text, told, made-text}
-use Rattle.lister_print.proofs.Trims.{trim-size}
+use Rattle.base_lists.specs.Coefficients.{trim}
+use Rattle.lister_print.specs.Text.{rows-text, unit-text, told, made-text}
+use Rattle.base_lists.proofs.Trims.{trim-size}
 
 pub row-put : (l : List ℕ) (n : ℕ) {d : List ℕ} {at r : ℕ} {d' : List ℕ} {q : ℕ} {e : List ℕ} → Size l n
     → Put d at (semicolon ∷ []) r d' → Put d' r (list-text (take n l)) q e → Put d at (semicolon ∷ list-text (trim l)) q e
@@ -25,12 +26,12 @@ row-put l n {d} {at} {r} {d'} {q} {e} s a b =
 
 -- a part of a slice as it is lent
 part-put : (f t : ℕ) (l : List ℕ) {d : List ℕ} {at r : ℕ} {d' : List ℕ} → f ≤ t → t ≤ length l
-    → Put d at (semicolon ∷ list-text (trim (mid f t l))) r d' → Put d at (semicolon ∷ list-text (trim (cut f (t - f) l))) r d'
-part-put f t l {d} {at} {r} {d'} u v a = subst (λ (x : List ℕ). Put d at (semicolon ∷ list-text (trim x)) r d') (mid-cut f t l u v) a
+    → Put d at (semicolon ∷ list-text (trim (between f t l))) r d' → Put d at (semicolon ∷ list-text (trim (cut f (t - f) l))) r d'
+part-put f t l {d} {at} {r} {d'} u v a = subst (λ (x : List ℕ). Put d at (semicolon ∷ list-text (trim x)) r d') (between-cut f t l u v) a
 
 module _ (l d : List ℕ) (at r₁ : ℕ) (d₁ : List ℕ) (r₂ : ℕ) (d₂ : List ℕ) (r₃ : ℕ) (d₃ : List ℕ) (r₄ : ℕ) (d₄ : List ℕ) (long : 3072 ≤ length l) where
-  pub rows-put : Put d at (semicolon ∷ list-text (trim (mid 0 1024 l))) r₁ d₁ → Put d₁ r₁ (semicolon ∷ list-text (trim (mid 1024 2048 l))) r₂ d₂
-      → Put d₂ r₂ (semicolon ∷ list-text (trim (mid 2048 3072 l))) r₃ d₃ → Put d₃ r₃ (newline ∷ []) r₄ d₄
+  pub rows-put : Put d at (semicolon ∷ list-text (trim (between 0 1024 l))) r₁ d₁ → Put d₁ r₁ (semicolon ∷ list-text (trim (between 1024 2048 l))) r₂ d₂
+      → Put d₂ r₂ (semicolon ∷ list-text (trim (between 2048 3072 l))) r₃ d₃ → Put d₃ r₃ (newline ∷ []) r₄ d₄
       → Put d at (rows-text (trim (cut 0 1024 l)) (trim (cut 1024 1024 l)) (trim (cut 2048 1024 l))) r₄ d₄
   unfolding rows-text
   rows-put a b c e =

@@ -1,27 +1,18 @@
 -- The bytes of an answer (document 01: "The fields are p, G, H, period, regulator, E0, E1, E2").
---   trim l                        the list l without the zeros at its end: a row as a polynomial
 --   rows-text E0 E1 E2            the rows of the unit, a semicolon before each, and a newline
 --   unit-text s l R E0 E1 E2      s, the period l, the regulator R and the rows of the unit, with semicolons
 --   told n t                      refused n, or the text t where n is 0
 --   made-text s m rows            what is printed of what `unit` answers: the refusal, or the unit, behind the text s of the field
 --   Ends d n r d'                 the answer at the input's end is put into d: refused 12 where a line is pending
--- Laws: proofs/Trims, proofs/Prints. Two outcomes of `put_made`, and of `finish`, are equal: `placed-unique` of crate text_put.
+-- A row is printed without the zeros at its end: `trim` of crate base_lists. Laws: proofs/Prints. Two outcomes of `put_made`, and of
+-- `finish`, are equal: `placed-unique` of crate base_lists.
 use mathlib.Core.List.{List, [], _∷_, _++_}
 use Prim.Native.Nat.{ℕ, zero, suc}
-use Rattle.text_put.specs.Print.{semicolon, newline, number-text, list-text, refused-text, Put}
+use Rattle.base_lists.specs.Pieces.{Put, cut}
+use Rattle.text_put.specs.Print.{semicolon, newline, number-text, list-text, refused-text}
+use Rattle.base_lists.specs.Coefficients.{trim}
 use Rattle.text_cut.specs.Feed.{end-text}
-use Rattle.unit_rows.specs.Six.{cut}
 use Rattle.door_unit.specs.declared.Made.{Made}
-
--- a coefficient in front of a trimmed list
-unfoldable pub ahead : ℕ → List ℕ → List ℕ
-ahead zero [] = []
-ahead zero (y ∷ l) = zero ∷ y ∷ l
-ahead (suc x) l = suc x ∷ l
-
-unfoldable pub trim : List ℕ → List ℕ
-trim [] = []
-trim (x ∷ l) = ahead x (trim l)
 
 -- "c = 1,024"
 abbrev pub width : ℕ

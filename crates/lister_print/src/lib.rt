@@ -2,9 +2,10 @@
 ghost use Prim.Native.Nat.{_≤_};
 ghost use mathlib.Core.List.{_∷_};
 ghost use lib.ListN.{length};
-ghost use Rattle.text_put.specs.Print.{semicolon, Put, number-text, list-text};
-ghost use Rattle.unit_rows.specs.Six.{cut};
-ghost use Rattle.lister_print.specs.Text.{trim, rows-text, made-text, Ends};
+ghost use Rattle.base_lists.specs.Pieces.{Put, cut};
+ghost use Rattle.text_put.specs.Print.{semicolon, number-text, list-text};
+ghost use Rattle.base_lists.specs.Coefficients.{trim};
+ghost use Rattle.lister_print.specs.Text.{rows-text, made-text, Ends};
 use door_unit::Made;
 
 // A field of the answer that is a number.

@@ -15,6 +15,7 @@ use Rattle.math_valued.specs.Val.{Valued}
 use Rattle.math_valued.specs.Degree.{Has, Lt}
 use Rattle.math_valued.proofs.Degree.{lead-eq, lt-eq, lt-add, lt-neg, lt-up, above, lt-cancel}
 use Rattle.math_rows.specs.Reading.{Reading}
+pub use Rattle.base_lists.proofs.Trims.{sized}
 use Rattle.math_rows.specs.Row.{tab, Row, Size, fallAt, tpow, psum, row, Floor, Reads}
 use Rattle.math_rows.proofs.Rows.{tpow-add, tpow-lead, psum-ext, psum-cut, psum-lt, size-lt, size-lead, size-top, size-le, row-cut, row-tab}
 
@@ -35,22 +36,6 @@ unfolding fallAt
 fall-small p s d zero pos h = h .each d
 fall-small p s zero (suc j) pos h = pos
 fall-small p s (suc d) (suc j) pos h = fall-small p s d j pos h
-
--- every list has a trimmed length
-pub sized : (l : List ℕ) → (n : ℕ) × Size l n
-sized l = down (length l) (omega arith) (λ i h. List·getD-eq-default l 0 {n = i} h)
-  where
-    down : (n : ℕ) → n ≤ length l → ((i : ℕ) → n ≤ i → getD l i 0 ≡ 0) → (n : ℕ) × Size l n
-    down zero b h = (0, record { fits = b; above = h; top = λ z. absurd (omega arith) })
-    down (suc n) b h = go (ℕ-discrete (getD l n 0) 0) (down n (omega arith))
-      where
-        go : Dec (getD l n 0 ≡ 0) → (((i : ℕ) → n ≤ i → getD l i 0 ≡ 0) → (n : ℕ) × Size l n) → (n : ℕ) × Size l n
-        go (yes z) k = k (λ i u. at i u (ℕ-discrete i n))
-          where
-            at : (i : ℕ) → n ≤ i → Dec (i ≡ n) → getD l i 0 ≡ 0
-            at i u (yes q) = ap (λ m. getD l m 0) q ∙ z
-            at i u (no q) = h i (omega arith)
-        go (no z) k = (suc n, record { fits = b; above = h; top = λ q. λ w. z (ap (λ m. getD l m 0) (let o : n ≡ N._-_ (suc n) 1 = omega arith in o) ∙ w) })
 
 module _ {p : ℕ} (ρ : Reading p) where
   open Reading ρ using (𝓥, cast)

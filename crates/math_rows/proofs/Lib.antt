@@ -2,6 +2,7 @@ pub mod Tab
 pub mod Rows
 pub mod Turn
 pub mod Floors
+pub mod Trims
 pub mod Product
 pub mod Unique
 pub mod Numbers

@@ -1,7 +1,5 @@
 -- Lists of numbers as polynomials: what the code holds, and what it stands for.
 --   Row p l        32 numbers, each below p: the form in which code holds a polynomial, lowest coefficient first
---   Size l n       n is the length of l without the zeros at its end: one more than the degree, 0 for the zero polynomial
---   tab n f        the list f 0, f 1, .., f (n − 1)
 --   shiftAt y k i  the coefficient of t^k y at i
 --   fallAt s d j   the list s read downwards from place d: entry j
 --   comb s c k x y the turn of a reduction, s x − c t^k y
@@ -9,33 +7,22 @@
 --   Floor ρ z l    l is the polynomial part of the series z
 --   Reads ρ s d z  s, of 32 numbers, holds the first coefficients of z, a series of degree d, highest first: the polynomial parts
 --                  of z, t z, t² z, .. are s read downwards, as far as s reaches
--- The laws are in proofs/: Tab, Rows, Floors.
+-- `tab` and `Size` are those of crate base_lists. The laws are in proofs/: Tab, Rows, Floors, Trims.
 use mathlib.Core.Path.{_≡_}
-use mathlib.Core.Logic.{_≢_}
-use mathlib.Core.List.{List, [], _∷_}
-use Prim.Native.Nat.{ℕ, zero, suc, _≤_, _<_, _-_}
+use mathlib.Core.List.{List}
+use Prim.Native.Nat.{ℕ, zero, suc, _<_}
 use Prim.Native.Nat as N
 use lib.ListN.{length, getD}
+unfoldable pub use Rattle.base_lists.specs.Pieces.{tab}
+pub use Rattle.base_lists.specs.Coefficients.{Size}
 use Rattle.math_ring.specs.Ring.{Ops, CRing}
 use Rattle.math_valued.specs.Val.{Valued}
 use Rattle.math_valued.specs.Degree.{Lt}
 use Rattle.math_rows.specs.Reading.{Reading}
 
-abbrev pub tabFrom : ℕ → ℕ → (ℕ → ℕ) → List ℕ
-tabFrom i zero f = []
-tabFrom i (suc n) f = f i ∷ tabFrom (suc i) n f
-
-unfoldable pub tab : ℕ → (ℕ → ℕ) → List ℕ
-tab n f = tabFrom 0 n f
-
 pub record Row (p : ℕ) (l : List ℕ) : Type 0 where
   pub size : length l ≡ 32
   pub each : (i : ℕ) → getD l i 0 < p
-
-pub record Size (l : List ℕ) (n : ℕ) : Type 0 where
-  pub fits : n ≤ length l
-  pub above : (i : ℕ) → n ≤ i → getD l i 0 ≡ 0
-  pub top : 0 < n → getD l (n - 1) 0 ≢ 0
 
 unfoldable pub shiftAt : List ℕ → ℕ → ℕ → ℕ
 shiftAt y zero i = getD y i 0

@@ -11,8 +11,8 @@ use lib.ListN.{length, take, drop, length-append, length-drop, take-append-drop}
 use lib.Seq.{sets-eq, take-all, take-length, take-at, take-add}
 use borrow.Author.Tests.{le-leb, lt-leb}
 use Rattle.text_put.specs.Print.{newline, refused-text}
-use Rattle.text_put.proofs.Puts.{placed-same}
-use Rattle.text_cut.specs.Pieces.{part}
+use Rattle.base_lists.proofs.Puts.{placed-same}
+use Rattle.base_lists.specs.Pieces.{between}
 use Rattle.text_cut.specs.Lines.{Line, whole, broken, ended, left, linesIn, lines-of, Kept}
 use Rattle.text_cut.specs.Tells.{Carried, CutAt, upTo}
 use Rattle.text_cut.specs.Feed.{Fed, start, line-ends, long-line-ends, piece-ends, next-piece, at-end, end-text, Answered, no-line, whole-line, broken-line, Output}
@@ -85,7 +85,7 @@ upTo-all s at h =
     let l : length (drop at s) ≡ length s - at = length-drop at s in
     until-take newline (drop at s) ∙ take-all (length (upTo s at)) (drop at s) (omega arith)
 
-passed-line : (s : List ℕ) (at next : ℕ) → next ≡ at + length (upTo s at) + 1 → next ≤ length s → part s at next ≡ upTo s at ++ newline ∷ []
+passed-line : (s : List ℕ) (at next : ℕ) → next ≡ at + length (upTo s at) + 1 → next ≤ length s → between at next s ≡ upTo s at ++ newline ∷ []
 passed-line s at next e h =
     let n : ℕ = length (upTo s at) in
     let l : length (drop at s) ≡ length s - at = length-drop at s in
@@ -122,28 +122,28 @@ module _ {input : List ℕ} {lines : List Line} {k : List ℕ} {m : ℕ} (a : Ha
           ∙ ap (λ (z : List ℕ). lines ++ lines-of (length k) z) (sym (append-assoc (a .x) (upTo s at) J)))
 
   line-step : (m' next : ℕ) (k' : List ℕ) (l : Line) → CutAt k m s at m' next k' → next ≤ length s → ended (length k) (a .x ++ upTo s at) ≡ l
-      → Halfway (input ++ part s at next) (lines ++ l ∷ []) k' 0
+      → Halfway (input ++ between at next s) (lines ++ l ∷ []) k' 0
   line-step m' next k' l c h e =
       record { x = []; free = λ j q. absurd (omega arith); kept = kept-none k'; coming = then }
     where
       long : length k ≡ length k'
       long = sym (placed-same (c .carried))
 
-      step : (J : List ℕ) → lines-of (length k) ((input ++ part s at next) ++ J) ≡ (lines ++ l ∷ []) ++ lines-of (length k) J
+      step : (J : List ℕ) → lines-of (length k) ((input ++ between at next s) ++ J) ≡ (lines ++ l ∷ []) ++ lines-of (length k) J
       step J =
-          ap (lines-of (length k)) (append-assoc input (part s at next) J)
-          ∙ a .coming (part s at next ++ J)
+          ap (lines-of (length k)) (append-assoc input (between at next s) J)
+          ∙ a .coming (between at next s ++ J)
           ∙ ap (λ (z : List ℕ). lines ++ lines-of (length k) (a .x ++ (z ++ J))) (passed-line s at next (c .place) h)
           ∙ ap (λ (z : List ℕ). lines ++ lines-of (length k) (a .x ++ z)) (append-assoc (upTo s at) (newline ∷ []) J)
           ∙ ap (λ (z : List ℕ). lines ++ lines-of (length k) z) (sym (append-assoc (a .x) (upTo s at) (newline ∷ J)))
           ∙ ap (λ (z : List Line). lines ++ z) (lines-next (length k) (a .x ++ upTo s at) J longer ∙ ap (λ (y : Line). y ∷ lines-of (length k) J) e)
           ∙ sym (append-assoc lines (l ∷ []) (lines-of (length k) J))
 
-      then : (J : List ℕ) → lines-of (length k') ((input ++ part s at next) ++ J) ≡ (lines ++ l ∷ []) ++ lines-of (length k') ([] ++ J)
-      then J = subst (λ (n : ℕ). lines-of n ((input ++ part s at next) ++ J) ≡ (lines ++ l ∷ []) ++ lines-of n J) long (step J)
+      then : (J : List ℕ) → lines-of (length k') ((input ++ between at next s) ++ J) ≡ (lines ++ l ∷ []) ++ lines-of (length k') ([] ++ J)
+      then J = subst (λ (n : ℕ). lines-of n ((input ++ between at next s) ++ J) ≡ (lines ++ l ∷ []) ++ lines-of n J) long (step J)
 
 -- the bytes passed in a piece
-take-next : (s : List ℕ) (at next : ℕ) → next ≡ at + length (upTo s at) + 1 → take at s ++ part s at next ≡ take next s
+take-next : (s : List ℕ) (at next : ℕ) → next ≡ at + length (upTo s at) + 1 → take at s ++ between at next s ≡ take next s
 take-next s at next e =
     let j : at + (next - at) ≡ next = omega arith in
     sym (take-add at (next - at) s) ∙ ap (λ (z : ℕ). take z s) j
@@ -155,11 +155,11 @@ fed-halfway : {earlier s : List ℕ} {at : ℕ} {lines : List Line} {k : List �
 fed-halfway (start {k = k} s) = record { x = []; free = λ j q. absurd (omega arith); kept = kept-none k; coming = λ J. refl }
 fed-halfway (line-ends {earlier} {s} {at} {k = k} {m = m} m' next k' f c) =
     let a = fed-halfway f in
-    moved (append-assoc earlier (take at s) (part s at next) ∙ ap (λ (z : List ℕ). earlier ++ z) (take-next s at next (c .0 .place)))
+    moved (append-assoc earlier (take at s) (between at next s) ∙ ap (λ (z : List ℕ). earlier ++ z) (take-next s at next (c .0 .place)))
     (line-step a s at m' next k' (whole (take m' k')) (c .0) (c .1) (ended-fits k m (a .x) (upTo s at) m' k' (a .kept) (c .0 .carried) (c .2)))
 fed-halfway (long-line-ends {earlier} {s} {at} {k = k} {m = m} next k' f c) =
     let a = fed-halfway f in
-    moved (append-assoc earlier (take at s) (part s at next) ∙ ap (λ (z : List ℕ). earlier ++ z) (take-next s at next (c .1 .place)))
+    moved (append-assoc earlier (take at s) (between at next s) ∙ ap (λ (z : List ℕ). earlier ++ z) (take-next s at next (c .1 .place)))
     (line-step a s at (c .0) next k' broken (c .1) (c .2) (ended-over k m (a .x) (upTo s at) (c .0) k' (a .kept) (c .1 .carried) (c .3)))
 fed-halfway (piece-ends {earlier} {s} {at} m' k' f c) =
     moved (append-assoc earlier (take at s) (drop at s) ∙ ap (λ (z : List ℕ). earlier ++ z) (take-append-drop at s ∙ sym (take-length s)))

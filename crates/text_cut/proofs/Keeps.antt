@@ -7,8 +7,8 @@ use Prim.Native.Nat.{ℕ, _+_, _≤_, _<_, min, max}
 use native.Mathlib.Omega.{arith}
 use lib.ListN.{length, getD, take, set}
 use lib.Seq.{set-out}
-use Rattle.text_put.specs.Print.{Placed}
-use Rattle.text_put.proofs.Puts.{placed-same, placed-then, placed-more}
+use Rattle.base_lists.specs.Pieces.{Placed}
+use Rattle.base_lists.proofs.Puts.{placed-same, placed-then, placed-more}
 
 pub keep-in : (k : List ℕ) (m b : ℕ) → m < length k → Placed (length k + 1) k m (b ∷ []) (m + 1) (set k m b)
 keep-in k m b h = record { next = (let e : m + 1 ≡ max m (min (m + 1) (length k + 1)) = omega arith in e); done = refl }

@@ -8,8 +8,9 @@ use mathlib.Core.Path.{sym, subst}
 use mathlib.Core.List.{List, [], _∷_, _++_, append-assoc, append-nil}
 use Prim.Native.Nat.{ℕ}
 use lib.ListN.{length, take}
-use Rattle.text_put.specs.Print.{Put, refused-text}
-use Rattle.text_put.proofs.Puts.{placed-none, put-then}
+use Rattle.base_lists.specs.Pieces.{Put}
+use Rattle.text_put.specs.Print.{refused-text}
+use Rattle.base_lists.proofs.Puts.{placed-none, put-then}
 use Rattle.text_cut.specs.Lines.{Line, whole, broken}
 use Rattle.text_cut.specs.Tells.{CutTells}
 use Rattle.text_cut.specs.Feed.{Fed, line-ends, long-line-ends, piece-ends, Answered, no-line, whole-line, broken-line, Served}

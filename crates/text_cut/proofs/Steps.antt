@@ -9,7 +9,7 @@ use Prim.Native.Nat.{ℕ, _+_, _-_, _≤_, _<_}
 use native.Mathlib.Omega.{arith}
 use lib.ListN.{length, take, drop}
 use Rattle.text_put.specs.Print.{newline}
-use Rattle.text_put.proofs.Puts.{placed-none, placed-same, placed-unique}
+use Rattle.base_lists.proofs.Puts.{placed-none, placed-same, placed-unique}
 use Rattle.text_cut.specs.Tells.{Carried, upTo, CutAt, CutTells}
 use Rattle.text_cut.specs.declared.Step.{Step}
 use Rattle.text_cut.specs.declared.Step.the-variants.{Whole, Broken, Pending}

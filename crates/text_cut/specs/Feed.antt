@@ -13,7 +13,8 @@
 use mathlib.Core.List.{List, [], _∷_, _++_}
 use Prim.Native.Nat.{ℕ, zero, suc, _≤_}
 use lib.ListN.{length, take}
-use Rattle.text_put.specs.Print.{Put, refused-text}
+use Rattle.base_lists.specs.Pieces.{Put}
+use Rattle.text_put.specs.Print.{refused-text}
 use Rattle.text_cut.specs.Lines.{Line, whole, broken, lines-of}
 use Rattle.text_cut.specs.Tells.{CutTells}
 use Rattle.text_cut.specs.declared.Step.the-variants.{Whole, Broken, Pending}

@@ -7,7 +7,8 @@ use mathlib.Core.Path.{_≡_}
 use mathlib.Core.List.{List}
 use Prim.Native.Nat.{ℕ, _+_, _≤_, _<_}
 use lib.ListN.{length, drop}
-use Rattle.text_put.specs.Print.{newline, Placed}
+use Rattle.base_lists.specs.Pieces.{Placed}
+use Rattle.text_put.specs.Print.{newline}
 use Rattle.text_cut.specs.Pieces.{until}
 use Rattle.text_cut.specs.declared.Step.{Step}
 use Rattle.text_cut.specs.declared.Step.the-variants as step

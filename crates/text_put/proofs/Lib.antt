@@ -1,4 +1,3 @@
-pub mod Puts
 pub mod Digits
 pub mod Texts
 pub mod Samples

@@ -9,8 +9,9 @@ use native.Mathlib.Omega.{arith}
 use native.Mathlib.Numerals.{add-one}
 use lib.ListN.{length, getD, take}
 use lib.Seq.{take-suc, take-all, length-take-le}
-use Rattle.text_put.specs.Print.{comma, newline, Put, number-text, join, list-text, refused-text, refused-word}
-use Rattle.text_put.proofs.Puts.{placed-none, put-then}
+use Rattle.base_lists.specs.Pieces.{Put}
+use Rattle.text_put.specs.Print.{comma, newline, number-text, join, list-text, refused-text, refused-word}
+use Rattle.base_lists.proofs.Puts.{placed-none, put-then}
 use Rattle.text_put.proofs.Digits.{text-small, text-more}
 
 pub put-small : (n : ℕ) {d : List ℕ} {at r : ℕ} {d' : List ℕ} → n < 10 → Put d at ((48 + n % 10) ∷ []) r d' → Put d at (number-text n) r d'

@@ -1,21 +1,16 @@
--- What the lister writes, as bytes, and how pieces of it are put into a lent slice one after the other.
+-- What the lister writes, as bytes.
 --   comma, semicolon, newline   the bytes between numbers, between fields and after a line
 --   number-text n     the decimal digits of n, highest first, without leading zeros
 --   join c ts         the texts ts with the byte c between them
 --   list-text l       the numbers l with commas
 --   line-text p G H   p;G;H
 --   refused-text n    refused n, and a newline
---   Placed n d at x r d'   d' is d with the bytes x from `at` on, as far as d reaches; r is the place after them, counted up to n
---   Put d at x r d'        the same, and places are counted up to the end of d
--- Laws: proofs/Digits (a number by its last digit), proofs/Puts (one piece after another; two outcomes are equal), proofs/Texts (numbers
--- and lists put). Printing and reading are each other's inverse: Inverse and Writings of crate text_read.
-use mathlib.Core.Path.{_≡_}
+-- A text is put into a lent slice by `Put` of crate base_lists; two outcomes are equal: `placed-unique` there (proofs/Puts).
+-- Laws: proofs/Digits (a number by its last digit), proofs/Texts (numbers and lists put). Printing and reading are each other's inverse: Inverse and Writings of crate text_read.
 use mathlib.Core.Bool.{true, false}
 use mathlib.Core.List.{List, [], _∷_, _++_, map}
-use Prim.Native.Nat.{ℕ, zero, suc, _+_, _/_, _%_, min, max}
+use Prim.Native.Nat.{ℕ, zero, suc, _+_, _/_, _%_}
 use lib.Dec.{ltb}
-use lib.ListN.{length}
-use lib.Seq.{sets}
 
 abbrev pub comma : ℕ
 comma = 44
@@ -51,10 +46,3 @@ refused-word = 114 ∷ 101 ∷ 102 ∷ 117 ∷ 115 ∷ 101 ∷ 100 ∷ 32 ∷ []
 
 unfoldable pub refused-text : ℕ → List ℕ
 refused-text n = refused-word ++ number-text n ++ newline ∷ []
-
-pub record Placed (n : ℕ) (d : List ℕ) (at : ℕ) (x : List ℕ) (r : ℕ) (d' : List ℕ) : Type 0 where
-  pub next : r ≡ max at (min (at + length x) n)
-  pub done : d' ≡ sets d at x
-
-abbrev pub Put : List ℕ → ℕ → List ℕ → ℕ → List ℕ → Type 0
-Put d at x r d' = Placed (length d) d at x r d'

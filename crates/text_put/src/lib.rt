@@ -2,7 +2,8 @@
 // not fit the slice is left out, and the place stops at the slice's end.
 ghost use mathlib.Core.List.{[], _∷_};
 ghost use lib.ListN.{take};
-ghost use Rattle.text_put.specs.Print.{Put, number-text, list-text, refused-text};
+ghost use Rattle.base_lists.specs.Pieces.{Put};
+ghost use Rattle.text_put.specs.Print.{number-text, list-text, refused-text};
 
 // One byte.
 pub fn put_byte(out: &mut [u8], at: usize, b: u8) -> usize

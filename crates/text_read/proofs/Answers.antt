@@ -1,5 +1,5 @@
 -- One outcome for each input.
---   number-unique, size-unique, parse-unique   of `number`, `list_size` and `parse`
+--   parse-unique      of `parse`
 --   malformed-means   with slices of 126 entries a line is malformed exactly where it does not read
 use mathlib.Core.Path.{_≡_, refl, sym, ap, _∙_}
 use mathlib.Core.List.{List, _++_}
@@ -7,13 +7,7 @@ use Prim.Native.Nat.{ℕ, _≤_}
 use native.Mathlib.Omega.{arith}
 use lib.ListN.{length, drop}
 use Rattle.text_read.specs.Grammar.{Reads}
-use Rattle.text_read.specs.Tells.{NumberTells, SizeTells, ReadAs, ParseTells}
-use Rattle.text_read.specs.declared.Numeral.{Numeral}
-use Rattle.text_read.specs.declared.Numeral.the-variants.{Value}
-use Rattle.text_read.specs.declared.Numeral.the-variants as numeral
-use Rattle.text_read.specs.declared.Entries.{Entries}
-use Rattle.text_read.specs.declared.Entries.the-variants.{Count}
-use Rattle.text_read.specs.declared.Entries.the-variants as entries
+use Rattle.text_read.specs.Tells.{ReadAs, ParseTells}
 use Rattle.text_read.specs.declared.Line.{Line}
 use Rattle.text_read.specs.declared.Parsed.{Parsed}
 use Rattle.text_read.specs.declared.Parsed.the-variants.{Read, Malformed}
@@ -59,15 +53,3 @@ malformed-means line g h g' h' a b t p G H r =
     let u : length G ≤ 126 = reads-room r .0 in
     let v : length H ≤ 126 = reads-room r .1 in
     t .0 p G H r (omega arith) (omega arith)
-
-pub number-unique : (s : List ℕ) (r r₂ : Numeral) → NumberTells s r → NumberTells s r₂ → r ≡ r₂
-number-unique s (Value v) (Value w) a b = ap Value (a .means ∙ sym (b .means))
-number-unique s (Value v) numeral.Bad a b = absurd (b v a)
-number-unique s numeral.Bad (Value w) a b = absurd (a w b)
-number-unique s numeral.Bad numeral.Bad a b = refl
-
-pub size-unique : (s : List ℕ) (r r₂ : Entries) → SizeTells s r → SizeTells s r₂ → r ≡ r₂
-size-unique s (Count n) (Count m) a b = ap Count (sym (a .2) ∙ ap length (a .1 .means ∙ sym (b .1 .means)) ∙ b .2)
-size-unique s (Count n) entries.Bad a b = absurd (b (a .0) (a .1))
-size-unique s entries.Bad (Count m) a b = absurd (a (b .0) (b .1))
-size-unique s entries.Bad entries.Bad a b = refl

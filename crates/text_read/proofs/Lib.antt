@@ -1,9 +1,4 @@
-pub mod Values
-pub mod Numbers
-pub mod Lists
 pub mod Parts
-pub mod Inverse
-pub mod Joins
 pub mod Writings
 pub mod Answers
 pub mod Samples

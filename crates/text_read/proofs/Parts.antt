@@ -12,8 +12,9 @@ use lib.ListN.{length, getD, take, drop}
 use Rattle.text_put.specs.Print.{comma, semicolon}
 use Rattle.text_cut.specs.Pieces.{until, pieces, restAt}
 use Rattle.text_cut.proofs.Cuts.{rest-start, rest-none, piece-at, end-le}
-use Rattle.text_read.specs.Grammar.{field, Number, Listed, Reads}
-use Rattle.text_read.proofs.Lists.{listed-length}
+use Rattle.text_number.specs.Grammar.{Number, Listed}
+use Rattle.text_read.specs.Grammar.{field, Reads}
+use Rattle.text_number.proofs.Lists.{listed-length}
 
 module _ (c : ℕ) (s : List ℕ) (i : ℕ) (p : i ≡ 0 + length (until c (drop 0 s))) where
   first-part : pieces c s ≡ take i s ∷ restAt c s (i + 1)

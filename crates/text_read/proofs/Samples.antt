@@ -6,8 +6,9 @@ use native.Mathlib.Omega.{arith}
 use lib.Dec.{lit≤, lit<}
 use lib.ListN.{length}
 use Rattle.text_put.specs.Print.{digitsOf, number-text, join, list-text, line-text}
-use Rattle.text_read.specs.Grammar.{Numeral, Reads}
-use Rattle.text_read.proofs.Inverse.{text-numeral}
+use Rattle.text_number.specs.Grammar.{Numeral}
+use Rattle.text_read.specs.Grammar.{Reads}
+use Rattle.text_number.proofs.Inverse.{text-numeral}
 use Rattle.text_read.proofs.Writings.{Small, text-reads}
 
 small-G : Small (4 ∷ 0 ∷ 0 ∷ 1 ∷ [])

@@ -14,11 +14,12 @@ use lib.ListN.{length, getD, length-append}
 use Rattle.text_put.specs.Print.{comma, semicolon, number-text, join, list-text, line-text}
 use Rattle.text_cut.specs.Pieces.{pieces}
 use Rattle.text_cut.proofs.Cuts.{Free, pieces-some}
-use Rattle.text_read.specs.Grammar.{field, value, Numeral, Number, Listed, Reads}
-use Rattle.text_read.proofs.Values.{value-text}
-use Rattle.text_read.proofs.Inverse.{text-numeral, text-number, numeral-text, number-is-text, number-below}
-use Rattle.text_read.proofs.Joins.{pieces-join, join-pieces, join-long, join-free}
-use Rattle.text_read.proofs.Lists.{listed-length, entry-value}
+use Rattle.text_number.specs.Grammar.{value, Numeral, Number, Listed}
+use Rattle.text_read.specs.Grammar.{field, Reads}
+use Rattle.text_number.proofs.Values.{value-text}
+use Rattle.text_number.proofs.Inverse.{text-numeral, text-number, numeral-text, number-is-text, number-below}
+use Rattle.text_number.proofs.Joins.{pieces-join, join-pieces, join-long, join-free}
+use Rattle.text_number.proofs.Lists.{listed-length, entry-value}
 use Rattle.text_read.proofs.Parts.{reads-of}
 
 -- a function that changes no entry of a list

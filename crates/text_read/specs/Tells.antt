@@ -1,5 +1,4 @@
 -- What the answers of the public functions say: a definition for each enum, by its cases.
---   NumberTells s r   a text as a number             SizeTells s r    a text as a list, counted
 --   ParseTells line g h r g' h'   a whole line: it reads, and g' and h' are g and h with G and H in front (ReadAs); or it does not read
 --                                 as lists that g and h have room for, and they stay as they were
 -- One outcome for each input: proofs/Answers.
@@ -7,21 +6,9 @@ use mathlib.Core.Path.{_≡_}
 use mathlib.Core.List.{List, _++_}
 use Prim.Native.Nat.{ℕ, _≤_}
 use lib.ListN.{length, drop}
-use Rattle.text_read.specs.Grammar.{Number, Listed, Reads}
-use Rattle.text_read.specs.declared.Numeral.{Numeral}
-use Rattle.text_read.specs.declared.Numeral.the-variants as numeral
-use Rattle.text_read.specs.declared.Entries.{Entries}
-use Rattle.text_read.specs.declared.Entries.the-variants as entries
+use Rattle.text_read.specs.Grammar.{Reads}
 use Rattle.text_read.specs.declared.Parsed.{Parsed}
 use Rattle.text_read.specs.declared.Parsed.the-variants as parsed
-
-abbrev pub NumberTells : List ℕ → Numeral → Type 0
-NumberTells s (numeral.Value v) = Number s v
-NumberTells s numeral.Bad = (n : ℕ) → Number s n → ⊥
-
-abbrev pub SizeTells : List ℕ → Entries → Type 0
-SizeTells s (entries.Count n) = (l : List ℕ) × Listed s l × (length l ≡ n)
-SizeTells s entries.Bad = (l : List ℕ) → Listed s l → ⊥
 
 pub record ReadAs (line : List ℕ) (g h : List ℕ) (p ng nh : ℕ) (g' h' : List ℕ) : Type 0 where
   pub G : List ℕ

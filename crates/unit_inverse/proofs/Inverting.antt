@@ -22,9 +22,10 @@ use Rattle.math_rows.proofs.Unique.{const-inj}
 use Rattle.num_residue.specs.Residue.{Inverse, Nonzero}
 use Rattle.poly_long.specs.Long.{Low, Scaled}
 use Rattle.poly_long.proofs.Low.{low-unique, scale-law}
-use Rattle.unit_rows.specs.Six.{cut}
-use Rattle.unit_rows.proofs.Parts.{mid, mid-length, Put, put-back}
-use Rattle.unit_rows.proofs.Multiply.{cut-same, row-grow}
+use Rattle.base_lists.specs.Pieces.{cut, between}
+use Rattle.base_lists.proofs.Pieces.{between-length, cut-same}
+use Rattle.base_lists.proofs.Puts.{Around, put-back}
+use Rattle.unit_rows.proofs.Multiply.{row-grow}
 use Rattle.unit_inverse.specs.Inverse.{PairIn, CofactorIn, Cofactor, NormIn, Norm, element, InvertIn, Inverted}
 
 -- one number
@@ -194,13 +195,13 @@ module _ (p c k : ℕ) (g h gh ngh rows s : List ℕ) (t : InvertIn p c k g h gh
           ]
         ]
 
-    pub inverted : (v q : ℕ) (d s₄ : List ℕ) (m : ℕ) → m ≡ c + c + c → Norm p c gh r₃ v → Inverse p v q → Scaled p q (mid (c + c + c) (c + c + c + c + c + c) r₃) d → s₄ ≡ replicate (length s₃) 0
+    pub inverted : (v q : ℕ) (d s₄ : List ℕ) (m : ℕ) → m ≡ c + c + c → Norm p c gh r₃ v → Inverse p v q → Scaled p q (between (c + c + c) (c + c + c + c + c + c) r₃) d → s₄ ≡ replicate (length s₃) 0
         → Inverted p c g h rows s (take (c + c + c) r₃ ++ (d ++ drop m (drop (c + c + c) r₃))) s₄
     inverted v q d s₄ m em N I S es =
         let z = take (c + c + c) r₃ ++ (d ++ drop m (drop (c + c + c) r₃)) in
         let long : length r₃ ≡ c + c + c + c + c + c = D .size ∙ B .size ∙ A .size ∙ t .room in
-        let part : length (mid (c + c + c) (c + c + c + c + c + c) r₃) ≡ c + c + c = mid-length (c + c + c) (c + c + c + c + c + c) r₃ (omega arith) (omega arith) ∙ (let o : c + c + c + c + c + c - (c + c + c) ≡ c + c + c = omega arith in o) in
-        let put : Put (c + c + c) (c + c + c) r₃ d z = subst (λ j. Put (c + c + c) (c + c + c) r₃ d (take (c + c + c) r₃ ++ (d ++ drop j (drop (c + c + c) r₃)))) (sym em) (put-back (c + c + c) (c + c + c) r₃ d (omega arith) (S .size ∙ part)) in
+        let part : length (between (c + c + c) (c + c + c + c + c + c) r₃) ≡ c + c + c = between-length (c + c + c) (c + c + c + c + c + c) r₃ (omega arith) (omega arith) ∙ (let o : c + c + c + c + c + c - (c + c + c) ≡ c + c + c = omega arith in o) in
+        let put : Around (c + c + c) (c + c + c) r₃ d z = subst (λ j. Around (c + c + c) (c + c + c) r₃ d (take (c + c + c) r₃ ++ (d ++ drop j (drop (c + c + c) r₃)))) (sym em) (put-back (c + c + c) (c + c + c) r₃ d (omega arith) (S .size ∙ part)) in
         let at : (i : ℕ) → i < c + c + c → getD z (c + c + c + i) 0 ≡ (getD r₃ (c + c + c + i) 0 * q) % p = (λ i u. put .inside i u ∙ S .at i (omega arith)
         ∙ ap (λ x. (x * q) % p) (getD-take (c + c + c + c + c + c - (c + c + c)) (drop (c + c + c) r₃) i 0 (omega arith) ∙ getD-drop (c + c + c) r₃ i 0)) in
         let at₁ : (i : ℕ) → i < c → getD z (c + c + c + c + i) 0 ≡ (getD r₃ (c + c + c + c + i) 0 * q) % p = (λ i u. let o : c + c + c + c + i ≡ c + c + c + (c + i) = omega arith in

@@ -17,7 +17,7 @@ use Rattle.math_rows.specs.Reading.{Reading}
 use Rattle.math_rows.specs.Made.{reading}
 use Rattle.math_rows.specs.Row.{row}
 use Rattle.poly_long.specs.Long.{Storable, Low}
-use Rattle.unit_rows.specs.Six.{cut}
+use Rattle.base_lists.specs.Pieces.{cut}
 
 pub record PairIn (p c k x y v w : ℕ) (rows s : List ℕ) : Type 0 where
   pub modulus : Storable p

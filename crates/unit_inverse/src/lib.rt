@@ -3,7 +3,7 @@ use poly_long::clear;
 use poly_long::mix;
 use poly_long::scale;
 use num_residue::inverse;
-use unit_rows::wide;
+use base_lists::wide;
 ghost use Rattle.unit_inverse.specs.Inverse.{PairIn, Pair, CofactorIn, Cofactor, NormIn, Norm, InvertIn, Inverted};
 
 // The low k coefficients of the products of the rows at x and y and of those at v and w, one after the other.

@@ -5,7 +5,6 @@ use Prim.Native.Nat.{ℕ, zero, suc, _+_, _*_, _-_, _<_, _≤_}
 use native.Mathlib.Omega.{arith}
 use native.Mathlib.Decide.{decLt}
 use lib.ListN.{length, getD}
-use lib.Seq.{ext-getD}
 use Rattle.math_ring.specs.Ring.{Ops}
 use Rattle.math_ring.proofs.Solve.{var, _:+_, _:*_, solve}
 use Rattle.math_fp.specs.Fp.{Prime}
@@ -13,15 +12,12 @@ use Rattle.math_valued.specs.Degree.{Lt}
 use Rattle.math_rows.specs.Reading.{Reading}
 use Rattle.math_rows.specs.Made.{reading}
 use Rattle.math_rows.specs.Row.{tab, row, psum, coefs}
-use Rattle.math_rows.proofs.Tab.{length-tab, at-tab, past-tab}
+use Rattle.math_rows.proofs.Tab.{at-tab, past-tab}
 use Rattle.math_rows.proofs.Rows.{psum-ext, row-tab, row-upto}
-use Rattle.unit_rows.specs.Six.{cut, Monic, By, CoordinateIn, Coordinate, TimesIn, Times}
-use Rattle.unit_rows.proofs.Parts.{mid, mid-length, mid-cut}
-
-pub cut-same : (at n : ℕ) (s z : List ℕ) → ((i : ℕ) → i < n → getD s (at + i) 0 ≡ getD z (at + i) 0) → cut at n s ≡ cut at n z
-cut-same at n s z h = ext-getD 0 (cut at n s) (cut at n z) (length-tab n (λ i. getD s (at + i) 0) ∙ sym (length-tab n (λ i. getD z (at + i) 0)))
-    (λ i u. let e : length (cut at n s) ≡ n = length-tab n (λ i. getD s (at + i) 0) in let v : i < n = omega arith in
-    at-tab n (λ i. getD s (at + i) 0) i v ∙ h i v ∙ sym (at-tab n (λ i. getD z (at + i) 0) i v))
+use Rattle.base_lists.specs.Pieces.{cut, between}
+use Rattle.unit_rows.specs.Six.{Monic, By, CoordinateIn, Coordinate, TimesIn, Times}
+pub use Rattle.base_lists.proofs.Pieces.{cut-same}
+use Rattle.base_lists.proofs.Pieces.{between-length, between-cut}
 
 -- zeros above n do not count
 pub row-grow : {p : ℕ} (ρ : Reading p) (at n c : ℕ) (s : List ℕ) → n ≤ c → ((i : ℕ) → n ≤ i → i < c → getD s (at + i) 0 ≡ 0) → row ρ (cut at c s) ≡ row ρ (cut at n s)
@@ -47,19 +43,19 @@ module _ {p c n : ℕ} {a b d u e : List ℕ} {at : ℕ} {s s′ : List ℕ} (C 
 
 module _ (p c n : ℕ) (g h gh b e s : List ℕ) (t : TimesIn p c n g h gh b e s) where
   -- the four rows of the record
-  pub piece-length : (f k : ℕ) → f ≤ k → k ≤ 119 → length (mid f k b) ≡ k - f
-  piece-length f k u v = mid-length f k b u (let o : length b ≡ 119 = t .b-size in omega arith)
+  pub piece-length : (f k : ℕ) → f ≤ k → k ≤ 119 → length (between f k b) ≡ k - f
+  piece-length f k u v = between-length f k b u (let o : length b ≡ 119 = t .b-size in omega arith)
 
-  piece-cut : (f k : ℕ) → f ≤ k → k ≤ 119 → mid f k b ≡ cut f (k - f) b
-  piece-cut f k u v = mid-cut f k b u (let o : length b ≡ 119 = t .b-size in omega arith)
+  piece-cut : (f k : ℕ) → f ≤ k → k ≤ 119 → between f k b ≡ cut f (k - f) b
+  piece-cut f k u v = between-cut f k b u (let o : length b ≡ 119 = t .b-size in omega arith)
 
-  pub times-asks : (x y z : List ℕ) (at : ℕ) (r : List ℕ) → length x ≤ 4096 → length y ≤ 4096 → length z ≤ 4096 → at + n ≤ length r → CoordinateIn p c n x y z (mid 102 119 b) e at r
+  pub times-asks : (x y z : List ℕ) (at : ℕ) (r : List ℕ) → length x ≤ 4096 → length y ≤ 4096 → length z ≤ 4096 → at + n ≤ length r → CoordinateIn p c n x y z (between 102 119 b) e at r
   times-asks x y z at r lx ly lz lr = record {
     modulus = t .modulus;
     a-most = lx;
     b-most = ly;
     d-most = lz;
-    u-most = let o : length (mid 102 119 b) ≡ 17 = piece-length 102 119 (omega arith) (omega arith) in omega arith;
+    u-most = let o : length (between 102 119 b) ≡ 17 = piece-length 102 119 (omega arith) (omega arith) in omega arith;
     monic = subst Monic (sym (piece-cut 102 119 (omega arith) (omega arith))) (t .monic);
     most = t .most;
     upto = t .upto;
@@ -68,10 +64,10 @@ module _ (p c n : ℕ) (g h gh b e s : List ℕ) (t : TimesIn p c n g h gh b e s
   }
 
   module _ (m1gh m2gh m2g m1h s₁ s₂ s₃ : List ℕ)
-      (B₁ : By p (mid 17 34 b) gh m1gh) (B₂ : By p (mid 34 51 b) gh m2gh) (B₃ : By p (mid 34 51 b) g m2g) (B₄ : By p (mid 17 34 b) h m1h)
-      (C₁ : Coordinate p c n (mid 0 17 b) m2gh m1gh (mid 102 119 b) e 0 s s₁)
-      (C₂ : Coordinate p c n (mid 17 34 b) (mid 0 17 b) m2g (mid 102 119 b) e c s₁ s₂)
-      (C₃ : Coordinate p c n (mid 34 51 b) m1h (mid 0 17 b) (mid 102 119 b) e (c + c) s₂ s₃) where
+      (B₁ : By p (between 17 34 b) gh m1gh) (B₂ : By p (between 34 51 b) gh m2gh) (B₃ : By p (between 34 51 b) g m2g) (B₄ : By p (between 17 34 b) h m1h)
+      (C₁ : Coordinate p c n (between 0 17 b) m2gh m1gh (between 102 119 b) e 0 s s₁)
+      (C₂ : Coordinate p c n (between 17 34 b) (between 0 17 b) m2g (between 102 119 b) e c s₁ s₂)
+      (C₃ : Coordinate p c n (between 34 51 b) m1h (between 0 17 b) (between 102 119 b) e (c + c) s₂ s₃) where
     pos : 0 < p
     pos = let o : 1 < p = t .modulus .big in omega arith
 
@@ -112,10 +108,10 @@ module _ (p c n : ℕ) (g h gh b e s : List ℕ) (t : TimesIn p c n g h gh b e s
       rest = past;
       law = λ pr x y z hx hy hz lx ly lz ex ey ez.
           let ρ = reading p pr in let L = ρ .𝓥 .L in let o = L .ops in
-          let m₀ : row ρ (mid 0 17 b) ≡ row ρ (cut 0 17 b) = ap (row ρ) (piece-cut 0 17 (omega arith) (omega arith)) in
-          let m₁ : row ρ (mid 17 34 b) ≡ row ρ (cut 17 17 b) = ap (row ρ) (piece-cut 17 34 (omega arith) (omega arith)) in
-          let m₂ : row ρ (mid 34 51 b) ≡ row ρ (cut 34 17 b) = ap (row ρ) (piece-cut 34 51 (omega arith) (omega arith)) in
-          let w : row ρ (mid 102 119 b) ≡ row ρ (cut 102 17 b) = ap (row ρ) (piece-cut 102 119 (omega arith) (omega arith)) in
+          let m₀ : row ρ (between 0 17 b) ≡ row ρ (cut 0 17 b) = ap (row ρ) (piece-cut 0 17 (omega arith) (omega arith)) in
+          let m₁ : row ρ (between 17 34 b) ≡ row ρ (cut 17 17 b) = ap (row ρ) (piece-cut 17 34 (omega arith) (omega arith)) in
+          let m₂ : row ρ (between 34 51 b) ≡ row ρ (cut 34 17 b) = ap (row ρ) (piece-cut 34 51 (omega arith) (omega arith)) in
+          let w : row ρ (between 102 119 b) ≡ row ρ (cut 102 17 b) = ap (row ρ) (piece-cut 102 119 (omega arith) (omega arith)) in
           let E = row ρ (cut 0 c e) in let F = row ρ (cut c c e) in let K = row ρ (cut (c + c) c e) in
           let A = row ρ (cut 0 17 b) in let B = row ρ (cut 17 17 b) in let D = row ρ (cut 34 17 b) in (
             lay-row C₁ s₃ upto pos keep₁ (λ j u v. t .blank (0 + j)) pr

@@ -1,5 +1,4 @@
--- The rows of an element in one list.
---   cut at n l     the n numbers of l from place at on
+-- The rows of an element in one list: `cut at n l` of crate base_lists is the row of n numbers from place `at` on.
 use mathlib.Core.Path.{_≡_}
 use mathlib.Core.List.{List}
 use Prim.Native.Nat.{ℕ, _+_, _*_, _-_, _%_, _<_, _≤_}
@@ -7,11 +6,9 @@ use lib.ListN.{length, getD, replicate}
 use Rattle.math_fp.specs.Fp.{Prime}
 use Rattle.math_valued.specs.Degree.{Lt}
 use Rattle.math_rows.specs.Made.{reading}
-use Rattle.math_rows.specs.Row.{tab, row, Size}
+use Rattle.math_rows.specs.Row.{row, Size}
+pub use Rattle.base_lists.specs.Pieces.{cut}
 use Rattle.poly_long.specs.Long.{Storable}
-
-abbrev pub cut : ℕ → ℕ → List ℕ → List ℕ
-cut at n l = tab n (λ i. getD l (at + i) 0)
 
 pub record ByIn (p : ℕ) (x y : List ℕ) : Type 0 where
   pub modulus : Storable p

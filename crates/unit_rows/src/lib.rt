@@ -4,6 +4,7 @@ use poly_long::copy;
 use poly_long::quotient;
 use poly_long::scale;
 use poly_long::size;
+use base_lists::wide;
 use num_residue::inverse;
 ghost use mathlib.Core.Path.{_≡_};
 ghost use Rattle.unit_rows.specs.Six.{ByIn, By, CoordinateIn, Coordinate, TimesIn, Times, TurnIn, Turn, MonicIn, MonicMade};
@@ -110,12 +111,6 @@ pub fn turn(
     let to = c + c + c;
     copy(&s[z..to], &mut rows[z..to]);
     clear(s);
-}
-
-pub fn wide(x: u16) -> u64
-    ensures { λ r. ⌜ r ≡ x ⌝ }
-{
-    x as u64
 }
 
 // E scaled so that E0, of n coefficients, is monic.

@@ -8,8 +8,8 @@ use mathlib.Core.List.{List, [], _++_, append-assoc, append-nil}
 use Prim.Native.Nat.{ℕ, _+_, _≤_, min, max}
 use native.Mathlib.Omega.{arith}
 use lib.ListN.{length}
-use Rattle.text_put.specs.Print.{Put}
-use Rattle.text_put.proofs.Puts.{placed-same}
+use Rattle.base_lists.specs.Pieces.{Put}
+use Rattle.base_lists.proofs.Puts.{placed-same}
 use Rattle.text_cut.specs.Lines.{Line}
 use Rattle.text_cut.specs.Feed.{Fed, start, next-piece, Answered, no-line, Output, end-text}
 use Rattle.text_cut.proofs.Feeds.{answered-append, fed-output}

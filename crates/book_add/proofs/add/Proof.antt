@@ -46,10 +46,22 @@ same-length-3 : tie.Need-same-length-3
 same-length-3 c = search needs
 
 returns-4 : tie.Need-returns-4
-returns-4 c = let a = c .before .before .before .before .before .before .before .before .before .before .before .args in short-of (a .out .now) (a .n) (a .b .now) _ (omega arith) (c .before .before .before .before .before .before .may-add .ensures) _ (c .before .before .before .before .v .given .1) (inr (omega arith))
+returns-4 c =
+    let s11 = c .before .before .before .before .before .before .before .before .before .before .before in
+    let s6 = c .before .before .before .before .before .before in
+    let a = s11 .args in
+    short-of (a .out .now) (a .n) (a .b .now) _ (omega arith) (s6 .may-add .ensures) _ (c .before .before .before .before .v .given .1)
+    (inr (omega arith))
 
 put-body-requires : tie.Need-put-body-requires
-put-body-requires c κs = let a = c .before .before .before .before .before .before .before .before .before .before .before .before .args in room-of (a .out .now) (a .n) (a .b .now) _ (omega arith) (c .before .before .before .before .before .before .before .may-add .ensures) _ (c .before .before .before .before .before .v .given .1) (λ i. omega (arith, c .before .before .before .before .before .before .before .before .before .before .before .slice-known .given i)) (λ i. omega (arith, c .before .before .before .before .before .before .before .before .before .before .shared-slice-known .given i)) (omega arith) (omega arith)
+put-body-requires c κs =
+    let s12 = c .before .before .before .before .before .before .before .before .before .before .before .before in
+    let s11 = c .before .before .before .before .before .before .before .before .before .before .before in
+    let s10 = c .before .before .before .before .before .before .before .before .before .before in
+    let s7 = c .before .before .before .before .before .before .before in
+    let a = s12 .args in
+    room-of (a .out .now) (a .n) (a .b .now) _ (omega arith) (s7 .may-add .ensures) _ (c .before .before .before .before .before .v .given .1)
+    (λ i. omega (arith, s11 .slice-known .given i)) (λ i. omega (arith, s10 .shared-slice-known .given i)) (omega arith) (omega arith)
 
 enum-known-v-2 : tie.Need-enum-known-v-2
 enum-known-v-2 c = search needs
@@ -61,7 +73,16 @@ same-length-4 : tie.Need-same-length-4
 same-length-4 c = search needs
 
 returns-5 : tie.Need-returns-5
-returns-5 c = let a = c .before .before .before .before .before .before .before .before .before .before .before .before .before .before .before .args in added-of (a .out .now) (a .n) (a .b .now) _ (omega arith) (c .before .before .before .before .before .before .before .before .before .before .may-add .ensures) _ (c .before .before .before .before .before .before .before .before .v .given .1) (λ i. omega (arith, c .before .before .before .before .before .before .before .before .before .before .before .before .before .before .slice-known .given i)) (λ i. omega (arith, c .before .before .before .before .before .before .before .before .before .before .before .before .before .shared-slice-known .given i)) (omega arith) (omega arith) _ _ (c .before .before .put-body .ensures .0) (c .before .before .put-body .ensures .1)
+returns-5 c =
+    let s15 = c .before .before .before .before .before .before .before .before .before .before .before .before .before .before .before in
+    let s14 = c .before .before .before .before .before .before .before .before .before .before .before .before .before .before in
+    let s13 = c .before .before .before .before .before .before .before .before .before .before .before .before .before in
+    let s10 = c .before .before .before .before .before .before .before .before .before .before in
+    let s8 = c .before .before .before .before .before .before .before .before in
+    let s2 = c .before .before in
+    let a = s15 .args in
+    added-of (a .out .now) (a .n) (a .b .now) _ (omega arith) (s10 .may-add .ensures) _ (s8 .v .given .1) (λ i. omega (arith, s14 .slice-known .given i))
+    (λ i. omega (arith, s13 .shared-slice-known .given i)) (omega arith) (omega arith) _ _ (s2 .put-body .ensures .0) (s2 .put-body .ensures .1)
 
 same-length-5 : tie.Need-same-length-5
 same-length-5 c = search needs

@@ -22,7 +22,17 @@ put-two-requires : tie.Need-put-two-requires
 put-two-requires c κs = search needs
 
 put-lines-requires : tie.Need-put-lines-requires
-put-lines-requires c κs = let a = c .before .before .before .before .before .before .before .before .before .before .before .args in let w = c .before .before .before .before .before .before .before .before .before .before .before .pre in let l = w .low in let r = w .room in let t = w .top in let k = long-kept (a .out .now) (a .c) (a .n) _ _ _ _ _ _ (c .before .before .before .before .before .before .before .lift .ensures) (c .before .before .before .put-two .ensures) in (omega arith, omega arith, λ i u. let e = ends-kept (a .out .now) (a .c) (a .n) _ _ _ _ _ _ (c .before .before .before .before .before .before .before .lift .ensures) (c .before .before .before .put-two .ensures) (6 + 8 * suc (a .c)) i u in let f = w .fits i u in omega arith)
+put-lines-requires c κs =
+    let s11 = c .before .before .before .before .before .before .before .before .before .before .before in
+    let s7 = c .before .before .before .before .before .before .before in
+    let s3 = c .before .before .before in
+    let a = s11 .args in
+    let w = s11 .pre in
+    let l = w .low in
+    let r = w .room in
+    let t = w .top in
+    let k = long-kept (a .out .now) (a .c) (a .n) _ _ _ _ _ _ (s7 .lift .ensures) (s3 .put-two .ensures) in
+    (omega arith, omega arith, λ i u. let e = ends-kept (a .out .now) (a .c) (a .n) _ _ _ _ _ _ (s7 .lift .ensures) (s3 .put-two .ensures) (6 + 8 * suc (a .c)) i u in let f = w .fits i u in omega arith)
 
 add-put-line : tie.Need-add-put-line
 add-put-line c = search needs
@@ -37,7 +47,15 @@ same-length : tie.Need-same-length
 same-length c = search needs
 
 returns : tie.Need-returns
-returns c = let a = c .before .before .before .before .before .before .before .before .before .before .before .before .before .before .before .before .before .before .before .before .before .before .args in assemble (a .out .now) (a .n) (a .c) (a .b .now) _ _ _ _ _ _ _ _ _ _ (c .before .before .before .before .before .before .before .before .before .before .before .before .before .before .before .before .before .before .before .before .before .before .pre) (c .before .before .before .before .before .before .before .before .before .before .before .before .before .before .before .before .before .before .lift .ensures) (c .before .before .before .before .before .before .before .before .before .before .before .before .before .before .put-two .ensures) (c .before .before .before .before .before .before .before .before .before .before .put-lines .ensures) (c .before .before .before .before .before .before .put-line .ensures) (c .before .before .copy-in .ensures)
+returns c =
+    let s22 = c .before .before .before .before .before .before .before .before .before .before .before .before .before .before .before .before .before .before .before .before .before .before in
+    let s18 = c .before .before .before .before .before .before .before .before .before .before .before .before .before .before .before .before .before .before in
+    let s14 = c .before .before .before .before .before .before .before .before .before .before .before .before .before .before in
+    let s10 = c .before .before .before .before .before .before .before .before .before .before in
+    let s6 = c .before .before .before .before .before .before in
+    let a = s22 .args in
+    assemble (a .out .now) (a .n) (a .c) (a .b .now) _ _ _ _ _ _ _ _ _ _ (s22 .pre) (s18 .lift .ensures) (s14 .put-two .ensures) (s10 .put-lines .ensures)
+    (s6 .put-line .ensures) (c .before .before .copy-in .ensures)
 
 pub put-body-spec : {M : Type 1} → statement M
 put-body-spec =

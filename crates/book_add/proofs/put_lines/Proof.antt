@@ -1,5 +1,5 @@
 -- `book_add::put_lines` meets its contract.
-use Rattle.book_bytes.specs.Bytes.{Put}
+use Rattle.base_lists.specs.Pieces.{Written}
 use Rattle.book_add.specs.Code.{lineEnd, lines}
 use Rattle.book_add.proofs.Lines.{lineEnd-more, lineEnd-first, lines-none, line-read, lines-more, lines-all}
 use Prim.Native.Nat.{suc, _≤_, _-_, _*_, _+_}
@@ -10,7 +10,7 @@ use Rattle.book_add.proofs.put_lines.Statement.{statement}
 use Rattle.book_add.proofs.put_lines.Tie as tie
 
 abbrev Inv-loop : tie.InvT-loop
-Inv-loop out₀ c at₀ o₀ i₀ out at o i = (i ≤ c) × (at ≡ lineEnd out₀ (6 + 8 * suc c) i) × Put out₀ 6 (lines out₀ (6 + 8 * suc c) i) (8 * i) o out
+Inv-loop out₀ c at₀ o₀ i₀ out at o i = (i ≤ c) × (at ≡ lineEnd out₀ (6 + 8 * suc c) i) × Written out₀ 6 (lines out₀ (6 + 8 * suc c) i) (8 * i) o out
 
 abbrev μ-loop : tie.MeasureT-loop
 μ-loop out₀ c at₀ o₀ i₀ out at o i = c - i
@@ -37,10 +37,25 @@ four-requires : tie.Need-four-requires Inv-loop μ-loop
 four-requires c κs = search needs
 
 put-line-requires : tie.Need-put-line-requires Inv-loop μ-loop
-put-line-requires c κs = let w = c .before .before .before .before .loop .inv in let q = w .2 in let s = q .same in let n = q .next in let e = w .1 in let h = c .before .before .before .before .before .before .pre .2 (c .before .before .before .before .loop .i) (omega arith) in (omega arith, omega arith, omega arith)
+put-line-requires c κs =
+    let s6 = c .before .before .before .before .before .before in
+    let s4 = c .before .before .before .before in
+    let w = s4 .loop .inv in
+    let q = w .2 in
+    let s = q .same in
+    let n = q .next in
+    let e = w .1 in
+    let h = s6 .pre .2 (s4 .loop .i) (omega arith) in
+    (omega arith, omega arith, omega arith)
 
 add-at-3 : tie.Need-add-at-3 Inv-loop μ-loop
-add-at-3 c = let e = c .before .before .before .before .before .before .before .loop .inv .1 in let h = c .before .before .before .before .before .before .before .before .before .pre .2 (c .before .before .before .before .before .before .before .loop .i) (omega arith) in let l = c .before .before .before .before .four .ensures .1 in omega arith
+add-at-3 c =
+    let s9 = c .before .before .before .before .before .before .before .before .before in
+    let s7 = c .before .before .before .before .before .before .before in
+    let e = s7 .loop .inv .1 in
+    let h = s9 .pre .2 (s7 .loop .i) (omega arith) in
+    let l = c .before .before .before .before .four .ensures .1 in
+    omega arith
 
 add-i : tie.Need-add-i Inv-loop μ-loop
 add-i c = search needs
@@ -49,7 +64,15 @@ loop-less : tie.Need-loop-less Inv-loop μ-loop
 loop-less c = search needs
 
 loop-again : tie.Need-loop-again Inv-loop μ-loop
-loop-again c = let a = c .before .before .before .before .before .before .before .before .before .args in let w = c .before .before .before .before .before .before .before .loop .inv in let m = lineEnd-more (a .out .now) (6 + 8 * suc (a .c)) (c .before .before .before .before .before .before .before .loop .i) in let l = line-read (a .out .now) (6 + 8 * suc (a .c)) (c .before .before .before .before .before .before .before .loop .i) _ _ _ (w .2) (c .before .before .before .before .four .ensures .0) in let e = w .1 in (omega arith, omega arith, lines-more (a .out .now) (6 + 8 * suc (a .c)) (c .before .before .before .before .before .before .before .loop .i) _ _ _ _ _ _ e l (w .2) (c .before .before .put-line .ensures))
+loop-again c =
+    let s9 = c .before .before .before .before .before .before .before .before .before in
+    let s7 = c .before .before .before .before .before .before .before in
+    let a = s9 .args in
+    let w = s7 .loop .inv in
+    let m = lineEnd-more (a .out .now) (6 + 8 * suc (a .c)) (s7 .loop .i) in
+    let l = line-read (a .out .now) (6 + 8 * suc (a .c)) (s7 .loop .i) _ _ _ (w .2) (c .before .before .before .before .four .ensures .0) in
+    let e = w .1 in
+    (omega arith, omega arith, lines-more (a .out .now) (6 + 8 * suc (a .c)) (s7 .loop .i) _ _ _ _ _ _ e l (w .2) (c .before .before .put-line .ensures))
 
 same-length : tie.Need-same-length Inv-loop μ-loop
 same-length c = c .before .loop .inv .2 .same

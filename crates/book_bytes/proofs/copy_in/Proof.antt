@@ -1,6 +1,7 @@
 -- `book_bytes::copy_in` meets its contract.
-use Rattle.book_bytes.specs.Bytes.{Put}
-use Rattle.book_bytes.proofs.Write.{copy-none, copy-more, copy-all}
+use Rattle.base_lists.specs.Pieces.{Written}
+use Rattle.base_lists.proofs.Puts.{written-more, written-all}
+use Rattle.book_bytes.proofs.Write.{copy-none}
 use Prim.Native.Nat.{_≤_, _-_}
 use mathlib.Core.Path.{refl}
 use native.Mathlib.Omega.{arith}
@@ -10,7 +11,7 @@ use Rattle.book_bytes.proofs.copy_in.Statement.{statement}
 use Rattle.book_bytes.proofs.copy_in.Tie as tie
 
 abbrev Inv-loop : tie.InvT-loop
-Inv-loop out₀ at s o₀ i₀ out o i = (i ≤ length s) × Put out₀ at (take i s) i o out
+Inv-loop out₀ at s o₀ i₀ out o i = (i ≤ length s) × Written out₀ at (take i s) i o out
 
 abbrev μ-loop : tie.MeasureT-loop
 μ-loop out₀ at s o₀ i₀ out o i = length s - i
@@ -34,13 +35,13 @@ loop-less : tie.Need-loop-less Inv-loop μ-loop
 loop-less c = search needs
 
 loop-again : tie.Need-loop-again Inv-loop μ-loop
-loop-again c = (omega arith, copy-more _ _ _ (c .before .before .loop .i) (c .before .before .loop .o) _ _ (omega arith) refl (c .before .before .loop .inv .1))
+loop-again c = (omega arith, written-more _ _ _ (c .before .before .loop .i) (c .before .before .loop .o) _ _ (omega arith) refl (c .before .before .loop .inv .1))
 
 same-length : tie.Need-same-length Inv-loop μ-loop
 same-length c = c .before .loop .inv .1 .same
 
 returns : tie.Need-returns Inv-loop μ-loop
-returns c = copy-all _ _ _ _ (c .before .loop .i) _ _ refl (omega arith) (omega arith) (c .before .loop .inv .1)
+returns c = written-all _ _ _ _ (c .before .loop .i) _ _ refl (omega arith) (omega arith) (c .before .loop .inv .1)
 
 pub copy-in-spec : {M : Type 1} → statement M
 copy-in-spec =

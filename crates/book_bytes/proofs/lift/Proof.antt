@@ -40,7 +40,10 @@ loop-less : tie.Need-loop-less Inv-loop μ-loop
 loop-less c = search needs
 
 loop-again : tie.Need-loop-again Inv-loop μ-loop
-loop-again c = (omega arith, omega arith, length-set (c .before .before .loop .out) _ _ ∙ c .before .before .loop .inv .2, lift-more _ _ (c .before .before .loop .i) (c .before .before .before .args .to) (c .before .before .before .args .by) (omega arith) (omega arith) (omega arith) (c .before .before .loop .inv .3))
+loop-again c =
+    let a = c .before .before .before .args in
+    let s2 = c .before .before in
+    (omega arith, omega arith, length-set (s2 .loop .out) _ _ ∙ s2 .loop .inv .2, lift-more _ _ (s2 .loop .i) (a .to) (a .by) (omega arith) (omega arith) (omega arith) (s2 .loop .inv .3))
 
 add-result : tie.Need-add-result Inv-loop μ-loop
 add-result c = search needs

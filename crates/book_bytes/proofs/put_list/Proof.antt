@@ -2,14 +2,15 @@
 use Prim.Native.Nat.{_≤_, _-_, _*_}
 use native.Mathlib.Omega.{arith}
 use lib.ListN.{length, take}
-use Rattle.book_bytes.specs.Bytes.{words, Put}
+use Rattle.base_lists.specs.Pieces.{Written}
+use Rattle.book_bytes.specs.Bytes.{words}
 use Rattle.book_bytes.proofs.Write.{list-none, list-more, list-all}
 use borrow.Author.Needs.{needs}
 use Rattle.book_bytes.proofs.put_list.Statement.{statement}
 use Rattle.book_bytes.proofs.put_list.Tie as tie
 
 abbrev Inv-loop : tie.InvT-loop
-Inv-loop out₀ at l o₀ i₀ out o i = (i ≤ length l) × Put out₀ at (words (take i l)) (2 * i) o out
+Inv-loop out₀ at l o₀ i₀ out o i = (i ≤ length l) × Written out₀ at (words (take i l)) (2 * i) o out
 
 abbrev μ-loop : tie.MeasureT-loop
 μ-loop out₀ at l o₀ i₀ out o i = length l - i
@@ -33,7 +34,10 @@ loop-less : tie.Need-loop-less Inv-loop μ-loop
 loop-less c = search needs
 
 loop-again : tie.Need-loop-again Inv-loop μ-loop
-loop-again c = (omega arith, list-more (c .before .before .before .before .before .before .before .before .before .args .out .now) (c .before .before .before .before .before .before .before .before .before .args .at) (c .before .before .before .before .before .before .before .before .before .args .l .now) (c .before .before .before .before .before .before .loop .i) (c .before .before .before .before .before .before .loop .o) (c .before .before .before .before .before .before .loop .out) _ _ (omega arith) (c .before .before .before .before .before .before .loop .inv .1) (c .before .before .put-two .ensures))
+loop-again c =
+    let a = c .before .before .before .before .before .before .before .before .before .args in
+    let s6 = c .before .before .before .before .before .before in
+    (omega arith, list-more (a .out .now) (a .at) (a .l .now) (s6 .loop .i) (s6 .loop .o) (s6 .loop .out) _ _ (omega arith) (s6 .loop .inv .1) (c .before .before .put-two .ensures))
 
 same-length : tie.Need-same-length Inv-loop μ-loop
 same-length c = c .before .loop .inv .1 .same

@@ -48,13 +48,23 @@ loop-less : tie.Need-loop-less Inv-loop μ-loop
 loop-less c = search needs
 
 loop-again : tie.Need-loop-again Inv-loop μ-loop
-loop-again c = let w = c .before .before .before .before .loop .inv in (w .0, w .1, w .2, w .3, omega arith, below-more _ _ (w .5) (sound-of (c .before .before .before .before .before .before .before .before .before .before .before .args .s .now) (c .before .before .before .before .loop .i) _ (c .enum-told .given .1) (c .before .before .entry-of .ensures)))
+loop-again c =
+    let s11 = c .before .before .before .before .before .before .before .before .before .before .before in
+    let s4 = c .before .before .before .before in
+    let w = s4 .loop .inv in
+    (w .0, w .1, w .2, w .3, omega arith, below-more _ _ (w .5) (sound-of (s11 .args .s .now) (s4 .loop .i) _ (c .enum-told .given .1) (c .before .before .entry-of .ensures)))
 
 enum-known-e : tie.Need-enum-known-e Inv-loop μ-loop
 enum-known-e c = search needs
 
 returns-3 : tie.Need-returns-3 Inv-loop μ-loop
-returns-3 c = let w = c .before .before .before .before .before .loop .inv in says.at-entry (w .0) (w .1) (c .before .before .before .before .before .loop .i) (omega arith) (w .5) (fault-of (c .before .before .before .before .before .before .before .before .before .before .before .before .args .s .now) (c .before .before .before .before .before .loop .i) _ (c .before .e .given .0 .0) (c .before .e .given .1) (c .before .before .before .entry-of .ensures))
+returns-3 c =
+    let s12 = c .before .before .before .before .before .before .before .before .before .before .before .before in
+    let s5 = c .before .before .before .before .before in
+    let s1 = c .before in
+    let w = s5 .loop .inv in
+    says.at-entry (w .0) (w .1) (s5 .loop .i) (omega arith) (w .5)
+    (fault-of (s12 .args .s .now) (s5 .loop .i) _ (s1 .e .given .0 .0) (s1 .e .given .1) (c .before .before .before .entry-of .ensures))
 
 returns-4 : tie.Need-returns-4 Inv-loop μ-loop
 returns-4 c = let w = c .before .loop .inv in says.fine record { marked = w .0; listed = w .1; good = λ k h. w .5 k (omega arith) } refl

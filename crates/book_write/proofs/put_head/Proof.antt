@@ -29,7 +29,15 @@ same-length : tie.Need-same-length
 same-length c = search needs
 
 returns : tie.Need-returns
-returns c = head-put _ _ _ _ _ _ _ _ _ _ _ _ _ _ _ _ _ _ _ _ _ _ (c .before .before .before .before .before .before .before .before .before .before .before .before .before .before .before .before .before .before .before .before .before .before .before .before .before .before .put-two .ensures) (c .before .before .before .before .before .before .before .before .before .before .before .before .before .before .before .before .before .before .before .before .before .before .put-two2 .ensures) (c .before .before .before .before .before .before .before .before .before .before .before .before .before .before .before .before .before .before .put-two3 .ensures) (c .before .before .before .before .before .before .before .before .before .before .before .before .before .before .put-two4 .ensures) (c .before .before .before .before .before .before .before .before .before .before .put-two5 .ensures) (c .before .before .before .before .before .before .put-two6 .ensures) (c .before .before .put-four .ensures)
+returns c =
+    let s26 = c .before .before .before .before .before .before .before .before .before .before .before .before .before .before .before .before .before .before .before .before .before .before .before .before .before .before in
+    let s22 = c .before .before .before .before .before .before .before .before .before .before .before .before .before .before .before .before .before .before .before .before .before .before in
+    let s18 = c .before .before .before .before .before .before .before .before .before .before .before .before .before .before .before .before .before .before in
+    let s14 = c .before .before .before .before .before .before .before .before .before .before .before .before .before .before in
+    let s10 = c .before .before .before .before .before .before .before .before .before .before in
+    let s6 = c .before .before .before .before .before .before in
+    head-put _ _ _ _ _ _ _ _ _ _ _ _ _ _ _ _ _ _ _ _ _ _ (s26 .put-two .ensures) (s22 .put-two2 .ensures) (s18 .put-two3 .ensures)
+    (s14 .put-two4 .ensures) (s10 .put-two5 .ensures) (s6 .put-two6 .ensures) (c .before .before .put-four .ensures)
 
 pub put-head-spec : {M : Type 1} → statement M
 put-head-spec =

@@ -23,7 +23,13 @@ same-length : tie.Need-same-length
 same-length c = search needs
 
 returns : tie.Need-returns
-returns c = lists-put _ _ _ _ _ _ _ _ _ _ _ _ _ _ _ _ _ (c .before .before .before .before .before .before .before .before .before .before .before .before .before .before .before .before .before .before .put-list .ensures) (c .before .before .before .before .before .before .before .before .before .before .before .before .before .before .put-list2 .ensures) (c .before .before .before .before .before .before .before .before .before .before .put-list3 .ensures) (c .before .before .before .before .before .before .put-list4 .ensures) (c .before .before .put-list5 .ensures)
+returns c =
+    let s18 = c .before .before .before .before .before .before .before .before .before .before .before .before .before .before .before .before .before .before in
+    let s14 = c .before .before .before .before .before .before .before .before .before .before .before .before .before .before in
+    let s10 = c .before .before .before .before .before .before .before .before .before .before in
+    let s6 = c .before .before .before .before .before .before in
+    lists-put _ _ _ _ _ _ _ _ _ _ _ _ _ _ _ _ _ (s18 .put-list .ensures) (s14 .put-list2 .ensures) (s10 .put-list3 .ensures) (s6 .put-list4 .ensures)
+    (c .before .before .put-list5 .ensures)
 
 pub put-lists-spec : {M : Type 1} → statement M
 put-lists-spec =

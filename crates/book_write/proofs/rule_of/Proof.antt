@@ -46,7 +46,12 @@ returns-6 : tie.Need-returns-6
 returns-6 c = answer-no (λ b. c .before .first-list .ensures .no! (not-true _ (c .if6 .taken)) (b .first))
 
 returns-7 : tie.Need-returns-7
-returns-7 c = answer-yes record { from = omega arith; to = omega arith; row0 = c .before .before .before .before .before .before .before .before .unit-list .ensures .yes! (not-false _ (c .before .before .before .before .before .before .before .if3 .left)); row1 = c .before .before .before .before .before .before .unit-list2 .ensures .yes! (not-false _ (c .before .before .before .before .before .if4 .left)); row2 = c .before .before .before .before .unit-list3 .ensures .yes! (not-false _ (c .before .before .before .if5 .left)); first = c .before .first-list .ensures .yes! (not-false _ (c .if6 .left)) }
+returns-7 c =
+    let s8 = c .before .before .before .before .before .before .before .before in
+    let s7 = c .before .before .before .before .before .before .before in
+    let s6 = c .before .before .before .before .before .before in
+    answer-yes record
+    { from = omega arith; to = omega arith; row0 = s8 .unit-list .ensures .yes! (not-false _ (s7 .if3 .left)); row1 = s6 .unit-list2 .ensures .yes! (not-false _ (c .before .before .before .before .before .if4 .left)); row2 = c .before .before .before .before .unit-list3 .ensures .yes! (not-false _ (c .before .before .before .if5 .left)); first = c .before .first-list .ensures .yes! (not-false _ (c .if6 .left)) }
 
 pub rule-of-spec : {M : Type 1} → statement M
 rule-of-spec =

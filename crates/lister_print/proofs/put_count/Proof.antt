@@ -1,5 +1,5 @@
 -- `lister_print::put_count` meets its contract.
-use Rattle.text_put.proofs.Puts.{put-then}
+use Rattle.base_lists.proofs.Puts.{put-then}
 use borrow.Author.Needs.{needs}
 use Rattle.lister_print.proofs.put_count.Statement.{statement}
 use Rattle.lister_print.proofs.put_count.Tie as tie

@@ -2,7 +2,7 @@
 use Prim.Native.Nat.{_≤_, _-_}
 use native.Mathlib.Omega.{arith}
 use lib.ListN.{length, take}
-use Rattle.text_put.proofs.Puts.{placed-none, placed-all, placed-same}
+use Rattle.base_lists.proofs.Puts.{placed-none, placed-all, placed-same}
 use Rattle.text_cut.specs.Tells.{Carried}
 use Rattle.text_cut.proofs.Keeps.{carried-more}
 use borrow.Author.Needs.{needs}
@@ -31,7 +31,10 @@ loop-less : tie.Need-loop-less Inv-loop μ-loop
 loop-less c = search needs
 
 loop-again : tie.Need-loop-again Inv-loop μ-loop
-loop-again c = (omega arith, carried-more (c .before .before .before .before .before .before .before .before .before .args .s .now) (c .before .before .before .before .before .before .loop .i) (omega arith) (c .before .before .before .before .before .before .loop .inv .1) (c .before .before .keep .ensures))
+loop-again c =
+    let s9 = c .before .before .before .before .before .before .before .before .before in
+    let s6 = c .before .before .before .before .before .before in
+    (omega arith, carried-more (s9 .args .s .now) (s6 .loop .i) (omega arith) (s6 .loop .inv .1) (c .before .before .keep .ensures))
 
 same-length : tie.Need-same-length Inv-loop μ-loop
 same-length c = placed-same (c .before .loop .inv .1)

@@ -1,7 +1,7 @@
 -- `text_cut::cut` meets its contract.
 use native.Mathlib.Omega.{arith}
 use Rattle.text_put.specs.Print.{newline}
-use Rattle.text_put.proofs.Puts.{placed-same}
+use Rattle.base_lists.proofs.Puts.{placed-same}
 use Rattle.text_cut.proofs.Cuts.{end-le}
 use Rattle.text_cut.proofs.Steps.{carried-upTo, cut-nothing, cut-at}
 use borrow.Author.Needs.{needs}
@@ -30,7 +30,10 @@ same-length : tie.Need-same-length
 same-length c = placed-same (c .before .before .before .carry .ensures)
 
 returns-2 : tie.Need-returns-2
-returns-2 c = (carried-upTo (c .before .before .before .before .before .before .before .before .before .before .args .kept .now) (c .before .before .before .before .before .before .before .before .before .before .args .n) (c .before .before .before .before .before .before .before .before .before .before .args .s .now) (c .before .before .before .before .before .before .before .before .before .before .args .at) (c .before .before .before .before .before .before .find .result) _ _ (c .before .before .before .before .before .before .find .ensures) (c .before .before .before .carry .ensures), (let h = c .before .before .before .before .before .before .find .ensures in omega arith))
+returns-2 c =
+    let a = c .before .before .before .before .before .before .before .before .before .before .args in
+    let s6 = c .before .before .before .before .before .before in
+    (carried-upTo (a .kept .now) (a .n) (a .s .now) (a .at) (s6 .find .result) _ _ (s6 .find .ensures) (c .before .before .before .carry .ensures), (let h = s6 .find .ensures in omega arith))
 
 add-t14 : tie.Need-add-t14
 add-t14 c = search needs

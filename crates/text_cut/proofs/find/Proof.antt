@@ -21,7 +21,11 @@ shared-slice-read-if1 : tie.Need-shared-slice-read-if1 Inv-loop μ-loop
 shared-slice-read-if1 c = search needs
 
 returns : tie.Need-returns Inv-loop μ-loop
-returns c = search-here (c .before .before .before .before .args .c) (c .before .before .before .before .args .s .now) (c .before .before .before .loop .i) _ (until-here (c .before .before .before .before .args .c) (c .before .before .before .before .args .s .now) (c .before .before .before .loop .i) (c .before .before .loop-test .taken) (c .if1 .taken)) (c .before .before .before .loop .inv)
+returns c =
+    let a = c .before .before .before .before .args in
+    let s3 = c .before .before .before in
+    search-here (a .c) (a .s .now) (s3 .loop .i) _ (until-here (a .c) (a .s .now) (s3 .loop .i) (c .before .before .loop-test .taken) (c .if1 .taken))
+    (s3 .loop .inv)
 
 add-i : tie.Need-add-i Inv-loop μ-loop
 add-i c = search needs

@@ -5,7 +5,7 @@ use native.Mathlib.Omega.{arith}
 use borrow.Author.Needs.{needs}
 use borrow.Fn.Kinds.{In}
 use borrow.Fn.PlainCycle.{Measures, is, falls, and}
-use Rattle.text_put.proofs.Puts.{placed-same}
+use Rattle.base_lists.proofs.Puts.{placed-same}
 use Rattle.text_put.proofs.Texts.{put-small, put-tens}
 use Rattle.text_put.proofs.put_number.Reads as put-number
 use Rattle.text_put.proofs.put_number.Kinds as put-number-kinds

@@ -4,8 +4,9 @@ use Prim.Native.Nat.{ℕ, _≤_, _<_, _-_}
 use mathlib.Core.List.{List}
 use native.Mathlib.Omega.{arith}
 use lib.ListN.{length, take}
-use Rattle.text_put.specs.Print.{Put, list-text}
-use Rattle.text_put.proofs.Puts.{placed-same}
+use Rattle.base_lists.specs.Pieces.{Put}
+use Rattle.text_put.specs.Print.{list-text}
+use Rattle.base_lists.proofs.Puts.{placed-same}
 use Rattle.text_put.proofs.Texts.{list-none, list-first, list-more, list-all}
 use borrow.Author.Needs.{needs}
 use Rattle.text_put.proofs.put_all.Statement.{statement}
@@ -55,13 +56,24 @@ loop-less : tie.Need-loop-less Inv-loop μ-loop
 loop-less c = search needs
 
 loop-again : tie.Need-loop-again Inv-loop μ-loop
-loop-again c = (omega arith, omega arith, λ d a q. list-more (c .before .before .before .before .before .before .before .before .before .before .before .before .before .before .before .before .before .before .before .args .l .now) (c .before .before .before .before .before .before .before .before .before .before .loop .i) (omega arith) (omega arith) (c .before .before .before .before .before .before .before .before .before .before .loop .inv .2 d a q) (c .before .before .before .before .before .before .before .put-byte .ensures) (c .before .before .put-number2 .ensures))
+loop-again c =
+    let s19 = c .before .before .before .before .before .before .before .before .before .before .before .before .before .before .before .before .before .before .before in
+    let s10 = c .before .before .before .before .before .before .before .before .before .before in
+    let s7 = c .before .before .before .before .before .before .before in
+    (omega arith, omega arith, λ d a q. list-more (s19 .args .l .now) (s10 .loop .i) (omega arith) (omega arith) (s10 .loop .inv .2 d a q) (s7 .put-byte .ensures) (c .before .before .put-number2 .ensures))
 
 same-length : tie.Need-same-length Inv-loop μ-loop
-same-length c = placed-same (c .before .loop .inv .2 (c .before .before .before .before .before .before .before .before .before .before .args .out .now) (c .before .before .before .before .before .before .before .before .before .before .args .at) (list-first (c .before .before .before .before .before .before .before .before .before .before .args .l .now) (omega arith) (c .before .before .before .before .put-number .ensures)))
+same-length c =
+    let a = c .before .before .before .before .before .before .before .before .before .before .args in
+    placed-same
+    (c .before .loop .inv .2 (a .out .now) (a .at) (list-first (a .l .now) (omega arith) (c .before .before .before .before .put-number .ensures)))
 
 returns-2 : tie.Need-returns-2 Inv-loop μ-loop
-returns-2 c = list-all (c .before .before .before .before .before .before .before .before .before .before .args .l .now) (c .before .loop .i) (omega arith) (c .before .loop .inv .2 (c .before .before .before .before .before .before .before .before .before .before .args .out .now) (c .before .before .before .before .before .before .before .before .before .before .args .at) (list-first (c .before .before .before .before .before .before .before .before .before .before .args .l .now) (omega arith) (c .before .before .before .before .put-number .ensures)))
+returns-2 c =
+    let a = c .before .before .before .before .before .before .before .before .before .before .args in
+    let s1 = c .before in
+    list-all (a .l .now) (s1 .loop .i) (omega arith)
+    (s1 .loop .inv .2 (a .out .now) (a .at) (list-first (a .l .now) (omega arith) (c .before .before .before .before .put-number .ensures)))
 
 pub put-all-spec : {M : Type 1} → statement M
 put-all-spec = tie.close (tie.spec Inv-loop μ-loop returns shared-slice-read-put-number cast-put-number put-number-requires loop-holds put-byte-requires mul-put-number shared-slice-read-put-number-2 cast-put-number-2 put-number-requires-2 add-i loop-less loop-again same-length returns-2)

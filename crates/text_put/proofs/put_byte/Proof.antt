@@ -1,6 +1,6 @@
 -- `text_put::put_byte` meets its contract.
 use borrow.Author.Needs.{needs}
-use Rattle.text_put.proofs.Puts.{put-in, put-out}
+use Rattle.base_lists.proofs.Puts.{put-in, put-out}
 use Rattle.text_put.proofs.put_byte.Statement.{statement}
 use Rattle.text_put.proofs.put_byte.Tie as tie
 

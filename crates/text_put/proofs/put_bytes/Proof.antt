@@ -3,8 +3,8 @@ use Prim.Native.Nat.{_≤_, _-_}
 use native.Mathlib.Omega.{arith}
 use lib.ListN.{length, take}
 use borrow.Author.Needs.{needs}
-use Rattle.text_put.specs.Print.{Put}
-use Rattle.text_put.proofs.Puts.{placed-none, put-more, placed-all, placed-same}
+use Rattle.base_lists.specs.Pieces.{Put}
+use Rattle.base_lists.proofs.Puts.{placed-none, put-more, placed-all, placed-same}
 use Rattle.text_put.proofs.put_bytes.Statement.{statement}
 use Rattle.text_put.proofs.put_bytes.Tie as tie
 
@@ -30,7 +30,10 @@ loop-less : tie.Need-loop-less Inv-loop μ-loop
 loop-less c = search needs
 
 loop-again : tie.Need-loop-again Inv-loop μ-loop
-loop-again c = (omega arith, put-more (c .before .before .before .before .before .before .before .before .before .args .s .now) (c .before .before .before .before .before .before .loop .i) (omega arith) (c .before .before .before .before .before .before .loop .inv .1) (c .before .before .put-byte .ensures))
+loop-again c =
+    let s9 = c .before .before .before .before .before .before .before .before .before in
+    let s6 = c .before .before .before .before .before .before in
+    (omega arith, put-more (s9 .args .s .now) (s6 .loop .i) (omega arith) (s6 .loop .inv .1) (c .before .before .put-byte .ensures))
 
 same-length : tie.Need-same-length Inv-loop μ-loop
 same-length c = placed-same (c .before .loop .inv .1)

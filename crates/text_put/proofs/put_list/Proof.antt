@@ -2,7 +2,7 @@
 use mathlib.Core.Path.{sym}
 use native.Mathlib.Omega.{arith}
 use lib.Seq.{take-all, length-take-le}
-use Rattle.text_put.proofs.Puts.{placed-same}
+use Rattle.base_lists.proofs.Puts.{placed-same}
 use borrow.Author.Needs.{needs}
 use Rattle.text_put.proofs.put_list.Statement.{statement}
 use Rattle.text_put.proofs.put_list.Tie as tie

@@ -1,6 +1,6 @@
 -- `text_put::put_refused` meets its contract.
 use mathlib.Core.Path.{_∙_}
-use Rattle.text_put.proofs.Puts.{placed-same}
+use Rattle.base_lists.proofs.Puts.{placed-same}
 use Rattle.text_put.proofs.Texts.{refused-put}
 use borrow.Author.Needs.{needs}
 use Rattle.text_put.proofs.put_refused.Statement.{statement}
@@ -22,7 +22,11 @@ same-length : tie.Need-same-length
 same-length c = placed-same (c .before .before .put-byte .ensures) ∙ placed-same (c .before .before .before .before .before .before .put-number .ensures) ∙ placed-same (c .before .before .before .before .before .before .before .before .before .before .put-bytes .ensures)
 
 returns : tie.Need-returns
-returns c = refused-put (c .before .before .before .before .before .before .before .before .before .before .before .before .before .before .args .n) (c .before .before .before .before .before .before .before .before .before .before .put-bytes .ensures) (c .before .before .before .before .before .before .put-number .ensures) (c .before .before .put-byte .ensures)
+returns c =
+    let s14 = c .before .before .before .before .before .before .before .before .before .before .before .before .before .before in
+    let s10 = c .before .before .before .before .before .before .before .before .before .before in
+    let s6 = c .before .before .before .before .before .before in
+    refused-put (s14 .args .n) (s10 .put-bytes .ensures) (s6 .put-number .ensures) (c .before .before .put-byte .ensures)
 
 pub put-refused-spec : {M : Type 1} → statement M
 put-refused-spec = tie.close (tie.spec slice-aggregate-put-bytes put-bytes-requires put-number-requires put-byte-requires same-length returns)

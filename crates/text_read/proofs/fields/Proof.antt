@@ -28,10 +28,21 @@ find-requires-3 : tie.Need-find-requires-3
 find-requires-3 c κs = search needs
 
 returns-3 : tie.Need-returns-3
-returns-3 c = not-four semicolon (c .before .before .before .before .before .before .before .args .line .now) (c .before .before .before .before .before .find .result) (c .before .before .before .before .before .find .ensures) (omega arith) (c .before .before .before .find2 .result) (c .before .before .before .find2 .ensures) (omega arith) (c .before .find3 .result) (c .before .find3 .ensures) (omega arith)
+returns-3 c =
+    let s7 = c .before .before .before .before .before .before .before in
+    let s5 = c .before .before .before .before .before in
+    let s3 = c .before .before .before in
+    let s1 = c .before in
+    not-four semicolon (s7 .args .line .now) (s5 .find .result) (s5 .find .ensures) (omega arith) (s3 .find2 .result) (s3 .find2 .ensures) (omega arith)
+    (s1 .find3 .result) (s1 .find3 .ensures) (omega arith)
 
 returns-4 : tie.Need-returns-4
-returns-4 c = (let h = c .before .before .before .find2 .ensures in omega arith, omega arith, three-parts semicolon (c .before .before .before .before .before .before .before .args .line .now) (c .before .before .before .before .before .find .result) (c .before .before .before .before .before .find .ensures) (omega arith) (c .before .before .before .find2 .result) (c .before .before .before .find2 .ensures) (omega arith) (c .before .find3 .result) (c .before .find3 .ensures) (omega arith))
+returns-4 c =
+    let s7 = c .before .before .before .before .before .before .before in
+    let s5 = c .before .before .before .before .before in
+    let s3 = c .before .before .before in
+    let s1 = c .before in
+    (let h = s3 .find2 .ensures in omega arith, omega arith, three-parts semicolon (s7 .args .line .now) (s5 .find .result) (s5 .find .ensures) (omega arith) (s3 .find2 .result) (s3 .find2 .ensures) (omega arith) (s1 .find3 .result) (s1 .find3 .ensures) (omega arith))
 
 pub fields-spec : {M : Type 1} → statement M
 fields-spec = tie.close (tie.spec find-requires returns add-find find-requires-2 returns-2 add-find-2 find-requires-3 returns-3 returns-4)

@@ -5,7 +5,7 @@ use native.Mathlib.Omega.{arith}
 use lib.ListN.{length}
 use lib.Seq.{length-take-le}
 use Rattle.text_read.specs.declared.Split.the-variants.{Three}
-use Rattle.text_read.specs.Tells.{NumberTells, SizeTells}
+use Rattle.text_number.specs.Tells.{NumberTells, SizeTells}
 use Rattle.text_read.specs.Inner.{FieldsTell}
 use Rattle.text_read.proofs.Parts.{reads-first, reads-second, reads-third, reads-of}
 use borrow.Author.Needs.{needs}
@@ -36,7 +36,10 @@ add-b c = let q : FieldsTell (c .before .before .before .before .before .before 
     let v = q .1 in omega arith
 
 slice-aggregate-number : tie.Need-slice-aggregate-number
-slice-aggregate-number c = let q : FieldsTell (c .before .before .before .before .before .before .before .args .line .now) (Three (c .before .before .f .given .0 .0) (c .before .before .f .given .0 .1 .0)) = subst (FieldsTell _) (c .before .before .f .given .1) (c .before .before .before .before .fields .ensures) in
+slice-aggregate-number c =
+    let s7 = c .before .before .before .before .before .before .before in
+    let s2 = c .before .before in
+    let q : FieldsTell (s7 .args .line .now) (Three (s2 .f .given .0 .0) (s2 .f .given .0 .1 .0)) = subst (FieldsTell _) (s2 .f .given .1) (c .before .before .before .before .fields .ensures) in
     let u = q .0 in let v = q .1 in sym (length-take-le _ _ (omega arith))
 
 number-requires : tie.Need-number-requires
@@ -49,19 +52,35 @@ enum-told-2 : tie.Need-enum-told-2
 enum-told-2 c = search needs
 
 returns-3 : tie.Need-returns-3
-returns-3 c = let q : FieldsTell (c .before .before .before .before .before .before .before .before .before .before .args .line .now) (Three (c .before .before .before .before .before .f .given .0 .0) (c .before .before .before .before .before .f .given .0 .1 .0)) = subst (FieldsTell _) (c .before .before .before .before .before .f .given .1) (c .before .before .before .before .before .before .before .fields .ensures) in
+returns-3 c =
+    let s10 = c .before .before .before .before .before .before .before .before .before .before in
+    let s7 = c .before .before .before .before .before .before .before in
+    let s5 = c .before .before .before .before .before in
+    let q : FieldsTell (s10 .args .line .now) (Three (s5 .f .given .0 .0) (s5 .f .given .0 .1 .0)) = subst (FieldsTell _) (s5 .f .given .1) (s7 .fields .ensures) in
     λ p G H r. (subst (NumberTells _) (c .enum-told2 .given .1) (c .before .before .number .ensures)) p (reads-first (c .before .before .before .before .before .before .before .before .before .before .args .line .now) (q .2) r)
 
 sub-list-size : tie.Need-sub-list-size
-sub-list-size c = let q : FieldsTell (c .before .before .before .before .before .before .before .before .before .before .before .args .line .now) (Three (c .before .before .before .before .before .before .f .given .0 .0) (c .before .before .before .before .before .before .f .given .0 .1 .0)) = subst (FieldsTell _) (c .before .before .before .before .before .before .f .given .1) (c .before .before .before .before .before .before .before .before .fields .ensures) in
+sub-list-size c =
+    let s11 = c .before .before .before .before .before .before .before .before .before .before .before in
+    let s8 = c .before .before .before .before .before .before .before .before in
+    let s6 = c .before .before .before .before .before .before in
+    let q : FieldsTell (s11 .args .line .now) (Three (s6 .f .given .0 .0) (s6 .f .given .0 .1 .0)) = subst (FieldsTell _) (s6 .f .given .1) (s8 .fields .ensures) in
     let u = q .0 in omega arith
 
 part-list-size-start : tie.Need-part-list-size-start
-part-list-size-start c = let q : FieldsTell (c .before .before .before .before .before .before .before .before .before .before .before .args .line .now) (Three (c .before .before .before .before .before .before .f .given .0 .0) (c .before .before .before .before .before .before .f .given .0 .1 .0)) = subst (FieldsTell _) (c .before .before .before .before .before .before .f .given .1) (c .before .before .before .before .before .before .before .before .fields .ensures) in
+part-list-size-start c =
+    let s11 = c .before .before .before .before .before .before .before .before .before .before .before in
+    let s8 = c .before .before .before .before .before .before .before .before in
+    let s6 = c .before .before .before .before .before .before in
+    let q : FieldsTell (s11 .args .line .now) (Three (s6 .f .given .0 .0) (s6 .f .given .0 .1 .0)) = subst (FieldsTell _) (s6 .f .given .1) (s8 .fields .ensures) in
     let u = q .0 in omega arith
 
 part-list-size-end : tie.Need-part-list-size-end
-part-list-size-end c = let q : FieldsTell (c .before .before .before .before .before .before .before .before .before .before .before .args .line .now) (Three (c .before .before .before .before .before .before .f .given .0 .0) (c .before .before .before .before .before .before .f .given .0 .1 .0)) = subst (FieldsTell _) (c .before .before .before .before .before .before .f .given .1) (c .before .before .before .before .before .before .before .before .fields .ensures) in
+part-list-size-end c =
+    let s11 = c .before .before .before .before .before .before .before .before .before .before .before in
+    let s8 = c .before .before .before .before .before .before .before .before in
+    let s6 = c .before .before .before .before .before .before in
+    let q : FieldsTell (s11 .args .line .now) (Three (s6 .f .given .0 .0) (s6 .f .given .0 .1 .0)) = subst (FieldsTell _) (s6 .f .given .1) (s8 .fields .ensures) in
     let v = q .1 in omega arith
 
 list-size-requires : tie.Need-list-size-requires
@@ -74,15 +93,27 @@ enum-told-3 : tie.Need-enum-told-3
 enum-told-3 c = search needs
 
 returns-4 : tie.Need-returns-4
-returns-4 c = let q : FieldsTell (c .before .before .before .before .before .before .before .before .before .before .before .before .before .before .before .args .line .now) (Three (c .before .before .before .before .before .before .before .before .before .before .f .given .0 .0) (c .before .before .before .before .before .before .before .before .before .before .f .given .0 .1 .0)) = subst (FieldsTell _) (c .before .before .before .before .before .before .before .before .before .before .f .given .1) (c .before .before .before .before .before .before .before .before .before .before .before .before .fields .ensures) in
+returns-4 c =
+    let s15 = c .before .before .before .before .before .before .before .before .before .before .before .before .before .before .before in
+    let s12 = c .before .before .before .before .before .before .before .before .before .before .before .before in
+    let s10 = c .before .before .before .before .before .before .before .before .before .before in
+    let q : FieldsTell (s15 .args .line .now) (Three (s10 .f .given .0 .0) (s10 .f .given .0 .1 .0)) = subst (FieldsTell _) (s10 .f .given .1) (s12 .fields .ensures) in
     λ p G H r. (subst (SizeTells _) (c .enum-told3 .given .1) (c .before .before .list-size .ensures)) G (reads-second (c .before .before .before .before .before .before .before .before .before .before .before .before .before .before .before .args .line .now) (q .2) r)
 
 sub-list-size-2 : tie.Need-sub-list-size-2
-sub-list-size-2 c = let q : FieldsTell (c .before .before .before .before .before .before .before .before .before .before .before .before .before .before .before .before .args .line .now) (Three (c .before .before .before .before .before .before .before .before .before .before .before .f .given .0 .0) (c .before .before .before .before .before .before .before .before .before .before .before .f .given .0 .1 .0)) = subst (FieldsTell _) (c .before .before .before .before .before .before .before .before .before .before .before .f .given .1) (c .before .before .before .before .before .before .before .before .before .before .before .before .before .fields .ensures) in
+sub-list-size-2 c =
+    let s16 = c .before .before .before .before .before .before .before .before .before .before .before .before .before .before .before .before in
+    let s13 = c .before .before .before .before .before .before .before .before .before .before .before .before .before in
+    let s11 = c .before .before .before .before .before .before .before .before .before .before .before in
+    let q : FieldsTell (s16 .args .line .now) (Three (s11 .f .given .0 .0) (s11 .f .given .0 .1 .0)) = subst (FieldsTell _) (s11 .f .given .1) (s13 .fields .ensures) in
     let v = q .1 in omega arith
 
 part-list-size-start-2 : tie.Need-part-list-size-start-2
-part-list-size-start-2 c = let q : FieldsTell (c .before .before .before .before .before .before .before .before .before .before .before .before .before .before .before .before .args .line .now) (Three (c .before .before .before .before .before .before .before .before .before .before .before .f .given .0 .0) (c .before .before .before .before .before .before .before .before .before .before .before .f .given .0 .1 .0)) = subst (FieldsTell _) (c .before .before .before .before .before .before .before .before .before .before .before .f .given .1) (c .before .before .before .before .before .before .before .before .before .before .before .before .before .fields .ensures) in
+part-list-size-start-2 c =
+    let s16 = c .before .before .before .before .before .before .before .before .before .before .before .before .before .before .before .before in
+    let s13 = c .before .before .before .before .before .before .before .before .before .before .before .before .before in
+    let s11 = c .before .before .before .before .before .before .before .before .before .before .before in
+    let q : FieldsTell (s16 .args .line .now) (Three (s11 .f .given .0 .0) (s11 .f .given .0 .1 .0)) = subst (FieldsTell _) (s11 .f .given .1) (s13 .fields .ensures) in
     let v = q .1 in omega arith
 
 part-list-size-end-2 : tie.Need-part-list-size-end-2
@@ -98,11 +129,19 @@ enum-told-4 : tie.Need-enum-told-4
 enum-told-4 c = search needs
 
 returns-5 : tie.Need-returns-5
-returns-5 c = let q : FieldsTell (c .before .before .before .before .before .before .before .before .before .before .before .before .before .before .before .before .before .before .before .before .args .line .now) (Three (c .before .before .before .before .before .before .before .before .before .before .before .before .before .before .before .f .given .0 .0) (c .before .before .before .before .before .before .before .before .before .before .before .before .before .before .before .f .given .0 .1 .0)) = subst (FieldsTell _) (c .before .before .before .before .before .before .before .before .before .before .before .before .before .before .before .f .given .1) (c .before .before .before .before .before .before .before .before .before .before .before .before .before .before .before .before .before .fields .ensures) in
+returns-5 c =
+    let s20 = c .before .before .before .before .before .before .before .before .before .before .before .before .before .before .before .before .before .before .before .before in
+    let s17 = c .before .before .before .before .before .before .before .before .before .before .before .before .before .before .before .before .before in
+    let s15 = c .before .before .before .before .before .before .before .before .before .before .before .before .before .before .before in
+    let q : FieldsTell (s20 .args .line .now) (Three (s15 .f .given .0 .0) (s15 .f .given .0 .1 .0)) = subst (FieldsTell _) (s15 .f .given .1) (s17 .fields .ensures) in
     λ p G H r. (subst (SizeTells _) (c .enum-told4 .given .1) (c .before .before .list-size2 .ensures)) H (reads-third (c .before .before .before .before .before .before .before .before .before .before .before .before .before .before .before .before .before .before .before .before .args .line .now) (q .2) r)
 
 returns-6 : tie.Need-returns-6
-returns-6 c = let q : FieldsTell (c .before .before .before .before .before .before .before .before .before .before .before .before .before .before .before .before .before .before .before .before .before .args .line .now) (Three (c .before .before .before .before .before .before .before .before .before .before .before .before .before .before .before .before .f .given .0 .0) (c .before .before .before .before .before .before .before .before .before .before .before .before .before .before .before .before .f .given .0 .1 .0)) = subst (FieldsTell _) (c .before .before .before .before .before .before .before .before .before .before .before .before .before .before .before .before .f .given .1) (c .before .before .before .before .before .before .before .before .before .before .before .before .before .before .before .before .before .before .fields .ensures) in
+returns-6 c =
+    let s21 = c .before .before .before .before .before .before .before .before .before .before .before .before .before .before .before .before .before .before .before .before .before in
+    let s18 = c .before .before .before .before .before .before .before .before .before .before .before .before .before .before .before .before .before .before in
+    let s16 = c .before .before .before .before .before .before .before .before .before .before .before .before .before .before .before .before in
+    let q : FieldsTell (s21 .args .line .now) (Three (s16 .f .given .0 .0) (s16 .f .given .0 .1 .0)) = subst (FieldsTell _) (s16 .f .given .1) (s18 .fields .ensures) in
     let u = q .0 in let v = q .1 in
     let a = subst (NumberTells _) (c .before .before .before .before .before .before .before .before .before .before .before .first .given .1) (c .before .before .before .before .before .before .before .before .before .before .before .before .before .number .ensures) in
     let b = subst (SizeTells _) (c .before .before .before .before .before .before .second .given .1) (c .before .before .before .before .before .before .before .before .list-size .ensures) in

@@ -5,7 +5,7 @@ use mathlib.Core.List.{List, [], _∷_, _++_}
 use native.Mathlib.Omega.{arith}
 use native.Mathlib.Numerals.{add-one}
 use lib.ListN.{length, length-set, getD, set, replicate, take, drop}
-use Rattle.unit_rows.proofs.Parts.{mid}
+use Rattle.base_lists.specs.Pieces.{between}
 use Rattle.unit_rows.proofs.Multiply.{piece-length, times-asks, times-made}
 use borrow.Author.Needs.{needs}
 use Rattle.unit_rows.proofs.times.Statement.{statement}
@@ -67,28 +67,28 @@ by-requires : tie.Need-by-requires
 by-requires c κs = let s = c .before .before .before .before .before .before .before .before .before .before in
     record {
       modulus = s .pre .modulus;
-      room = let l : length (mid 17 34 (s .args .b .now)) ≡ 17 = piece-length (s .args .p) (s .args .c) (s .args .n) (s .args .g .now) (s .args .h .now) (s .args .gh .now) (s .args .b .now) (s .args .e .now) (s .args .s .now) (s .pre) 17 34 (omega arith) (omega arith) in let k : length (s .args .gh .now) ≤ 33 = s .pre .gh-most in omega arith;
+      room = let l : length (between 17 34 (s .args .b .now)) ≡ 17 = piece-length (s .args .p) (s .args .c) (s .args .n) (s .args .g .now) (s .args .h .now) (s .args .gh .now) (s .args .b .now) (s .args .e .now) (s .args .s .now) (s .pre) 17 34 (omega arith) (omega arith) in let k : length (s .args .gh .now) ≤ 33 = s .pre .gh-most in omega arith;
     }
 
 by-requires-2 : tie.Need-by-requires-2
 by-requires-2 c κs = let s = c .before .before .before .before .before .before .before .before .before .before .before in
     record {
       modulus = s .pre .modulus;
-      room = let l : length (mid 34 51 (s .args .b .now)) ≡ 17 = piece-length (s .args .p) (s .args .c) (s .args .n) (s .args .g .now) (s .args .h .now) (s .args .gh .now) (s .args .b .now) (s .args .e .now) (s .args .s .now) (s .pre) 34 51 (omega arith) (omega arith) in let k : length (s .args .gh .now) ≤ 33 = s .pre .gh-most in omega arith;
+      room = let l : length (between 34 51 (s .args .b .now)) ≡ 17 = piece-length (s .args .p) (s .args .c) (s .args .n) (s .args .g .now) (s .args .h .now) (s .args .gh .now) (s .args .b .now) (s .args .e .now) (s .args .s .now) (s .pre) 34 51 (omega arith) (omega arith) in let k : length (s .args .gh .now) ≤ 33 = s .pre .gh-most in omega arith;
     }
 
 by-requires-3 : tie.Need-by-requires-3
 by-requires-3 c κs = let s = c .before .before .before .before .before .before .before .before .before .before .before .before in
     record {
       modulus = s .pre .modulus;
-      room = let l : length (mid 34 51 (s .args .b .now)) ≡ 17 = piece-length (s .args .p) (s .args .c) (s .args .n) (s .args .g .now) (s .args .h .now) (s .args .gh .now) (s .args .b .now) (s .args .e .now) (s .args .s .now) (s .pre) 34 51 (omega arith) (omega arith) in let k : length (s .args .g .now) ≤ 33 = s .pre .g-most in omega arith;
+      room = let l : length (between 34 51 (s .args .b .now)) ≡ 17 = piece-length (s .args .p) (s .args .c) (s .args .n) (s .args .g .now) (s .args .h .now) (s .args .gh .now) (s .args .b .now) (s .args .e .now) (s .args .s .now) (s .pre) 34 51 (omega arith) (omega arith) in let k : length (s .args .g .now) ≤ 33 = s .pre .g-most in omega arith;
     }
 
 by-requires-4 : tie.Need-by-requires-4
 by-requires-4 c κs = let s = c .before .before .before .before .before .before .before .before .before .before .before .before .before in
     record {
       modulus = s .pre .modulus;
-      room = let l : length (mid 17 34 (s .args .b .now)) ≡ 17 = piece-length (s .args .p) (s .args .c) (s .args .n) (s .args .g .now) (s .args .h .now) (s .args .gh .now) (s .args .b .now) (s .args .e .now) (s .args .s .now) (s .pre) 17 34 (omega arith) (omega arith) in let k : length (s .args .h .now) ≤ 33 = s .pre .h-most in omega arith;
+      room = let l : length (between 17 34 (s .args .b .now)) ≡ 17 = piece-length (s .args .p) (s .args .c) (s .args .n) (s .args .g .now) (s .args .h .now) (s .args .gh .now) (s .args .b .now) (s .args .e .now) (s .args .s .now) (s .pre) 17 34 (omega arith) (omega arith) in let k : length (s .args .h .now) ≤ 33 = s .pre .h-most in omega arith;
     }
 
 slice-aggregate-coordinate : tie.Need-slice-aggregate-coordinate
@@ -99,9 +99,9 @@ slice-aggregate-coordinate-2 c = search needs
 
 coordinate-requires : tie.Need-coordinate-requires
 coordinate-requires c κs = let s = c .before .before .before .before .before .before .before .before .before .before .before .before .before .before .before .before .before in
-    let l₀ : length (mid 0 17 (s .args .b .now)) ≡ 17 = piece-length (s .args .p) (s .args .c) (s .args .n) (s .args .g .now) (s .args .h .now) (s .args .gh .now) (s .args .b .now) (s .args .e .now) (s .args .s .now) (s .pre) 0 17 (omega arith) (omega arith) in
-    let l₁ : length (mid 17 34 (s .args .b .now)) ≡ 17 = piece-length (s .args .p) (s .args .c) (s .args .n) (s .args .g .now) (s .args .h .now) (s .args .gh .now) (s .args .b .now) (s .args .e .now) (s .args .s .now) (s .pre) 17 34 (omega arith) (omega arith) in
-    let l₂ : length (mid 34 51 (s .args .b .now)) ≡ 17 = piece-length (s .args .p) (s .args .c) (s .args .n) (s .args .g .now) (s .args .h .now) (s .args .gh .now) (s .args .b .now) (s .args .e .now) (s .args .s .now) (s .pre) 34 51 (omega arith) (omega arith) in
+    let l₀ : length (between 0 17 (s .args .b .now)) ≡ 17 = piece-length (s .args .p) (s .args .c) (s .args .n) (s .args .g .now) (s .args .h .now) (s .args .gh .now) (s .args .b .now) (s .args .e .now) (s .args .s .now) (s .pre) 0 17 (omega arith) (omega arith) in
+    let l₁ : length (between 17 34 (s .args .b .now)) ≡ 17 = piece-length (s .args .p) (s .args .c) (s .args .n) (s .args .g .now) (s .args .h .now) (s .args .gh .now) (s .args .b .now) (s .args .e .now) (s .args .s .now) (s .pre) 17 34 (omega arith) (omega arith) in
+    let l₂ : length (between 34 51 (s .args .b .now)) ≡ 17 = piece-length (s .args .p) (s .args .c) (s .args .n) (s .args .g .now) (s .args .h .now) (s .args .gh .now) (s .args .b .now) (s .args .e .now) (s .args .s .now) (s .pre) 34 51 (omega arith) (omega arith) in
     times-asks (s .args .p) (s .args .c) (s .args .n) (s .args .g .now) (s .args .h .now) (s .args .gh .now) (s .args .b .now) (s .args .e .now) (s .args .s .now) (s .pre) _ _ _ 0 _ (omega arith) (omega (arith, c .before .before .before .before .before .by2 .ensures .size)) (omega (arith, c .before .before .before .before .before .before .by .ensures .size))
     (let r : s .args .c + s .args .c + s .args .c ≤ length (s .args .s .now) = s .pre .s-room in let v : s .args .n ≤ s .args .c = s .pre .upto in omega arith)
 
@@ -110,9 +110,9 @@ slice-aggregate-coordinate-3 c = search needs
 
 coordinate-requires-2 : tie.Need-coordinate-requires-2
 coordinate-requires-2 c κs = let s = c .before .before .before .before .before .before .before .before .before .before .before .before .before .before .before .before .before .before .before .before .before .before in
-    let l₀ : length (mid 0 17 (s .args .b .now)) ≡ 17 = piece-length (s .args .p) (s .args .c) (s .args .n) (s .args .g .now) (s .args .h .now) (s .args .gh .now) (s .args .b .now) (s .args .e .now) (s .args .s .now) (s .pre) 0 17 (omega arith) (omega arith) in
-    let l₁ : length (mid 17 34 (s .args .b .now)) ≡ 17 = piece-length (s .args .p) (s .args .c) (s .args .n) (s .args .g .now) (s .args .h .now) (s .args .gh .now) (s .args .b .now) (s .args .e .now) (s .args .s .now) (s .pre) 17 34 (omega arith) (omega arith) in
-    let l₂ : length (mid 34 51 (s .args .b .now)) ≡ 17 = piece-length (s .args .p) (s .args .c) (s .args .n) (s .args .g .now) (s .args .h .now) (s .args .gh .now) (s .args .b .now) (s .args .e .now) (s .args .s .now) (s .pre) 34 51 (omega arith) (omega arith) in
+    let l₀ : length (between 0 17 (s .args .b .now)) ≡ 17 = piece-length (s .args .p) (s .args .c) (s .args .n) (s .args .g .now) (s .args .h .now) (s .args .gh .now) (s .args .b .now) (s .args .e .now) (s .args .s .now) (s .pre) 0 17 (omega arith) (omega arith) in
+    let l₁ : length (between 17 34 (s .args .b .now)) ≡ 17 = piece-length (s .args .p) (s .args .c) (s .args .n) (s .args .g .now) (s .args .h .now) (s .args .gh .now) (s .args .b .now) (s .args .e .now) (s .args .s .now) (s .pre) 17 34 (omega arith) (omega arith) in
+    let l₂ : length (between 34 51 (s .args .b .now)) ≡ 17 = piece-length (s .args .p) (s .args .c) (s .args .n) (s .args .g .now) (s .args .h .now) (s .args .gh .now) (s .args .b .now) (s .args .e .now) (s .args .s .now) (s .pre) 34 51 (omega arith) (omega arith) in
     times-asks (s .args .p) (s .args .c) (s .args .n) (s .args .g .now) (s .args .h .now) (s .args .gh .now) (s .args .b .now) (s .args .e .now) (s .args .s .now) (s .pre) _ _ _ (s .args .c) _ (omega arith) (omega arith) (omega (arith, c .before .before .before .before .before .before .before .before .before .by3 .ensures .size))
     (let r : s .args .c + s .args .c + s .args .c ≤ length (s .args .s .now) = s .pre .s-room in let v : s .args .n ≤ s .args .c = s .pre .upto in omega (arith, c .before .before .before .before .coordinate .ensures .size))
 
@@ -124,9 +124,9 @@ add-coordinate c = let m : c .before .before .before .before .before .before .be
 
 coordinate-requires-3 : tie.Need-coordinate-requires-3
 coordinate-requires-3 c κs = let s = c .before .before .before .before .before .before .before .before .before .before .before .before .before .before .before .before .before .before .before .before .before .before .before .before .before .before .before in
-    let l₀ : length (mid 0 17 (s .args .b .now)) ≡ 17 = piece-length (s .args .p) (s .args .c) (s .args .n) (s .args .g .now) (s .args .h .now) (s .args .gh .now) (s .args .b .now) (s .args .e .now) (s .args .s .now) (s .pre) 0 17 (omega arith) (omega arith) in
-    let l₁ : length (mid 17 34 (s .args .b .now)) ≡ 17 = piece-length (s .args .p) (s .args .c) (s .args .n) (s .args .g .now) (s .args .h .now) (s .args .gh .now) (s .args .b .now) (s .args .e .now) (s .args .s .now) (s .pre) 17 34 (omega arith) (omega arith) in
-    let l₂ : length (mid 34 51 (s .args .b .now)) ≡ 17 = piece-length (s .args .p) (s .args .c) (s .args .n) (s .args .g .now) (s .args .h .now) (s .args .gh .now) (s .args .b .now) (s .args .e .now) (s .args .s .now) (s .pre) 34 51 (omega arith) (omega arith) in
+    let l₀ : length (between 0 17 (s .args .b .now)) ≡ 17 = piece-length (s .args .p) (s .args .c) (s .args .n) (s .args .g .now) (s .args .h .now) (s .args .gh .now) (s .args .b .now) (s .args .e .now) (s .args .s .now) (s .pre) 0 17 (omega arith) (omega arith) in
+    let l₁ : length (between 17 34 (s .args .b .now)) ≡ 17 = piece-length (s .args .p) (s .args .c) (s .args .n) (s .args .g .now) (s .args .h .now) (s .args .gh .now) (s .args .b .now) (s .args .e .now) (s .args .s .now) (s .pre) 17 34 (omega arith) (omega arith) in
+    let l₂ : length (between 34 51 (s .args .b .now)) ≡ 17 = piece-length (s .args .p) (s .args .c) (s .args .n) (s .args .g .now) (s .args .h .now) (s .args .gh .now) (s .args .b .now) (s .args .e .now) (s .args .s .now) (s .pre) 34 51 (omega arith) (omega arith) in
     times-asks (s .args .p) (s .args .c) (s .args .n) (s .args .g .now) (s .args .h .now) (s .args .gh .now) (s .args .b .now) (s .args .e .now) (s .args .s .now) (s .pre) _ _ _ (s .args .c + s .args .c) _ (omega arith) (omega (arith, c .before .before .before .before .before .before .before .before .before .before .before .before .before .by4 .ensures .size)) (omega (arith, c .before .before .before .before .before .before .before .before .before .before .before .before .before .before .by3 .ensures .size))
     (let r : s .args .c + s .args .c + s .args .c ≤ length (s .args .s .now) = s .pre .s-room in let v : s .args .n ≤ s .args .c = s .pre .upto in omega (arith, c .before .before .before .before .before .before .before .before .before .coordinate .ensures .size, c .before .before .before .before .coordinate2 .ensures .size))
 

@@ -1,0 +1,5 @@
+pub mod Tabs
+pub mod Pieces
+pub mod Puts
+pub mod Trims
+pub mod Coefs

@@ -1,0 +1,6 @@
+pub mod Values
+pub mod Numbers
+pub mod Lists
+pub mod Inverse
+pub mod Joins
+pub mod Answers
