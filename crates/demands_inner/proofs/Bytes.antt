@@ -1,18 +1,13 @@
--- Crates book_bytes, book_body and book: what their own proofs do not say already.
+-- Crates book_body, book_field and book: what their own proofs do not say already.
 use mathlib.Core.Path.{_≡_, sym, _∙_}
 use mathlib.Core.List.{List}
 use Prim.Native.Nat.{ℕ}
 use Rattle.base_answers.specs.declared.Period.{Period}
-use Rattle.base_lists.specs.Pieces.{Written}
 use Rattle.book_body.specs.Body.{FieldSays, bodyOf}
 use Rattle.book_check.specs.Answer.{answerSays, requestSays, Tells, AskTells}
 use Rattle.book_check.specs.declared.Answer.{Answer}
 use Rattle.book_check.specs.declared.Request.{Request}
 use Rattle.book_check.proofs.One.{field-one, answer-one, request-one, tells-one, ask-one}
-
--- book_bytes: read_list, put_two, put_four, put_list, copy_in, lift
-pub put-one : {d : List ℕ} {at : ℕ} {x : List ℕ} {k r s : ℕ} {e f : List ℕ} → Written d at x k r e → Written d at x k s f → (r ≡ s) × (e ≡ f)
-put-one h k = (h .next ∙ sym (k .next), h .done ∙ sym (k .done))
 
 -- ---- book_body
 pub field-refusal-one : (s : List ℕ) (n m : ℕ) → FieldSays (bodyOf s) n → FieldSays (bodyOf s) m → n ≡ m

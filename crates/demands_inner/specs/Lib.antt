@@ -8,7 +8,8 @@
 --                 rapid_of settles nothing: its numbers only serve a remainder, which is settled
 --   sized         for a prime p: mix_in, both_in, times_in, det_in, quotient_in: mix-in-one, both-in-one, times-in-one, det-in-one,
 --                 quotient-in-one (Sized)
---   field         list_length: list-one (field/proofs/Parts); refusal: refusal-one; open: opens-one (field/proofs)
+--   base_lists    list_length: list-unique (base_lists/proofs/Coefs)
+--   field         list_length: list-unique as above; refusal: refusal-one; open: opens-one (field/proofs)
 --   pairs         one_field: decides-one (Tests); paired, refusal, compare: pairs-one, refusals-one, compares-one (pairs/proofs/Once)
 --   series        series, open_with_series: answer-one, expands-one (series/proofs/Answer)
 --   reduce        part: part-one; lead_of, where the size has a degree: lead-of-one; reduced, up to constants: reduced-one (Reduction)
@@ -27,18 +28,21 @@
 --   six_invert    invert: invert-one (Long)
 --   unit          unit: makes-one (unit/proofs/Once)
 --   transfer      transfer: transfers-one (transfer/proofs/Once)
---   book_bytes    read_list, put_two, put_four, put_list, copy_in, lift: put-one (Bytes)
---   book_body     body_rule, one_field, unit_list, first_list: decides-one (Tests); field_refusal, period_of: field-refusal-one, period-of-one (Bytes);
---                 list_of: got-one (book_body/proofs/One)
+--   book_bytes    read_list, put_two, put_four, put_list, copy_in, lift: written-unique (base_lists/proofs/Puts)
+--   book_body     period_of: period-of-one (Bytes); list_of: got-one (book_body/proofs/One)
+--   book_rule     body_rule, unit_list, first_list: decides-one (Tests)
+--   book_field    of_field: decides-one (Tests); field_refusal: field-refusal-one (Bytes)
+--   book_contents marked, listed: decides-one (Tests)
 --   book          check, ask_answer: check-one, ask-answer-one (Bytes); ask, earlier, judge: part-one, earliest-one, judge-one (book/proofs/One)
 --   book_add      may_add, add: verdict-one, added-one (book_add/proofs/One)
 --   book_attest   attest: attestation-one (book_attest/proofs/One)
 --   book_asked    ask: ask-says-one (book_asked/proofs/Once)
 --   book_write    write_body: wrote-one (book_write/proofs/One)
---   text_put      put_byte, put_bytes, put_number, put_list, put_refused: placed-unique (text_put/proofs/Puts)
+--   text_put      put_byte, put_bytes, put_number, put_list, put_refused: placed-unique (base_lists/proofs/Puts)
 --   text_cut      cut: cut-unique (text_cut/proofs/Steps)
---   text_read     number, list_size, parse: number-unique, size-unique, parse-unique (text_read/proofs/Answers)
---   lister_print  put_made, finish: placed-unique (text_put/proofs/Puts)
+--   text_number   number, list_size: number-unique, size-unique (text_number/proofs/Answers)
+--   text_read     parse: parse-unique (text_read/proofs/Answers)
+--   lister_print  put_made, finish: placed-unique (base_lists/proofs/Puts)
 --   lister        answer, pass: answer-one, passes-one (lister/proofs/Once)
 --   capi          zaminuk_refusal, zaminuk_series, zaminuk_check, zaminuk_transfer: refusal-one, answer-one, checks-one, transfers-one as
 --                 above; zaminuk_order, zaminuk_step, zaminuk_walk, zaminuk_from_order, zaminuk_unit, zaminuk_one_field: order-tells-one,

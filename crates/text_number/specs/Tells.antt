@@ -1,12 +1,10 @@
 -- What the answers of the functions say: a definition for each enum, by its cases.
 --   NumberTells s r   a text as a number             SizeTells s r    a text as a list, counted
---   ValueOf s v       v is the value of a numeral
---   Filled s d d'     d' is d with the numbers of the list s in front
 -- One outcome for each input: proofs/Answers.
 use mathlib.Core.Path.{_≡_}
-use mathlib.Core.List.{List, _++_}
+use mathlib.Core.List.{List}
 use Prim.Native.Nat.{ℕ}
-use lib.ListN.{length, drop}
+use lib.ListN.{length}
 use Rattle.text_number.specs.Grammar.{Number, Listed}
 use Rattle.text_number.specs.declared.Numeral.{Numeral}
 use Rattle.text_number.specs.declared.Numeral.the-variants as numeral
@@ -20,9 +18,3 @@ NumberTells s numeral.Bad = (n : ℕ) → Number s n → ⊥
 abbrev pub SizeTells : List ℕ → Entries → Type 0
 SizeTells s (entries.Count n) = (l : List ℕ) × Listed s l × (length l ≡ n)
 SizeTells s entries.Bad = (l : List ℕ) → Listed s l → ⊥
-
-abbrev pub ValueOf : List ℕ → ℕ → Type 0
-ValueOf s v = (n : ℕ) → Number s n → v ≡ n
-
-abbrev pub Filled : List ℕ → List ℕ → List ℕ → Type 0
-Filled s d d' = (l : List ℕ) → Listed s l → d' ≡ l ++ drop (length l) d

@@ -1,9 +1,5 @@
 // Numbers and lists of them read: 1 to 5 digits without leading zeros, with commas between.
-ghost use Prim.Native.Nat.{_≤_};
-ghost use lib.ListN.{length};
-ghost use Rattle.text_put.specs.Print.{comma};
-ghost use Rattle.text_cut.specs.Pieces.{pieces};
-ghost use Rattle.text_number.specs.Tells.{NumberTells, SizeTells, ValueOf, Filled};
+ghost use Rattle.text_number.specs.Tells.{NumberTells, SizeTells};
 
 // A text as a number.
 pub enum Numeral {
@@ -65,30 +61,4 @@ pub fn list_size(s: &[u8]) -> Entries
         at = e + 1;
     }
     Entries::Count(n)
-}
-
-// A number's value; 0 where the text is none.
-fn value_of(s: &[u8]) -> u64
-    ensures { λ r. ⌜ ValueOf (now (s .entry)) r ⌝ }
-{
-    let v = number(s);
-    match v {
-        Numeral::Value(x) => x,
-        Numeral::Bad => 0,
-    }
-}
-
-// The numbers of a list, into a slice with room for them.
-pub fn fill(s: &[u8], out: &mut [u64])
-    requires { ⌜ length (pieces comma (now s)) ≤ length (now out) ⌝ }
-    ensures { λ _. ⌜ Filled (now (s .entry)) (now (out .entry)) (now (out .exit)) ⌝ }
-{
-    let mut n: usize = 0;
-    let mut at: usize = 0;
-    while at <= s.len() {
-        let e = text_cut::find(s, at, b',');
-        out[n] = value_of(&s[at..e]);
-        n += 1;
-        at = e + 1;
-    }
 }

@@ -1,5 +1,9 @@
 // A line p;G;H read: cut into fields, a number, two lists.
-ghost use Rattle.text_read.specs.Inner.{FieldsTell, ShapeTells};
+ghost use Prim.Native.Nat.{_≤_};
+ghost use lib.ListN.{length};
+ghost use Rattle.text_put.specs.Print.{comma};
+ghost use Rattle.text_cut.specs.Pieces.{pieces};
+ghost use Rattle.text_read.specs.Inner.{ValueOf, Filled, FieldsTell, ShapeTells};
 ghost use Rattle.text_read.specs.Tells.{ParseTells};
 use text_number::Numeral;
 use text_number::Entries;
@@ -36,6 +40,32 @@ pub struct Line {
 pub enum Parsed {
     Read(Line),
     Malformed,
+}
+
+// A number's value; 0 where the text is none.
+fn value_of(s: &[u8]) -> u64
+    ensures { λ r. ⌜ ValueOf (now (s .entry)) r ⌝ }
+{
+    let v = text_number::number(s);
+    match v {
+        Numeral::Value(x) => x,
+        Numeral::Bad => 0,
+    }
+}
+
+// The numbers of a list, into a slice with room for them.
+fn fill(s: &[u8], out: &mut [u64])
+    requires { ⌜ length (pieces comma (now s)) ≤ length (now out) ⌝ }
+    ensures { λ _. ⌜ Filled (now (s .entry)) (now (out .entry)) (now (out .exit)) ⌝ }
+{
+    let mut n: usize = 0;
+    let mut at: usize = 0;
+    while at <= s.len() {
+        let e = text_cut::find(s, at, b',');
+        out[n] = value_of(&s[at..e]);
+        n += 1;
+        at = e + 1;
+    }
 }
 
 // A line's three fields.
@@ -106,7 +136,7 @@ pub fn parse(line: &[u8], g: &mut [u64], h: &mut [u64]) -> Parsed
     if h.len() < nh {
         return Parsed::Malformed;
     }
-    text_number::fill(&line[a..j], g);
-    text_number::fill(&line[b..], h);
+    fill(&line[a..j], g);
+    fill(&line[b..], h);
     Parsed::Read(Line { p, ng, nh })
 }

@@ -12,7 +12,7 @@ use Rattle.unit_inverse.proofs.norm.Tie as tie
 use Rattle.unit_inverse.proofs.norm.Reads as reads
 use Rattle.unit_inverse.proofs.norm.Lts as lts
 use Rattle.poly_long.proofs.mix.Reads as mix-reads
-use Rattle.unit_rows.proofs.wide.Reads as wide-reads
+use Rattle.base_lists.proofs.wide.Reads as wide-reads
 
 add-c2 : tie.Need-add-c2
 add-c2 c = search needs

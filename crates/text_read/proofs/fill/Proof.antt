@@ -1,4 +1,4 @@
--- `text_number::fill` meets its contract. The invariant: n pieces are passed, and their numbers stand in front of the slice.
+-- `text_read::fill` meets its contract. The invariant: n pieces are passed, and their numbers stand in front of the slice.
 use Prim.Native.Nat.{_+_, _-_, _≤_}
 use mathlib.Core.Path.{subst}
 use native.Mathlib.Omega.{arith}
@@ -6,11 +6,11 @@ use lib.ListN.{length}
 use Rattle.text_put.specs.Print.{comma}
 use Rattle.text_cut.specs.Pieces.{pieces}
 use Rattle.text_cut.proofs.Cuts.{Passed, passed-none, passed-in, passed-piece, passed-more, passed-end, end-le}
 use Rattle.text_number.specs.Grammar.{Number}
 use Rattle.text_number.proofs.Lists.{Filling, filling-none, filling-more, filling-end}
 use borrow.Author.Needs.{needs}
-use Rattle.text_number.proofs.fill.Statement.{statement}
-use Rattle.text_number.proofs.fill.Tie as tie
+use Rattle.text_read.proofs.fill.Statement.{statement}
+use Rattle.text_read.proofs.fill.Tie as tie
 
 abbrev Inv-loop : tie.InvT-loop
 Inv-loop s out₀ n₀ at₀ out n at = Passed comma s n at × Filling s out₀ out n

@@ -1,9 +1,9 @@
--- `text_number::value_of` meets its contract.
+-- `text_read::value_of` meets its contract.
 use mathlib.Core.Path.{_∙_, sym, subst}
 use Rattle.text_number.specs.Tells.{NumberTells}
 use borrow.Author.Needs.{needs}
-use Rattle.text_number.proofs.value_of.Statement.{statement}
-use Rattle.text_number.proofs.value_of.Tie as tie
+use Rattle.text_read.proofs.value_of.Statement.{statement}
+use Rattle.text_read.proofs.value_of.Tie as tie
 
 number-requires : tie.Need-number-requires
 number-requires c κs = search needs
