@@ -17,7 +17,8 @@ use Rattle.math_rows.specs.Made.{reading}
 use Rattle.math_rows.specs.Row.{Row, Size, row}
 use Rattle.math_rows.proofs.Rows.{size-has}
 use Rattle.math_rows.proofs.Floors.{zero-row}
-use Rattle.poly_rows.specs.Factors.{polynomial, Common}
+use Rattle.poly_rows.specs.Polynomial.{polynomial}
+use Rattle.poly_factors.specs.Factors.{Common}
 use Rattle.math_ideals.specs.Setting.{P}
 use Rattle.math_ideals.specs.Basis.{NoFactor}
 use Rattle.math_ideals.proofs.Tests.{AllSeven, no-factor-gcd}

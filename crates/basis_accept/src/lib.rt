@@ -3,7 +3,7 @@
 use basis_scale::load;
 use basis_lattice::under;
 use poly_rows::cross;
-use poly_rows::gcd;
+use poly_factors::gcd;
 use poly_rows::size;
 use basis_reduce::Bounds;
 use basis_reduce::part;

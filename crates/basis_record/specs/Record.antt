@@ -11,7 +11,7 @@ use mathlib.Core.List.{List}
 use Prim.Native.Nat.{ℕ, _+_, _*_, _<_}
 use lib.ListN.{length, getD}
 use Rattle.math_rows.specs.Row.{tab}
-use Rattle.poly_rows.specs.Factors.{polynomial}
+use Rattle.poly_rows.specs.Polynomial.{polynomial}
 use Rattle.field_open.specs.Refusal.{Accepted}
 use Rattle.math_ideals.specs.Setting.{Setting, P}
 use Rattle.math_ideals.specs.Ideal.{Basis}

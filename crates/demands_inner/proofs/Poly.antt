@@ -25,7 +25,8 @@ use Rattle.num_prime.specs.Table.{PrimeTest}
 use Rattle.poly_rows.specs.Leaf.{Summed, Difference, Opposite, ScaleOut, Crossed, CrossOut, Product, Listed}
 use Rattle.poly_rows.specs.Terms.{More}
 use Rattle.poly_rows.specs.Division.{DivIn, Quotient, Divided}
-use Rattle.poly_rows.specs.Factors.{polynomial, Over, OverBoth, Common, SquareTest, CoprimeTest}
+use Rattle.poly_rows.specs.Polynomial.{polynomial}
+use Rattle.poly_factors.specs.Factors.{Over, OverBoth, Common, SquareTest, CoprimeTest}
 use Rattle.poly_rows.specs.declared.QuotRem.{QuotRem}
 use Rattle.poly_rows.proofs.Leaf as leaf
 use Rattle.poly_rows.proofs.Division.{div-pos, divided-unique}

@@ -23,7 +23,7 @@ use Rattle.math_valued.proofs.Coprime.{coprime-unit}
 use Rattle.math_rows.specs.Reading.{Reading}
 use Rattle.math_rows.specs.Made.{reading, derivation}
 use Rattle.math_rows.proofs.Square.{∂, squarefree-unit}
-use Rattle.poly_rows.specs.Factors.{polynomial}
+use Rattle.poly_rows.specs.Polynomial.{polynomial}
 use Rattle.examples_lists.specs.Lists.{cut, plus, slope, lists, alike, alikeT}
 use Rattle.examples_lists.proofs.Lists.{row-nil, row-one, row-plus, row-times, row-minus, row-cut, row-slope, alike-sound}
 

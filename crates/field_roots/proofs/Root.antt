@@ -23,7 +23,7 @@ use Rattle.math_rows.specs.Reading.{Reading}
 use Rattle.math_rows.specs.Made.{reading, cube-roots}
 use Rattle.math_rows.specs.Roots.{CubeRoots}
 use Rattle.math_rows.specs.Row.{row}
-use Rattle.poly_rows.specs.Factors.{polynomial}
+use Rattle.poly_rows.specs.Polynomial.{polynomial}
 use Rattle.field_open.specs.Refusal.{Accepted}
 use Rattle.field_open.proofs.Accept.{degree-size, degree-lead, degree-has}
 use Rattle.math_rows.proofs.Rows.{size-lead}

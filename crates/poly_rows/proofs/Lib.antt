@@ -1,4 +1,3 @@
 pub mod Leaf
 pub mod Terms
 pub mod Division
-pub mod Factors

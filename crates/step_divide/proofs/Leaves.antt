@@ -28,7 +28,8 @@ use Rattle.math_rows.proofs.Rows.{size-le, size-has}
 use Rattle.math_rows.proofs.Floors.{zero-row}
 use Rattle.poly_rows.specs.Leaf.{MulIn, Product, Difference}
 use Rattle.poly_rows.specs.Division.{DivIn, Exact}
-use Rattle.poly_rows.specs.Factors.{polynomial, Common}
+use Rattle.poly_rows.specs.Polynomial.{polynomial}
+use Rattle.poly_factors.specs.Factors.{Common}
 use Rattle.poly_rows.specs.Terms.{Ready}
 use Rattle.poly_lent.specs.Sized.{BothOut, TimesBy, DetOut}
 use Rattle.poly_rows.proofs.Leaf.{size-one}

@@ -22,7 +22,7 @@ use Rattle.math_rows.specs.Row.{Row, Size}
 use Rattle.poly_rows.specs.Leaf.{Opposite}
 use Rattle.poly_rows.specs.Terms.{Ready}
 use Rattle.poly_rows.specs.Division.{DivIn, Exact}
-use Rattle.poly_rows.specs.Factors.{polynomial}
+use Rattle.poly_rows.specs.Polynomial.{polynomial}
 use Rattle.step_divide.specs.Quotients.{Fits}
 
 pub record FourRows (p : ℕ) (x0 x2 y0 y2 : List ℕ) : Type 0 where

@@ -238,13 +238,13 @@ fn content(p: u64, x0: &[u64; 32], x2: &[u64; 32], y0: &[u64; 32], y2: &[u64; 32
     requires { ⌜ FourRows p (now x0) (now x2) (now y0) (now y2) ⌝ }
     ensures { λ r. ⌜ Content p (now (x0 .entry)) (now (x2 .entry)) (now (y0 .entry)) (now (y2 .entry)) r ⌝ }
 {
-    let g = poly_rows::gcd(p, x2, y2);
+    let g = poly_factors::gcd(p, x2, y2);
     let n = poly_rows::size(&g);
     if n == 1 {
         g
     } else {
-        let h = poly_rows::gcd(p, &g, y0);
-        poly_rows::gcd(p, &h, x0)
+        let h = poly_factors::gcd(p, &g, y0);
+        poly_factors::gcd(p, &h, x0)
     }
 }
 

@@ -1,12 +1,12 @@
--- `poly_rows::gcd` meets its contract: each turn is `euclid-swap` or `euclid-turn`, and a swap is never followed by a swap.
+-- `poly_factors::gcd` meets its contract: each turn is `euclid-swap` or `euclid-turn`, and a swap is never followed by a swap.
 use mathlib.Core.Path.{_≡_}
 use Prim.Native.Nat.{_≤_, _<_, _-_, _*_, _+_}
 use native.Mathlib.Omega.{arith}
 use lib.ListN.{length}
 use Prim.Native.Nat.{min}
-use Rattle.poly_rows.proofs.Factors.{Euclid, euclid-start, euclid-swap, euclid-room, euclid-less, euclid-cut, euclid-turn, euclid-end}
-use Rattle.poly_rows.proofs.gcd.Statement.{statement}
-use Rattle.poly_rows.proofs.gcd.Tie as tie
+use Rattle.poly_factors.proofs.Factors.{Euclid, euclid-start, euclid-swap, euclid-room, euclid-less, euclid-cut, euclid-turn, euclid-end}
+use Rattle.poly_factors.proofs.gcd.Statement.{statement}
+use Rattle.poly_factors.proofs.gcd.Tie as tie
 
 abbrev Inv-loop : tie.InvT-loop
 Inv-loop p a b q x₀ y₀ n₀ m₀ x y n m = Euclid p a b x y n m

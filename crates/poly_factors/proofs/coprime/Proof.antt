@@ -1,8 +1,8 @@
--- `poly_rows::coprime` meets its contract: the trimmed length of the greatest common divisor.
-use Rattle.poly_rows.proofs.Factors.{coprime-yes, coprime-no}
+-- `poly_factors::coprime` meets its contract: the trimmed length of the greatest common divisor.
+use Rattle.poly_factors.proofs.Factors.{coprime-yes, coprime-no}
 use borrow.Author.Needs.{needs}
-use Rattle.poly_rows.proofs.coprime.Statement.{statement}
-use Rattle.poly_rows.proofs.coprime.Tie as tie
+use Rattle.poly_factors.proofs.coprime.Statement.{statement}
+use Rattle.poly_factors.proofs.coprime.Tie as tie
 
 gcd-requires : tie.Need-gcd-requires
 gcd-requires c κs = search needs

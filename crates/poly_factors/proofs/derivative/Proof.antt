@@ -1,14 +1,14 @@
--- `poly_rows::derivative` meets its contract: a row filled up to the length of x, then `derived`.
+-- `poly_factors::derivative` meets its contract: a row filled up to the length of x, then `derived`.
 use mathlib.Core.Path.{_≡_, refl}
 use Prim.Native.Nat.{_≤_, _<_, _-_, _*_, _+_, _%_}
 use native.Mathlib.Omega.{arith}
 use lib.ListN.{length, getD}
 use Rattle.math_rows.proofs.Tab.{Begun, begun-start, begun-more}
 use native.Mathlib.Nat.{mul-le-mul}
-use Rattle.poly_rows.proofs.Factors.{derived}
+use Rattle.poly_factors.proofs.Factors.{derived}
 use borrow.Author.Needs.{needs}
-use Rattle.poly_rows.proofs.derivative.Statement.{statement}
-use Rattle.poly_rows.proofs.derivative.Tie as tie
+use Rattle.poly_factors.proofs.derivative.Statement.{statement}
+use Rattle.poly_factors.proofs.derivative.Tie as tie
 
 abbrev Inv-loop : tie.InvT-loop
 Inv-loop p x n r₀ i₀ r i = (i ≤ 32) × Begun 32 (λ j. ((j + 1) * getD x (j + 1) 0) % p) r i

@@ -1,5 +1,4 @@
 -- Greatest common divisors, and what they decide. p is prime.
---   polynomial   the polynomial of a list
 --   derivative   Derived: d/dt
 --   gcd          Common: a greatest common divisor, a combination of both
 --   squarefree   SquareTest: true, squarefree; false, some non-constant d has d² | x
@@ -9,16 +8,13 @@ use mathlib.Core.Bool.{Bool, true, false}
 use mathlib.Core.List.{List}
 use Prim.Native.Nat.{ℕ}
 use Rattle.math_fp.specs.Fp.{Prime}
-use Rattle.math_valued.specs.Polynomial.{Poly, Squarefree, Coprime}
+use Rattle.math_valued.specs.Polynomial.{Squarefree, Coprime}
 use Rattle.math_valued.specs.Factor.{SquareFactor, CommonFactor}
 use Rattle.math_valued.specs.Gcd.{IsGcd}
 use Rattle.num_residue.specs.Residue.{Modulus}
 use Rattle.math_rows.specs.Made.{reading, derivation}
 use Rattle.math_rows.specs.Row.{Row, row}
-use Rattle.math_rows.proofs.Rows.{row-poly}
-
-abbrev pub polynomial : (p : ℕ) (pr : Prime p) → List ℕ → Poly (reading p pr .𝓥)
-polynomial p pr l = (row (reading p pr) l, row-poly (reading p pr) l)
+use Rattle.poly_rows.specs.Polynomial.{polynomial}
 
 pub record Derived (p : ℕ) (x r : List ℕ) : Type 0 where
   pub is-row : Row p r

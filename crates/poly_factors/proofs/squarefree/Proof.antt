@@ -1,8 +1,8 @@
--- `poly_rows::squarefree` meets its contract: the trimmed length of the greatest common divisor with the derivative.
-use Rattle.poly_rows.proofs.Factors.{common-self, square-yes, square-no}
+-- `poly_factors::squarefree` meets its contract: the trimmed length of the greatest common divisor with the derivative.
+use Rattle.poly_factors.proofs.Factors.{common-self, square-yes, square-no}
 use borrow.Author.Needs.{needs}
-use Rattle.poly_rows.proofs.squarefree.Statement.{statement}
-use Rattle.poly_rows.proofs.squarefree.Tie as tie
+use Rattle.poly_factors.proofs.squarefree.Statement.{statement}
+use Rattle.poly_factors.proofs.squarefree.Tie as tie
 
 derivative-requires : tie.Need-derivative-requires
 derivative-requires c κs = search needs
