@@ -33,39 +33,6 @@ use Rattle.basis_scale.specs.Place.{ElementIn, PlaceIn, PlacedAt, Placed
 use Rattle.basis_scale.specs.declared.Factors.{Factors}
 use Rattle.basis_scale.proofs.Store.{stored-part, stored-other, stored-blank, stored-each}
 
-pub size-below : {p : ℕ} {l : List ℕ} {m n : ℕ} → Short p l n → Size l m → m ≤ n
-size-below {p} {l} {m} {n} h s = go (decLt n m)
-  where
-    go : Dec (n < m) → m ≤ n
-    go (yes w) = absurd (s .top (omega arith) (h .above (m - 1) (omega arith)))
-    go (no w) = omega arith
-
-pub short-lt : {p : ℕ} (ρ : Reading p) {l : List ℕ} {n : ℕ} → Short p l n → Lt (ρ .𝓥) (row ρ l) n
-short-lt ρ {l} {n} h = let (m, s) = sized l in lt-up (ρ .𝓥) n (size-lt ρ s) (size-below h s)
-
-pub row-short : {p : ℕ} (ρ : Reading p) {l : List ℕ} (n : ℕ) → Row p l → Lt (ρ .𝓥) (row ρ l) n → Short p l n
-row-short ρ {l} n h g = let (m, s) = sized l in let b : m ≤ n = size-le ρ n h s g in record { is-row = h; above = λ i w. s .above i (omega arith) }
-
-pub short-up : {p : ℕ} {l : List ℕ} {m n : ℕ} → Short p l m → m ≤ n → Short p l n
-short-up h u = record { is-row = h .is-row; above = λ i w. h .above i (omega arith) }
-
-pub short-cut : {p : ℕ} {l : List ℕ} {n : ℕ} → Short p l n → n ≤ 32 → Cut l n
-short-cut h u = record { size = h .is-row .size; fits = u; above = h .above }
-
--- a row times a number ends where the row does
-pub scaled-short : {p c : ℕ} (ρ : Reading p) {x z : List ℕ} {n : ℕ} → Short p x n → Row p z → row ρ z ≡ ρ .𝓥 .L .ops .mul (ρ .𝓥 .const (ρ .cast c)) (row ρ x) → Short p z n
-scaled-short {p} {c} ρ {x} {z} {n} h hz e = row-short ρ n hz (lt-eq (ρ .𝓥) (lt-scale ρ (ρ .cast c) (short-lt ρ h)) (sym e))
-
--- and by a number that is not 0 it has the same length
-pub scaled-size : {p c : ℕ} (ρ : Reading p) {x z : List ℕ} {n : ℕ} → ρ .cast c ≢ ρ .𝓥 .K .ops .𝟎 → Row p x → Row p z → row ρ z ≡ ρ .𝓥 .L .ops .mul (ρ .𝓥 .const (ρ .cast c)) (row ρ x) → Size x n → Size z n
-scaled-size {p} {c} ρ {x} {z} {n} hc hx hz e s = let (m, w) = sized z in subst (λ k. Size z k) (go n m s w) w
-  where
-    go : (n m : ℕ) → Size x n → Size z m → m ≡ n
-    go n m s w = let hi : m ≤ n = size-le ρ n hz w (lt-eq (ρ .𝓥) (lt-scale ρ (ρ .cast c) (size-lt ρ s)) (sym e)) in elim (decLt m n) [
-      | no l ↦ omega arith
-      | yes l ↦ let h = has-eq (ρ .𝓥) (has-scale (ρ .𝓥) (ρ .cast c, hc, ρ .𝓥 .const-lead (ρ .cast c)) (size-has-at ρ n hx s (omega arith))) (sym e) in absurd (omega (arith, above (ρ .𝓥) h (size-lt ρ w)))
-    ]
-
 module _ {p mul lim i top s : ℕ} {b c x x1 : List ℕ} {n1 : ℕ} {y1 : List ℕ} {n2 : ℕ} {u : List ℕ} {lu : ℕ} {B : List ℕ} (g : PlaceIn p mul lim i top s b c x x1 n1 y1 n2 u lu B) where
   pub place-scale : {l : List ℕ} {n : ℕ} → Short p l n → n ≤ top → ScaleBy p mul lim s l top
   place-scale h w = let f : top ≤ 17 = g .inp .fits in record { modulus = g .inp .modulus; ready = g .inp .ready; hc = g .inp .hs; hx = short-up h w; fits = omega arith }

@@ -58,15 +58,9 @@ module _ {p : ℕ} {a b x y : List ℕ} {n m : ℕ} (i : Euclid p a b x y n m) (
   room = let f : n ≤ length x = i .sx .fits in let g : length x ≡ 32 = i .hx .size in (omega arith, omega arith)
 
   pub euclid-room : {mul lim : ℕ} → Modulus p → Ready p mul lim → CrossBy p mul lim (getD y (m - 1) 0) x (getD x (n - 1) 0) (n - m) y n
-  euclid-room h q = cross-by n
-      (record {
-        modulus = h;
-        hs = i .hy .each (m - 1);
-        hx = i .hx;
-        hc = (let l : getD x (n - 1) 0 < p = i .hx .each (n - 1) in omega arith);
-        hy = i .hy;
-        room = λ k s. let e : k ≡ m = size-one s (i .sy) in omega (arith, room .0, room .1);
-      }) q (i .sx) (i .sy) (omega arith) (room .0) (room .1)
+  euclid-room h q =
+      let l : getD x (n - 1) 0 < p = i .hx .each (n - 1) in
+      cross-by n h q (i .hy .each (m - 1)) (omega arith) (i .hx) (i .hy) (i .sx) (i .sy) (omega arith) (room .0) (room .1)
 
   module _ (t : List ℕ) (o : Crossed p (getD y (m - 1) 0) x (getD x (n - 1) 0) (n - m) y t) (k : ℕ) (st : Size t k) where
     pub euclid-less : Prime p → k < n

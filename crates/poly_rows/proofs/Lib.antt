@@ -1,3 +1,4 @@
 pub mod Leaf
 pub mod Terms
 pub mod Division
+pub mod Lengths

@@ -35,28 +35,6 @@ use Rattle.step_divide.specs.Rows.{Seven, rowsOf, Holds}
 use Rattle.step_divide.specs.Quotients.{Fits, Inverts, DetIn, Det, Quotients}
 use Rattle.step_divide.specs.Generated.{GeneratorsIn}
 
--- a number whose class is 1
-pub one-mod : {p : ℕ} (ρ : Reading p) (a : ℕ) → 1 < p → ρ .cast a ≡ ρ .𝓥 .K .ops .𝟏 → a % p ≡ 1
-one-mod {p} ρ a l e = cast-inj ρ (a % p) 1 (mod-lt a (ρ .pos)) l (ρ .cast-mod a ∙ e ∙ sym (ρ .cast-one))
-
--- sizes from degrees
-pub fits-of : {p : ℕ} (ρ : Reading p) {x y : List ℕ} (a b : ℕ) → Row p x → Row p y → Lt (ρ .𝓥) (row ρ x) a → Lt (ρ .𝓥) (row ρ y) b → a + b ≤ 33 → Fits x y
-fits-of ρ a b hx hy lx ly l n m sn sm =
-    let q : n ≤ a = size-le ρ a hx sn lx in
-    let r : m ≤ b = size-le ρ b hy sm ly in
-    omega arith
-
--- what leads with 1 needs no inversion
-pub monic-inverts : {p : ℕ} (pr : Prime p) {u : List ℕ} → Row p u → Leads (reading p pr .𝓥) (row (reading p pr) u) (reading p pr .𝓥 .K .ops .𝟏) → Inverts p u 1
-monic-inverts {p} pr {u} hu lu = record { below = pr .big; law = law-at }
-  where
-    law-at : (m : ℕ) → Size u m → (1 * getD u (m - 1) 0) % p ≡ 1
-    law-at zero t = let (i, j, nz, l) = lu in absurd (nz (reading p pr .𝓥 .lead-unique l (d.lead-eq (reading p pr .𝓥) (reading p pr .𝓥 .lead-zero i j) (sym (zero-row (reading p pr) u t)) refl)))
-    law-at (suc k) t =
-        let l : ℕ = getD u k 0 in
-        let e : reading p pr .cast l ≡ reading p pr .𝓥 .K .ops .𝟏 = leads-unique (reading p pr .𝓥) (k, 0, size-top (reading p pr) hu t, size-lead (reading p pr) t) lu in
-        ap (λ j. (1 * getD u j 0) % p) (let w : suc k - 1 ≡ k = omega arith in w) ∙ ap (λ y. y % p) (let w : 1 * l ≡ l = omega arith in w) ∙ one-mod (reading p pr) l (pr .big) e
-
 module _ {p : ℕ} {G H : List ℕ} (σ : Accepted p G H) (b : Seven) where
   -- what the sizes of a good basis say of its rows
   pub record Sizes : Type 0 where

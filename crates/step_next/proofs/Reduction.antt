@@ -40,17 +40,6 @@ use Rattle.basis_scale.specs.Based.{BasisIn}
 use Rattle.basis_scale.proofs.Place.{row-short}
 use Rattle.step_next.specs.Steps.{Known, Keeps}
 
--- a row with a degree has that size
-pub size-of : {p : ℕ} (ρ : Reading p) {l : List ℕ} {k : ℕ} → Row p l → Has (ρ .𝓥) (row ρ l) k → Size l (suc k)
-size-of ρ {l} {k} r h = go (sized l)
-  where
-    go : (n : ℕ) × Size l n → Size l (suc k)
-    go (zero, s) = absurd (not-zero (ρ .𝓥) h (zero-row ρ l s))
-    go (suc n, s) = subst (λ j. Size l (suc j)) (d.same (ρ .𝓥) (size-has ρ r s) h) s
-
-pub odd-prime : (p : ℕ) → Prime p → 5 ≤ p → p % 2 ≡ 1
-odd-prime p pr l = let h : p % 2 ≢ 0 = pr .only 2 (omega arith) (omega arith) in omega (arith, h)
-
 abbrev pub pairOf : Generators → Pair
 pairOf o = pair (o .mb) (o .mc) (o .nb) (o .nc)
 
