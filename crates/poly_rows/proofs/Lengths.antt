@@ -13,9 +13,7 @@ use native.Mathlib.Nat.{mod-lt, mod-eq-of-lt}
 use native.Mathlib.Omega.{arith}
 use native.Mathlib.Decide.{decLt}
 use lib.ListN.{getD}
-use Rattle.math_ring.specs.Ring.{Ops, CRing}
 use Rattle.math_fp.specs.Fp.{Prime}
-use Rattle.math_valued.specs.Val.{Valued}
 use Rattle.math_valued.specs.Degree.{Has, Lt, Leads}
 use Rattle.math_valued.proofs.Degree.{lt-eq, lt-up, has-eq, above, same, lead-eq}
 use Rattle.math_valued.proofs.Compare.{has-scale, leads-unique}

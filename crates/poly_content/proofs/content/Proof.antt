@@ -1,8 +1,8 @@
--- `step_divide::content` meets its contract.
+-- `poly_content::content` meets its contract.
 use borrow.Author.Needs.{needs}
-use Rattle.step_divide.proofs.Leaves.{content-unit, content-of}
-use Rattle.step_divide.proofs.content.Statement.{statement}
-use Rattle.step_divide.proofs.content.Tie as tie
+use Rattle.poly_content.proofs.Contents.{content-unit, content-of}
+use Rattle.poly_content.proofs.content.Statement.{statement}
+use Rattle.poly_content.proofs.content.Tie as tie
 
 gcd-requires : tie.Need-gcd-requires
 gcd-requires c κs = search needs

@@ -3,7 +3,7 @@
 --   Stored B i a B′   B′ is B with row i taken from a
 --   Loaded B i r      r is row i of B, with zeros up to 32
 --   SevenLoaded B b   b is the seven rows of B, so loaded
--- `part` is the i-th row (crate basis_record). The laws are in proofs/Store.antt and proofs/Loads.antt.
+-- `part` is the i-th row (specs/Record.antt). The laws are in proofs/Store.antt and proofs/Loads.antt.
 use mathlib.Core.Path.{_≡_}
 use mathlib.Core.Logic.{_⊎_}
 use mathlib.Core.List.{List}
@@ -12,8 +12,8 @@ use lib.ListN.{length, getD}
 use Rattle.math_fp.specs.Fp.{Prime}
 use Rattle.math_rows.specs.Made.{reading}
 use Rattle.math_rows.specs.Row.{row, Row}
 use Rattle.basis_record.specs.Record.{part}
-use Rattle.step_divide.specs.Rows.{Seven}
+use Rattle.basis_record.specs.Seven.{Seven, rowAt}
 
 pub record StoreIn (B : List ℕ) (i : ℕ) (a : List ℕ) (n : ℕ) : Type 0 where
   pub size : length B ≡ 119
@@ -37,11 +37,5 @@ pub record Loaded (B : List ℕ) (i : ℕ) (r : List ℕ) : Type 0 where
   pub above : (j : ℕ) → 17 ≤ j → getD r j 0 ≡ 0
   pub law : (p : ℕ) (pr : Prime p) → row (reading p pr) r ≡ row (reading p pr) (part i B)
 
-pub record SevenLoaded (B : List ℕ) (b : Seven) : Type 0 where
-  pub m0 : Loaded B 0 (b .m0)
-  pub m1 : Loaded B 1 (b .m1)
-  pub m2 : Loaded B 2 (b .m2)
-  pub n0 : Loaded B 3 (b .n0)
-  pub n1 : Loaded B 4 (b .n1)
-  pub n2 : Loaded B 5 (b .n2)
-  pub u : Loaded B 6 (b .u)
+abbrev pub SevenLoaded : List ℕ → Seven → Type 0
+SevenLoaded B b = (i : ℕ) → i < 7 → Loaded B i (rowAt b i)

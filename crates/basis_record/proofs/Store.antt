@@ -13,11 +13,10 @@ use Rattle.math_fp.specs.Fp.{Prime}
 use Rattle.math_rows.specs.Reading.{Reading}
 use Rattle.math_rows.specs.Made.{reading}
 use Rattle.math_rows.specs.Row.{Row, row, coefs}
-use Rattle.math_rows.proofs.Tab.{length-tab, at-tab}
+use Rattle.math_rows.proofs.Tab.{length-tab, at-tab, zeros-at}
 use Rattle.math_rows.proofs.Rows.{row-upto, row-tab, psum-ext}
-use Rattle.basis_reduce.proofs.Laid.{zeros-at}
 use Rattle.basis_record.specs.Record.{part}
-use Rattle.basis_scale.specs.Store.{StoreIn, Stored, LoadIn, Loaded}
+use Rattle.basis_record.specs.Store.{StoreIn, Stored, LoadIn, Loaded}
 
 -- ---- what was stored
 pub stored-part : (B : List ℕ) (i : ℕ) (a B′ : List ℕ) → Stored B i a B′ → ((j : ℕ) → 17 ≤ j → getD a j 0 ≡ 0) → {p : ℕ} (ρ : Reading p) → row ρ (part i B′) ≡ row ρ a

@@ -1,9 +1,9 @@
--- `basis_scale::stored` meets its contract: `Storing`, j numbers are written.
+-- `basis_record::stored` meets its contract: `Storing`, j numbers are written.
 use Prim.Native.Nat.{ℕ, _-_, _<_, _≤_}
 use native.Mathlib.Omega.{arith}
-use Rattle.basis_scale.proofs.Store.{Storing, storing-start, storing-more, storing-end}
-use Rattle.basis_scale.proofs.stored.Statement.{statement}
-use Rattle.basis_scale.proofs.stored.Tie as tie
+use Rattle.basis_record.proofs.Store.{Storing, storing-start, storing-more, storing-end}
+use Rattle.basis_record.proofs.stored.Statement.{statement}
+use Rattle.basis_record.proofs.stored.Tie as tie
 
 abbrev Inv-loop : tie.InvT-loop
 Inv-loop rows₀ i a n at j₀ rows j = Storing rows₀ i a rows j

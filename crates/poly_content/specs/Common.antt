@@ -1,6 +1,5 @@
 -- Four polynomials without their common factor, in place.
 --   content     Content: a divisor of four, which every common divisor of the four divides
---   negate      Negated: − x, of the same length
 --   shorten     Shortened: an exact quotient and its length
 --   Four        four rows, a fifth for their determinant over the common factor, and the degree of that factor
 --   Without     the four and their determinant are these five times one polynomial, and no factor is left in the four
@@ -10,20 +9,16 @@ use mathlib.Core.Logic.{_≢_}
 use mathlib.Core.List.{List}
 use Prim.Native.Nat.{ℕ}
 use lib.ListN.{replicate}
-use Rattle.math_ring.specs.Ring.{Ops, CRing}
 use Rattle.math_fp.specs.Fp.{Prime}
-use Rattle.math_valued.specs.Val.{Valued}
 use Rattle.math_valued.specs.Degree.{Has}
 use Rattle.math_valued.specs.Polynomial.{polys, Poly, Divides, IsUnit}
 use Rattle.num_residue.specs.Residue.{Modulus}
-use Rattle.math_rows.specs.Reading.{Reading}
 use Rattle.math_rows.specs.Made.{reading}
 use Rattle.math_rows.specs.Row.{Row, Size}
-use Rattle.poly_rows.specs.Leaf.{Opposite}
+use Rattle.poly_rows.specs.Leaf.{Fits}
 use Rattle.poly_rows.specs.Terms.{Ready}
 use Rattle.poly_rows.specs.Division.{DivIn, Exact}
 use Rattle.poly_rows.specs.Polynomial.{polynomial}
-use Rattle.step_divide.specs.Quotients.{Fits}
 
 pub record FourRows (p : ℕ) (x0 x2 y0 y2 : List ℕ) : Type 0 where
   pub modulus : Modulus p
@@ -97,15 +92,6 @@ pub record Taken (p : ℕ) (x0 x2 y0 y2 : List ℕ) (o : Four) (l : ℕ) : Type 
   pub size : Size (o .d) l
 
 -- ---- in place
-pub record NegateIn (p : ℕ) (x : List ℕ) (n : ℕ) : Type 0 where
-  pub modulus : Modulus p
-  pub hx : Row p x
-  pub sx : Size x n
-
-pub record Negated (p : ℕ) (x o : List ℕ) (n : ℕ) : Type 0 where
-  pub opposite : Opposite p x o
-  pub size : Size o n
-
 pub record ShortenIn (p mul lim : ℕ) (x : List ℕ) (n : ℕ) (k : List ℕ) (m il : ℕ) : Type 0 where
   pub inp : DivIn p x k il
   pub ready : Ready p mul lim

@@ -1,10 +1,10 @@
--- `basis_scale::load` meets its contract: `Loading`, j numbers are read.
+-- `basis_record::load` meets its contract: `Loading`, j numbers are read.
 use Prim.Native.Nat.{ℕ, _-_, _<_}
 use native.Mathlib.Omega.{arith}
-use Rattle.basis_scale.proofs.Store.{Loading, loading-start, loading-more, loading-end}
+use Rattle.basis_record.proofs.Store.{Loading, loading-start, loading-more, loading-end}
 use borrow.Author.Needs.{needs}
-use Rattle.basis_scale.proofs.load.Statement.{statement}
-use Rattle.basis_scale.proofs.load.Tie as tie
+use Rattle.basis_record.proofs.load.Statement.{statement}
+use Rattle.basis_record.proofs.load.Tie as tie
 
 abbrev Inv-loop : tie.InvT-loop
 Inv-loop rows i at r₀ j₀ r j = Loading rows i r j
