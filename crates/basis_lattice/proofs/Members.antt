@@ -32,7 +32,7 @@ use Rattle.basis_record.specs.Seven.{Seven}
 use Rattle.basis_lattice.specs.Coordinates.{ElementIn, OuterOut}
 use Rattle.basis_lattice.specs.Lattice.{InsideIn, InsideAt, MemberAt}
 use Rattle.basis_lattice.specs.declared.Lengths.{Lengths}
-use Rattle.basis_lattice.specs.declared.Outer.{Outer}
+use Rattle.basis_lattice.specs.declared.OuterSpans.{OuterSpans}
 
 module _ {p : ℕ} (pr : Prime p) where
   abbrev ρ : Reading p
@@ -115,7 +115,7 @@ module _ {p : ℕ} (pr : Prime p) where
         (db .law pr, (dc .law pr, (t .U-α, tt)))) .0)
 
   module _ {mul lim : ℕ} {va : List ℕ} {na : ℕ} {vb : List ℕ} {nb : ℕ} {vc : List ℕ} {nc : ℕ} {b : Seven} {l : Lengths} {e : List ℕ} {ie : ℕ} (i : ElementIn p mul lim va na vb nb vc nc b l e ie)
-      {s t q₁ q₂ : List ℕ} {o : Outer} (h : OuterOut p vb vc (b .m1) (b .m2) (b .n1) (b .n2) e s t q₁ q₂ o) {r₁ : List ℕ} {k : ℕ} (x : LessOut p q₁ e s r₁ k) where
+      {s t q₁ q₂ : List ℕ} {o : OuterSpans} (h : OuterOut p vb vc (b .m1) (b .m2) (b .n1) (b .n2) e s t q₁ q₂ o) {r₁ : List ℕ} {k : ℕ} (x : LessOut p q₁ e s r₁ k) where
     he : (n : ℕ) × Has 𝓥 (row ρ e) n
     he = inverts-has pr (i .he) (i .by-e)
 

@@ -5,7 +5,7 @@
 use mathlib.Core.Path.{_≡_, sym, ap₂, _∙_}
 use mathlib.Core.Bool.{true}
 use mathlib.Core.List.{List, [], _∷_}
-use Prim.Native.Nat.{ℕ, _+_, _≤_}
+use Prim.Native.Nat.{ℕ, zero, suc, _+_, _≤_}
 use native.Mathlib.Omega.{arith}
 use lib.ListN.{replicate}
 use Rattle.math_ring.proofs.Solve.{var, minus, _:+_, _:*_, solve}
@@ -18,9 +18,20 @@ use Rattle.poly_rows.proofs.Lengths.{by-inverse}
 use Rattle.poly_lent.specs.Sized.{BothIn, BothOut, DetBy, QuotientBy, QuotientOut}
 use Rattle.poly_lent.proofs.Mixing.{size-cut}
 use Rattle.basis_record.specs.Seven.{Seven, Three, three}
-use Rattle.basis_lattice.specs.Coordinates.{Quotients, ElementIn, OuterOut, CoordsIn, Coordinates}
+use Rattle.basis_lattice.specs.Coordinates.{Quotients, AreLengths, ElementIn, OuterOut, CoordsIn, Coordinates}
 use Rattle.basis_lattice.specs.declared.Lengths.{Lengths}
-use Rattle.basis_lattice.specs.declared.Outer.{Outer}
+use Rattle.basis_lattice.specs.declared.OuterSpans.{OuterSpans}
+
+-- seven lengths, by number
+pub measured : {b : Seven} {m0 m1 m2 n0 n1 n2 u : ℕ} (k : ℕ) → Size (b .m0) m0 → Size (b .m1) m1 → Size (b .m2) m2 → Size (b .n0) n0 → Size (b .n1) n1 → Size (b .n2) n2 → Size (b .u) u
+    → AreLengths b (record { m0 = m0; m1 = m1; m2 = m2; n0 = n0; n1 = n1; n2 = n2; u = u; e = k })
+measured k h0 h1 h2 k0 k1 k2 hu zero = h0
+measured k h0 h1 h2 k0 k1 k2 hu (suc zero) = h1
+measured k h0 h1 h2 k0 k1 k2 hu (suc (suc zero)) = h2
+measured k h0 h1 h2 k0 k1 k2 hu (suc (suc (suc zero))) = k0
+measured k h0 h1 h2 k0 k1 k2 hu (suc (suc (suc (suc zero)))) = k1
+measured k h0 h1 h2 k0 k1 k2 hu (suc (suc (suc (suc (suc zero))))) = k2
+measured k h0 h1 h2 k0 k1 k2 hu (suc (suc (suc (suc (suc (suc i)))))) = hu
 
 module _ {p mul lim : ℕ} {va : List ℕ} {na : ℕ} {vb : List ℕ} {nb : ℕ} {vc : List ℕ} {nc : ℕ} {b : Seven} {l : Lengths} {e : List ℕ} {ie : ℕ} (h : ElementIn p mul lim va na vb nb vc nc b l e ie) where
   pub s-asks : {s : List ℕ} → s ≡ replicate 32 0 → DetBy p mul lim vb nb (b .n2) (l .n2) vc nc (b .n1) (l .n1) s
@@ -48,7 +59,7 @@ module _ {p mul lim : ℕ} {va : List ℕ} {na : ℕ} {vb : List ℕ} {nb : ℕ}
   by-u hs n z = record { inp = by-inverse (h .modulus) hs (h .rows 6) (h .by-u); ready = h .ready; sa = n; sb = h .sizes 6; blank = z }
 
 module _ {p mul lim : ℕ} {va : List ℕ} {na : ℕ} {vb : List ℕ} {nb : ℕ} {vc : List ℕ} {nc : ℕ} {b : Seven} {l : Lengths} {e : List ℕ} {ie : ℕ} {t : Three} (c : CoordsIn p mul lim va na vb nb vc nc b l e ie t)
-    {s₁ t₁ β γ : List ℕ} {o : Outer} (h : OuterOut p vb vc (b .m1) (b .m2) (b .n1) (b .n2) e s₁ t₁ β γ o) where
+    {s₁ t₁ β γ : List ℕ} {o : OuterSpans} (h : OuterOut p vb vc (b .m1) (b .m2) (b .n1) (b .n2) e s₁ t₁ β γ o) where
   β-is : (pr : Prime p) {x y z : reading p pr .𝓥 .L .El} → Quotients pr va vb vc b e x y z → row (reading p pr) β ≡ y
   β-is pr {x} {y} q = h .β-is .exact .law pr y (q .β-poly) (sym (q .e-β) ∙ sym (h .s-is .law pr))
 

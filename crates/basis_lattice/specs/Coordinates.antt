@@ -23,7 +23,7 @@ use Rattle.poly_rows.specs.Division.{Inverts}
 use Rattle.poly_lent.specs.Sized.{DetOut, QuotientOut}
 use Rattle.basis_record.specs.Seven.{Seven, seven, rowAt, AreRows, Three, Blank}
 use Rattle.basis_lattice.specs.declared.Lengths.{Lengths}
-use Rattle.basis_lattice.specs.declared.Outer.{Outer}
+use Rattle.basis_lattice.specs.declared.OuterSpans.{OuterSpans}
 use Rattle.basis_lattice.specs.declared.Spans.{Spans}
 
 module _ {p : ℕ} (pr : Prime p) where
@@ -101,7 +101,7 @@ pub record OuterIn (p mul lim : ℕ) (vb : List ℕ) (nb : ℕ) (vc : List ℕ) 
   pub blank-β : β ≡ replicate 32 0
   pub blank-γ : γ ≡ replicate 32 0
 
-pub record OuterOut (p : ℕ) (vb vc m1 m2 n1 n2 e s t β γ : List ℕ) (o : Outer) : Type 0 where
+pub record OuterOut (p : ℕ) (vb vc m1 m2 n1 n2 e s t β γ : List ℕ) (o : OuterSpans) : Type 0 where
   pub s-is : DetOut p vb n2 vc n1 s (o .s)
   pub t-is : DetOut p vc m1 vb m2 t (o .t)
   pub β-is : QuotientOut p s e β (o .b)

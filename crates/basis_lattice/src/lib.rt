@@ -67,7 +67,7 @@ pub fn lengths_of(
 }
 
 // The lengths of what e divides, and of the two quotients.
-struct Outer {
+struct OuterSpans {
     s: usize,
     t: usize,
     b: usize,
@@ -93,7 +93,7 @@ fn outer(
     t: &mut [u64; 32],
     b: &mut [u64; 32],
     c: &mut [u64; 32],
-) -> Outer
+) -> OuterSpans
     requires { ⌜ OuterIn p (q .m) (q .lim) (now vb) nb (now vc) nc (now m1) (now m2) (now n1) (now n2) l (now e) ie (now s) (now t) (now b) (now c) ⌝ }
     ensures { λ o. ⌜ OuterOut p (now (vb .entry)) (now (vc .entry)) (now (m1 .entry)) (now (m2 .entry)) (now (n1 .entry)) (now (n2 .entry)) (now (e .entry)) (now (s .exit)) (now (t .exit)) (now (b .exit)) (now (c .exit)) o ⌝ }
 {
@@ -101,7 +101,7 @@ fn outer(
     let lb = quotient_in(p, q, s, ls, e, l.e, ie, b);
     let lt = det_in(p, q, vc, nc, m1, l.m1, vb, nb, m2, l.m2, t);
     let lc = quotient_in(p, q, t, lt, e, l.e, ie, c);
-    Outer {
+    OuterSpans {
         s: ls,
         t: lt,
         b: lb,
