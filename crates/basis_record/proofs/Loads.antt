@@ -19,11 +19,11 @@ pub rows-are : {p : ℕ} {B : List ℕ} {b : Seven} → SevenLoaded B b → ((i 
 rows-are {p} {B} {b} l e = every {b = b} (Row p) (at 0 (omega arith)) (at 1 (omega arith)) (at 2 (omega arith)) (at 3 (omega arith)) (at 4 (omega arith)) (at 5 (omega arith)) (at 6 (omega arith))
   where
     at : (i : ℕ) → i < 7 → Row p (rowAt b i)
-    at i k = l i k .is-row p e
+    at i k = l .each i k .is-row p e
 
 module _ {p : ℕ} {G H : List ℕ} (A : Accepted p G H) {B : List ℕ} {b : Seven} (l : SevenLoaded B b) where
   path : (i : ℕ) → i < 7 → polyOf A (rowAt b i) ≡ polyOf A (part i B)
-  path i k = P-path (setting A .𝓥) {a = polyOf A (rowAt b i)} {b = polyOf A (part i B)} (l i k .law p (A .prime))
+  path i k = P-path (setting A .𝓥) {a = polyOf A (rowAt b i)} {b = polyOf A (part i B)} (l .each i k .law p (A .prime))
 
   pub rows-path : rowsOf A b ≡ basisOf A B
   rows-path = λ i. record {

@@ -37,5 +37,5 @@ pub record Loaded (B : List ℕ) (i : ℕ) (r : List ℕ) : Type 0 where
   pub above : (j : ℕ) → 17 ≤ j → getD r j 0 ≡ 0
   pub law : (p : ℕ) (pr : Prime p) → row (reading p pr) r ≡ row (reading p pr) (part i B)
 
-abbrev pub SevenLoaded : List ℕ → Seven → Type 0
-SevenLoaded B b = (i : ℕ) → i < 7 → Loaded B i (rowAt b i)
+pub record SevenLoaded (B : List ℕ) (b : Seven) : Type 0 where
+  pub each : (i : ℕ) → i < 7 → Loaded B i (rowAt b i)

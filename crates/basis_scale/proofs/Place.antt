@@ -1,37 +1,29 @@
 -- What `placed` and `filled` ask of their callees, and what they make.
---   row-short, size-below    a bound of the degree, or of the row, bounds the length
-use mathlib.Core.Path.{_≡_, refl, sym, ap, ap₂, _∙_, subst}
-use mathlib.Core.Logic.{_≢_, _⊎_, inl, inr}
+use mathlib.Core.Path.{_≡_, refl, sym, ap, ap₂, _∙_}
+use mathlib.Core.Logic.{_⊎_, inl, inr}
 use mathlib.Core.Bool.{false}
 use mathlib.Core.List.{List, [], _∷_}
 use Prim.Native.Nat.{ℕ, _+_, _*_, _-_, _<_, _≤_}
 use native.Mathlib.Omega.{arith}
-use native.Mathlib.Decide.{decLt}
 use lib.ListN.{length, getD, replicate}
-use Rattle.math_ring.specs.Ring.{Ops, CRing}
 use Rattle.math_ring.proofs.Solve.{var, minus, _:+_, solve}
 use Rattle.math_fp.specs.Fp.{Prime}
-use Rattle.math_valued.specs.Val.{Valued}
-use Rattle.math_valued.specs.Degree.{Lt}
-use Rattle.math_valued.proofs.Degree.{lt-eq, lt-up, has-eq, above}
-use Rattle.math_valued.proofs.Compare.{has-scale}
+use Rattle.math_valued.proofs.Degree.{lt-eq, above}
 use Rattle.math_rows.specs.Reading.{Reading}
 use Rattle.math_rows.specs.Made.{reading}
-use Rattle.math_rows.specs.Row.{Row, Size, row}
-use Rattle.math_rows.proofs.Rows.{size-le, size-lt, size-has-at}
-use Rattle.math_rows.proofs.Floors.{sized}
-use Rattle.math_rows.proofs.Turn.{lt-scale}
+use Rattle.math_rows.specs.Row.{Size, row}
 use Rattle.poly_rows.specs.Leaf.{Cut, ScaleBy, ScaleOut}
+use Rattle.poly_rows.proofs.Lengths.{size-below, short-up, short-cut, scaled-short}
 use Rattle.poly_lent.specs.Sized.{BothIn, BothOut}
 use Rattle.poly_lent.proofs.Mixing.{size-cut}
 use Rattle.basis_record.specs.Record.{part}
 use Rattle.basis_reduce.specs.Frame.{Short}
 use Rattle.basis_reduce.proofs.Laid.{zeros-at}
-use Rattle.basis_scale.specs.Store.{StoreIn, Stored}
+use Rattle.basis_record.specs.Store.{StoreIn, Stored}
 use Rattle.basis_scale.specs.Levels.{LevelIn, Leveled}
-use Rattle.basis_scale.specs.Place.{ElementIn, PlaceIn, PlacedAt, Placed, FillIn, Filled}
+use Rattle.basis_scale.specs.Place.{PlaceIn, Placed, FillIn}
 use Rattle.basis_scale.specs.declared.Factors.{Factors}
-use Rattle.basis_scale.proofs.Store.{stored-part, stored-other, stored-blank, stored-each}
+use Rattle.basis_record.proofs.Store.{stored-part, stored-other, stored-blank, stored-each}
 
 module _ {p mul lim i top s : ℕ} {b c x x1 : List ℕ} {n1 : ℕ} {y1 : List ℕ} {n2 : ℕ} {u : List ℕ} {lu : ℕ} {B : List ℕ} (g : PlaceIn p mul lim i top s b c x x1 n1 y1 n2 u lu B) where
   pub place-scale : {l : List ℕ} {n : ℕ} → Short p l n → n ≤ top → ScaleBy p mul lim s l top
