@@ -21,9 +21,11 @@ use Rattle.math_rows.specs.Row.{Row, Size, row, tpow, Floor}
 use Rattle.math_rows.proofs.Rows.{size-lead-at}
 use Rattle.math_rows.proofs.Floors.{sized, floor-lt, floor-top, floor-has, floor-le, floor-lead}
 use Rattle.math_rows.proofs.Unique.{cast-inj}
-use Rattle.poly_rows.specs.Leaf.{CrossIn, Crossed}
+use Rattle.poly_rows.specs.Leaf.{CrossBy, Crossed}
+use Rattle.poly_rows.specs.Terms.{Ready}
+use Rattle.poly_rows.proofs.Leaf.{cross-by}
 use Rattle.base_answers.specs.Decides.{Decides}
-use Rattle.step_divide.specs.Rows.{Seven}
+use Rattle.basis_record.specs.Seven.{Seven}
 use Rattle.basis_reduce.specs.Frame.{Frame, Meaning, Short, rd, Ser, rowμ, pt, X, Y, Ltμ, Hasμ}
 use Rattle.basis_reduce.specs.Leaves.{PartIn, Parted}
 use Rattle.basis_scale.specs.Based.{Z}
@@ -39,15 +41,12 @@ module _ {F : Frame} {top : ℕ} {b : Seven} (i : ShapedIn F top b) where
   part-n = record { fine = i .fine; hb = i .k1; hc = i .k2; fits = i .fits; low-r = i .low-r; low-w = i .low-w }
 
   -- 2a − x
-  pub twice-in : {a x : List ℕ} → Row (F .p) a → Row (F .p) x → CrossIn (F .p) 2 a 1 0 x
-  twice-in ha hx = let t : 2 < F .p = i .two in record {
-    modulus = i .fine .modulus;
-    hs = t;
-    hx = ha;
-    hc = omega arith;
-    hy = hx;
-    room = λ m s. let l : m ≤ 32 = subst (λ k. m ≤ k) (hx .size) (s .fits) in omega arith;
-  }
+  pub twice-in : {mul lim : ℕ} {a x : List ℕ} → Ready (F .p) mul lim → Row (F .p) a → Row (F .p) x → CrossBy (F .p) mul lim 2 a 1 0 x 32
+  twice-in {a = a} {x = x} w ha hx =
+      let t : 2 < F .p = i .two in
+      let (n, sa) = sized a in
+      let (m, sx) = sized x in
+      cross-by 32 (i .fine .modulus) w t (omega arith) ha hx sa sx (subst (λ k. n ≤ k) (ha .size) (sa .fits)) (let l : m ≤ 32 = subst (λ k. m ≤ k) (hx .size) (sx .fits) in omega arith) (omega arith)
 
 -- ---- sizes
 module _ {F : Frame} (μ : Meaning F) {top : ℕ} {b : Seven} {mx my nx ny zm zn : List ℕ} (i : ShapedIn F top b)
@@ -137,15 +136,15 @@ module _ {F : Frame} (μ : Meaning F) {top : ℕ} {b : Seven} {mx my nx ny zm zn
       let (lm, sm) = sized my in
       let (a₁, sa) = sized zm in
       let (b₁, sb) = sized zn in
-      let (eu, cu) = at-lead (rowμ μ (b .u)) (b .u) lu (n .numbers .u) 1 (i .rows .u) (floor-self (b .u)) su (d.lead-eq 𝓥 (n .numbers .U-lead) refl (sym (ρ .cast-one))) one≢ (omega arith) in
-      let (ex, cx) = at-lead (X μ (pt μ (b .m1) (b .m2))) mx lx (n .numbers .x) 2 (pmx .short .is-row) (pmx .law μ) sx (d.lead-eq 𝓥 (n .numbers .X-M) refl (sym cast-two)) two≢ t in
-      let (ey, cy) = at-lead (Y μ (pt μ (b .n1) (b .n2))) ny ly (n .numbers .y) 1 (pny .short .is-row) (pny .law μ) sy (d.lead-eq 𝓥 (n .numbers .Y-N) refl (sym (ρ .cast-one))) one≢ (omega arith) in
-      let ux : n .numbers .u < n .numbers .x = n .u<x in
-      let uy : n .numbers .u ≤ n .numbers .y = n .numbers .u≤y in
-      let hn : ln ≤ n .numbers .x = floor-le ρ (n .numbers .x) (pnx .short .is-row) (pnx .law μ) sn (n .numbers .X-N) in
-      let hm : lm ≤ n .numbers .u = floor-le ρ (n .numbers .u) (pmy .short .is-row) (pmy .law μ) sm (n .numbers .Y-M) in
-      let ha : a₁ ≤ n .numbers .u = floor-le ρ (n .numbers .u) (cm .is-row) fM sa (n .numbers .Z-M) in
-      let hb : b₁ ≤ n .numbers .u = floor-le ρ (n .numbers .u) (cn .is-row) fN sb (n .numbers .Z-N) in
+      let (eu, cu) = at-lead (rowμ μ (b .u)) (b .u) lu (n .u) 1 (i .rows 6) (floor-self (b .u)) su (d.lead-eq 𝓥 (n .U-lead) refl (sym (ρ .cast-one))) one≢ (omega arith) in
+      let (ex, cx) = at-lead (X μ (pt μ (b .m1) (b .m2))) mx lx (n .x) 2 (pmx .short .is-row) (pmx .law μ) sx (d.lead-eq 𝓥 (n .X-M) refl (sym cast-two)) two≢ t in
+      let (ey, cy) = at-lead (Y μ (pt μ (b .n1) (b .n2))) ny ly (n .y) 1 (pny .short .is-row) (pny .law μ) sy (d.lead-eq 𝓥 (n .Y-N) refl (sym (ρ .cast-one))) one≢ (omega arith) in
+      let ux : n .u < n .x = n .u<x in
+      let uy : n .u ≤ n .y = n .u≤y in
+      let hn : ln ≤ n .x = floor-le ρ (n .x) (pnx .short .is-row) (pnx .law μ) sn (n .X-N) in
+      let hm : lm ≤ n .u = floor-le ρ (n .u) (pmy .short .is-row) (pmy .law μ) sm (n .Y-M) in
+      let ha : a₁ ≤ n .u = floor-le ρ (n .u) (cm .is-row) fM sa (n .Z-M) in
+      let hb : b₁ ≤ n .u = floor-le ρ (n .u) (cn .is-row) fN sb (n .Z-N) in
       record {
         lu = lu;
         lx = lx;

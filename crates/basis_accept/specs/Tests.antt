@@ -16,8 +16,9 @@ use Rattle.math_ideals.specs.Tests.{ReducedInNumbers}
 use Rattle.field_open.specs.Refusal.{Accepted}
 use Rattle.basis_record.specs.Record.{setting}
 use Rattle.base_answers.specs.Decides.{Decides}
-use Rattle.step_divide.specs.Rows.{Seven, AreRows, rowsOf}
-use Rattle.basis_reduce.specs.Frame.{Frame, Fine, Meaning, Short, rd, Ser, rowμ}
+use Rattle.basis_record.specs.Seven.{Seven, AreRows, rowsOf}
+use Rattle.basis_reduce.specs.Frame.{Frame, Fine, Meaning, Short, rd, rowμ, pt, X, Y, Ltμ, Hasμ}
+use Rattle.basis_scale.specs.Based.{Z}
 
 -- ---- sizes
 pub record ShapedIn (F : Frame) (top : ℕ) (b : Seven) : Type 0 where

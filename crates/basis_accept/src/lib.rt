@@ -1,16 +1,18 @@
 // Refusal 9: all tests of a record. Each is two-sided. specs/Tests.antt has what they decide; proofs/ has that lengths of polynomial parts decide
-// the sizes (Shapes). Crate shape has the tests of numbers and lengths, crate basis_lattice those of membership.
+// the sizes (Shapes). Crate basis_shape has the tests of numbers and lengths, crate basis_lattice those of membership.
+use basis_record::load;
 use basis_lattice::under;
+use poly_factors::gcd;
+use poly_rows::cross_in;
+use poly_rows::rapid_of;
+use poly_rows::size;
 use basis_reduce::Bounds;
 use basis_reduce::part;
 use basis_scale::load;
 use basis_shape::below;
 use basis_shape::narrow;
 use basis_shape::shape;
-use poly_rows::cross;
-use poly_rows::gcd;
-use poly_rows::size;
-ghost use Rattle.step_divide.specs.Rows.{seven};
+ghost use Rattle.basis_record.specs.Seven.{seven};
 ghost use Rattle.basis_field.specs.Known.{Known};
 ghost use Rattle.basis_reduce.specs.Given.{given};
 ghost use Rattle.basis_accept.specs.Answer.{PassIn, Passes, Accepts};
@@ -37,8 +39,11 @@ fn shaped(
     let my = part(f, true, m1, m2, r, w);
     let nx = part(f, false, n1, n2, r, w);
     let ny = part(f, true, n1, n2, r, w);
-    let zm = cross(p, 2, m0, 1, 0, &mx);
-    let zn = cross(p, 2, n0, 1, 0, &nx);
+    let q = rapid_of(p);
+    let mut zm = *m0;
+    let mut zn = *n0;
+    cross_in(p, q, 2, &mut zm, 1, 0, &mx, 32);
+    cross_in(p, q, 2, &mut zn, 1, 0, &nx, 32);
     shape(u, &mx, &my, &nx, &ny, &zm, &zn)
 }
 

@@ -1,5 +1,6 @@
 -- Rank and closure: from the answers on U, M and N to `Under`.
---   e-in, e-nonzero, e-inverts    e = M1 N2 − M2 N1 and the inverse of its leading coefficient
+--   lengths-in                    what `lengths_of` asks
+--   e-nonzero, e-inverts          e = M1 N2 − M2 N1 and the inverse of its leading coefficient
 --   keep                          what `keeps` asks
 --   no-rank no-U no-M of-N        the answer of `under`
 --   under-one                     two answers of one question are equal
@@ -20,20 +21,24 @@ use Rattle.math_rows.specs.Made.{reading}
 use Rattle.math_rows.specs.Row.{Size}
 use Rattle.math_rows.proofs.Rows.{size-le}
 use Rattle.math_rows.proofs.Floors.{zero-row}
+use Rattle.poly_rows.specs.Leaf.{Cut, Short}
+use Rattle.poly_rows.specs.Terms.{Ready}
+use Rattle.poly_rows.specs.Division.{Inverts}
 use Rattle.poly_rows.proofs.Leaf.{size-one, zeros-row, zeros-size}
+use Rattle.poly_rows.proofs.Lengths.{short-up, short-cut, fits-short}
 use Rattle.math_ideals.specs.Setting.{P}
 use Rattle.math_ideals.specs.Ideal.{det, Coords}
 use Rattle.math_ideals.proofs.Sizes.{O-path}
 use Rattle.math_ideals.specs.Element.{times-r, times-w}
 use Rattle.field_open.specs.Refusal.{Accepted}
 use Rattle.basis_record.specs.Record.{setting, polyOf}
-use Rattle.basis_reduce.specs.Frame.{Short}
 use Rattle.base_answers.proofs.Tests.{answer-no, settled}
-use Rattle.step_divide.specs.Rows.{Seven, rowsOf, Holds}
-use Rattle.step_divide.specs.Quotients.{Inverts, DetIn, Det}
+use Rattle.basis_record.specs.Seven.{Seven, rowsOf, Holds}
+use Rattle.basis_record.proofs.Sevens.{every}
+use Rattle.basis_lattice.specs.Coordinates.{LengthsIn, Found}
 use Rattle.basis_lattice.specs.Closed.{UnderIn, Under, KeepsIn, Keeps, Kept, Closed, element}
+use Rattle.basis_lattice.specs.declared.Lengths.{Lengths}
 use Rattle.basis_lattice.proofs.Members.{carried}
-use Rattle.basis_lattice.proofs.Products.{fits}
 
 abbrev zeros : List ℕ
 zeros = replicate 32 0
@@ -42,35 +47,54 @@ pub zeros-short : {p : ℕ} → 1 < p → Short p zeros 10
 zeros-short l = record { is-row = zeros-row _ l; above = λ i k. zeros-size .above i (omega arith) }
 
 module _ {p : ℕ} {g h gh : List ℕ} {b : Seven} (i : UnderIn p g h gh b) where
-  pub e-in : DetIn p (b .m1) (b .n2) (b .m2) (b .n1)
-  e-in = let r = i .room in record {
+  pub lengths-in : {mul lim : ℕ} {e : List ℕ} → Ready p mul lim → e ≡ replicate 32 0 → LengthsIn p mul lim 17 b e
+  lengths-in w z = let r = i .room .rows in record {
     modulus = i .given .modulus;
-    hx = r .m1 .is-row;
-    hy = r .n2 .is-row;
-    hz = r .m2 .is-row;
-    hv = r .n1 .is-row;
-    left = fits (r .m1) (r .n2) (omega arith);
-    right = fits (r .m2) (r .n1) (omega arith);
+    ready = w;
+    rows = λ j. r j .is-row;
+    ends = every {b = b} (λ x. Cut x 17) (cut (r 0) (omega arith)) (cut (r 1) (omega arith)) (cut (r 2) (omega arith)) (cut (r 3) (omega arith)) (cut (r 4) (omega arith)) (cut (r 5) (omega arith)) (cut (r 6) (omega arith));
+    left = fits-short (r 1) (r 5) (omega arith);
+    right = fits-short (r 2) (r 4) (omega arith);
+    blank = z;
   }
+    where
+      cut : {x : List ℕ} {n : ℕ} → Short p x n → n ≤ 17 → Cut x 17
+      cut h l = short-cut (short-up h l) (omega arith)
 
-  module _ {e : List ℕ} (he : Det p (b .m1) (b .n2) (b .m2) (b .n1) e) {l : ℕ} (s : Size e l) where
-    pub no-rank : l ≡ 0 → Under p g h gh b false
-    no-rank z G H σ k = answer-no (λ c. c .rank (sym (he .law (σ .prime)) ∙ zero-row (reading p (σ .prime)) e (subst (Size e) z s)))
+  module _ {e : List ℕ} {l : Lengths} (f : Found p b e l) where
+    pub no-rank : l .e ≡ 0 → Under p g h gh b false
+    no-rank z G H σ k = answer-no (λ c. c .rank (sym (f .det .law (σ .prime)) ∙ zero-row (reading p (σ .prime)) e (subst (Size e) z (f .det .size))))
 
-    pub e-nonzero : l ≢ 0 → Nonzero p (getD e (l - 1) 0)
+    pub e-nonzero : l .e ≢ 0 → Nonzero p (getD e (l .e - 1) 0)
     e-nonzero nz = record {
       modulus = i .given .modulus;
       prime = i .given .prime;
-      pos = (let t : getD e (l - 1) 0 ≢ 0 = s .top (omega (arith, nz)) in omega (arith, t));
-      below = he .is-row .each (l - 1);
+      pos = (let t : getD e (l .e - 1) 0 ≢ 0 = f .det .size .top (omega (arith, nz)) in omega (arith, t));
+      below = f .det .is-row .each (l .e - 1);
     }
 
-    module _ {ie : ℕ} (inv : Inverse p (getD e (l - 1) 0) ie) where
+    module _ {ie : ℕ} (inv : Inverse p (getD e (l .e - 1) 0) ie) where
       e-inverts : Inverts p e ie
-      e-inverts = record { below = inv .below; law = λ n t. ap (λ j. (ie * getD e (j - 1) 0) % p) (size-one t s) ∙ ap (λ z. z % p) (mul-comm ie (getD e (l - 1) 0)) ∙ inv .law }
+      e-inverts = record { below = inv .below; law = λ n t. ap (λ j. (ie * getD e (j - 1) 0) % p) (size-one t (f .det .size)) ∙ ap (λ z. z % p) (mul-comm ie (getD e (l .e - 1) 0)) ∙ inv .law }
 
-      pub keep : {va vb vc : List ℕ} → Short p va 17 → Short p vb 10 → Short p vc 10 → KeepsIn p g h gh va vb vc b e ie
-      keep ha hb hc = record { given = i .given; room = i .room; ha = ha; hb = hb; hc = hc; he = he; by-e = e-inverts }
+      pub keep : {mul lim lg lh lk na nb nc : ℕ} {va vb vc : List ℕ} → Ready p mul lim → Size g lg → Size h lh → Size gh lk → Short p va 17 → Short p vb 10 → Short p vc 10
+          → Size va na → Size vb nb → Size vc nc → KeepsIn p mul lim g lg h lh gh lk va na vb nb vc nc b l e ie
+      keep w sg sh sk ha hb hc sa sb sc = record {
+        given = i .given;
+        ready = w;
+        sg = sg;
+        sh = sh;
+        sk = sk;
+        room = i .room;
+        ha = ha;
+        hb = hb;
+        hc = hc;
+        sa = sa;
+        sb = sb;
+        sc = sc;
+        found = f;
+        by-e = e-inverts;
+      }
 
     -- r U and w U, where U has no part of r and w
     module _ {G H : List ℕ} (σ : Accepted p G H) where
@@ -89,13 +113,13 @@ module _ {p : ℕ} {g h gh : List ℕ} {b : Seven} (i : UnderIn p g h gh b) wher
       kept-one : Closed σ b → Kept σ b (element σ (b .u) zeros zeros)
       kept-one c = record { by-r = subst (Coords (setting σ) (rowsOf σ b)) (sym r-flat) (c .r-one); by-w = subst (Coords (setting σ) (rowsOf σ b)) (sym w-flat) (c .w-one) }
 
-      rank-of : l ≢ 0 → det (setting σ) (rowsOf σ b) .0 ≢ setting σ .𝓥 .L .ops .𝟎
+      rank-of : l .e ≢ 0 → det (setting σ) (rowsOf σ b) .0 ≢ setting σ .𝓥 .L .ops .𝟎
       rank-of nz z =
           let ρ = reading p (σ .prime) in
-          let k : l ≤ 0 = size-le ρ 0 (he .is-row) s (lt-eq (ρ .𝓥) (ρ .𝓥 .lead-zero 0 0) (sym (he .law (σ .prime) ∙ z))) in
+          let k : l .e ≤ 0 = size-le ρ 0 (f .det .is-row) (f .det .size) (lt-eq (ρ .𝓥) (ρ .𝓥 .lead-zero 0 0) (sym (f .det .law (σ .prime) ∙ z))) in
           nz (omega arith)
 
-      closed-of : l ≢ 0 → Kept σ b (element σ (b .u) zeros zeros) → Kept σ b (rowsOf σ b .M) → Kept σ b (rowsOf σ b .N) → Closed σ b
+      closed-of : l .e ≢ 0 → Kept σ b (element σ (b .u) zeros zeros) → Kept σ b (rowsOf σ b .M) → Kept σ b (rowsOf σ b .N) → Closed σ b
       closed-of nz one m n = record {
         rank = rank-of nz;
         r-one = subst (Coords (setting σ) (rowsOf σ b)) r-flat (one .by-r);
@@ -108,13 +132,13 @@ module _ {p : ℕ} {g h gh : List ℕ} {b : Seven} (i : UnderIn p g h gh b) wher
 
     module _ {o : Bool} (hU : Keeps p g h gh (b .u) zeros zeros b o) where
       pub no-U : o ≡ false → Under p g h gh b false
-      no-U f G H σ k = answer-no (λ c. hU G H σ k .no! f (kept-one σ c))
+      no-U t G H σ k = answer-no (λ c. hU G H σ k .no! t (kept-one σ c))
 
       module _ (tU : o ≡ true) {o₁ : Bool} (hM : Keeps p g h gh (b .m0) (b .m1) (b .m2) b o₁) where
         pub no-M : o₁ ≡ false → Under p g h gh b false
-        no-M f G H σ k = answer-no (λ c. hM G H σ k .no! f (record { by-r = c .r-M; by-w = c .w-M }))
+        no-M t G H σ k = answer-no (λ c. hM G H σ k .no! t (record { by-r = c .r-M; by-w = c .w-M }))
 
-        pub of-N : o₁ ≡ true → l ≢ 0 → {o₂ : Bool} → Keeps p g h gh (b .n0) (b .n1) (b .n2) b o₂ → Under p g h gh b o₂
+        pub of-N : o₁ ≡ true → l .e ≢ 0 → {o₂ : Bool} → Keeps p g h gh (b .n0) (b .n1) (b .n2) b o₂ → Under p g h gh b o₂
         of-N t nz hN G H σ k = carried (closed-of σ nz (hU G H σ k .yes! tU) (hM G H σ k .yes! t)) (λ c. record { by-r = c .r-N; by-w = c .w-N }) (hN G H σ k)
 
 pub under-one : {p : ℕ} {g h gh G H : List ℕ} {b : Seven} (σ : Accepted p G H) → Holds σ g h gh → (o q : Bool) → Under p g h gh b o → Under p g h gh b q → o ≡ q

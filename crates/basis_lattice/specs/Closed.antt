@@ -7,7 +7,7 @@
 -- Rows of a basis of a reduced ideal are no longer: crate basis_accept tests that first. Two answers of one question are equal: `under-one`.
 use mathlib.Core.Bool.{Bool}
 use mathlib.Core.List.{List}
-use Prim.Native.Nat.{ℕ}
+use Prim.Native.Nat.{ℕ, zero, suc}
 use Rattle.math_fp.specs.Fp.{Prime}
 use Rattle.num_residue.specs.Residue.{Modulus}
 use Rattle.math_ideals.specs.Element.{O, times-r, times-w}
@@ -15,10 +15,14 @@ use Rattle.math_ideals.specs.Tests.{IsClosed}
 use Rattle.math_ideals.specs.Ideal.{Coords}
 use Rattle.field_open.specs.Refusal.{Accepted}
 use Rattle.basis_record.specs.Record.{setting, polyOf}
-use Rattle.basis_reduce.specs.Frame.{Short}
+use Rattle.math_rows.specs.Row.{Size}
+use Rattle.poly_rows.specs.Leaf.{Short}
+use Rattle.poly_rows.specs.Terms.{Ready}
+use Rattle.poly_rows.specs.Division.{Inverts}
 use Rattle.base_answers.specs.Decides.{Decides}
-use Rattle.step_divide.specs.Rows.{Seven, rowsOf, Holds}
-use Rattle.step_divide.specs.Quotients.{Inverts, Det}
+use Rattle.basis_record.specs.Seven.{Seven, rowAt, rowsOf, Holds}
+use Rattle.basis_lattice.specs.Coordinates.{Found}
+use Rattle.basis_lattice.specs.declared.Lengths.{Lengths}
 
 module _ {p : ℕ} {G H : List ℕ} (σ : Accepted p G H) where
   abbrev pub element : List ℕ → List ℕ → List ℕ → O (setting σ) .El
@@ -31,14 +35,18 @@ module _ {p : ℕ} {G H : List ℕ} (σ : Accepted p G H) where
   abbrev pub Closed : Seven → Type 0
   Closed b = IsClosed (setting σ) (rowsOf σ b)
 
+-- how many coefficients the i-th row has at most
+abbrev pub longest : ℕ → ℕ
+longest zero = 17
+longest (suc zero) = 10
+longest (suc (suc zero)) = 10
+longest (suc (suc (suc zero))) = 17
+longest (suc (suc (suc (suc zero)))) = 10
+longest (suc (suc (suc (suc (suc zero))))) = 10
+longest (suc (suc (suc (suc (suc (suc i)))))) = 17
+
 pub record Room (p : ℕ) (b : Seven) : Type 0 where
-  pub m0 : Short p (b .m0) 17
-  pub m1 : Short p (b .m1) 10
-  pub m2 : Short p (b .m2) 10
-  pub n0 : Short p (b .n0) 17
-  pub n1 : Short p (b .n1) 10
-  pub n2 : Short p (b .n2) 10
-  pub u : Short p (b .u) 17
+  pub rows : (i : ℕ) → Short p (rowAt b i) (longest i)
   pub by-u : Inverts p (b .u) 1
 
 -- the field's rows
@@ -56,14 +64,22 @@ pub record UnderIn (p : ℕ) (g h gh : List ℕ) (b : Seven) : Type 0 where
 abbrev pub Under : ℕ → List ℕ → List ℕ → List ℕ → Seven → Bool → Type 0
 Under p g h gh b o = (G H : List ℕ) (σ : Accepted p G H) → Holds σ g h gh → Decides o (Closed σ b)
 
--- e = M1 N2 − M2 N1, not 0, and the inverse of its leading coefficient
-pub record KeepsIn (p : ℕ) (g h gh va vb vc : List ℕ) (b : Seven) (e : List ℕ) (ie : ℕ) : Type 0 where
+-- an element, the rows of the field and the basis with their lengths; e is not 0, and ie the inverse of its leading coefficient
+pub record KeepsIn (p mul lim : ℕ) (g : List ℕ) (lg : ℕ) (h : List ℕ) (lh : ℕ) (gh : List ℕ) (lk : ℕ) (va : List ℕ) (na : ℕ) (vb : List ℕ) (nb : ℕ) (vc : List ℕ) (nc : ℕ)
+    (b : Seven) (l : Lengths) (e : List ℕ) (ie : ℕ) : Type 0 where
   pub given : Given p g h gh
+  pub ready : Ready p mul lim
+  pub sg : Size g lg
+  pub sh : Size h lh
+  pub sk : Size gh lk
   pub room : Room p b
   pub ha : Short p va 17
   pub hb : Short p vb 10
   pub hc : Short p vc 10
-  pub he : Det p (b .m1) (b .n2) (b .m2) (b .n1) e
+  pub sa : Size va na
+  pub sb : Size vb nb
+  pub sc : Size vc nc
+  pub found : Found p b e l
   pub by-e : Inverts p e ie
 
 abbrev pub Keeps : ℕ → List ℕ → List ℕ → List ℕ → List ℕ → List ℕ → List ℕ → Seven → Bool → Type 0

@@ -1,2 +1,4 @@
 pub mod Setting
 pub mod Record
+pub mod Seven
+pub mod Store

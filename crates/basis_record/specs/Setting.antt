@@ -10,7 +10,7 @@ use Rattle.math_fp.specs.Fp.{Prime}
 use Rattle.math_ideals.specs.Setting.{Roots, Setting, at}
 use Rattle.math_rows.specs.Made.{reading}
 use Rattle.math_rows.proofs.Constants as constants
-use Rattle.poly_rows.specs.Factors.{polynomial}
+use Rattle.poly_rows.specs.Polynomial.{polynomial}
 use Rattle.field_open.specs.Refusal.{Accepted}
 use Rattle.field_roots.specs.Pair.{degR, degW}
 use Rattle.field_roots.proofs.Root as root

@@ -24,7 +24,7 @@ use Rattle.poly_lent.specs.Sized.{Mixed}
 use Rattle.basis_reduce.specs.Frame.{Short}
 use Rattle.basis_scale.specs.Levels.{LevelIn, Leveled, Monic}
 use Rattle.basis_scale.proofs.Two.{half}
-use Rattle.basis_scale.proofs.Place.{row-short}
+use Rattle.poly_rows.proofs.Lengths.{row-short}
 
 module _ {p mul lim : ℕ} {u : List ℕ} {lu : ℕ} {k : List ℕ} {n : ℕ} {x : List ℕ} {top : ℕ} (i : LevelIn p mul lim u lu k n x top) where
   pub level-divide : DivIn p k u 1

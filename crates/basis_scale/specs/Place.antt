@@ -22,7 +22,7 @@ use Rattle.poly_rows.specs.Terms.{Ready}
 use Rattle.basis_record.specs.Record.{part}
 use Rattle.basis_reduce.specs.Frame.{Short}
 use Rattle.basis_scale.specs.Levels.{Monic}
-use Rattle.basis_scale.specs.Store.{Stored}
+use Rattle.basis_record.specs.Store.{Stored}
 use Rattle.basis_scale.specs.declared.Factors.{Factors}
 
 -- a + b x + c y

@@ -7,7 +7,7 @@ use Prim.Native.Nat.{ℕ}
 use Rattle.base_answers.specs.Decides.{Decides}
 use Rattle.base_answers.proofs.Tests.{settled}
 use Rattle.field_open.specs.Refusal.{Accepted}
-use Rattle.step_divide.specs.Rows.{Seven, Holds}
+use Rattle.basis_record.specs.Seven.{Seven, Holds}
 use Rattle.basis_lattice.specs.Closed.{Under}
 use Rattle.basis_lattice.proofs.Closing as closing
 use Rattle.field_series.specs.declared.Cubic.{Cubic}

@@ -22,7 +22,7 @@ use Rattle.math_valued.proofs.Coprime.{coprime-unit}
 use Rattle.math_rows.specs.Reading.{Reading}
 use Rattle.math_rows.specs.Made.{reading, derivation}
 use Rattle.math_rows.proofs.Square.{∂, squarefree-unit}
-use Rattle.poly_rows.specs.Factors.{polynomial}
+use Rattle.poly_rows.specs.Polynomial.{polynomial}
 use Rattle.base_lists.specs.Coefficients.{trim}
 use Rattle.examples_lists.specs.Lists.{plus, slope, lists, alike, alikeT}
 use Rattle.math_rows.proofs.Trims.{trim-row}

@@ -26,7 +26,7 @@ use Rattle.math_rows.specs.Made.{reading}
 use Rattle.math_rows.specs.Row.{row, Size}
 use Rattle.math_rows.proofs.Rows.{size-lead}
 use Rattle.num_prime.specs.Table.{largest}
-use Rattle.poly_rows.specs.Factors.{polynomial}
+use Rattle.poly_rows.specs.Polynomial.{polynomial}
 use Rattle.base_lists.proofs.Coefs.{coefs-size}
 use Rattle.field_open.specs.Refusal.{longest, highest, Degree, Fault1, Fault2, Fault3, Fault4, Fault5, Fault6, Fault7, Fault8, Rows12, Rows36, Rows78, Refusal, Accepted}
 use Rattle.field_open.specs.Parts.{Shaped}

@@ -18,7 +18,8 @@ use Rattle.math_rows.specs.Reading.{Reading}
 use Rattle.math_rows.specs.Made.{reading}
 use Rattle.num_prime.specs.Table.{largest}
 use Rattle.poly_rows.specs.Leaf.{Listed}
-use Rattle.poly_rows.specs.Factors.{polynomial, OverBoth, SquareTest, CoprimeTest}
+use Rattle.poly_rows.specs.Polynomial.{polynomial}
+use Rattle.poly_factors.specs.Factors.{OverBoth, SquareTest, CoprimeTest}
 use Rattle.field_open.specs.Refusal.{Fault7, Fault8, Rows78}
 use Rattle.field_open.specs.Parts.{Shaped, FreeTest, factorNumber}
 use Rattle.field_open.proofs.Rows.{row-of}

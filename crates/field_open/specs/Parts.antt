@@ -15,7 +15,7 @@ use Rattle.math_valued.specs.Val.{Valued}
 use Rattle.math_rows.specs.Reading.{Reading}
 use Rattle.math_rows.specs.Made.{reading}
 use Rattle.num_prime.specs.Table.{largest}
-use Rattle.poly_rows.specs.Factors.{polynomial}
+use Rattle.poly_rows.specs.Polynomial.{polynomial}
 use Rattle.field_open.specs.Refusal.{longest, Degree}
 
 abbrev pub ListLength : ℕ → List ℕ → ℕ → Type 0

@@ -24,7 +24,7 @@ use Rattle.math_valued.specs.Polynomial.{Squarefree, Coprime}
 use Rattle.math_valued.specs.Factor.{SquareFactor, CommonFactor}
 use Rattle.math_rows.specs.Reading.{Reading}
 use Rattle.math_rows.specs.Made.{reading}
-pub use Rattle.poly_rows.specs.Factors.{polynomial}
+pub use Rattle.poly_rows.specs.Polynomial.{polynomial}
 use Rattle.num_prime.specs.Table.{largest}
 
 -- the most coefficients of G and of H, and the most that deg G + deg H may be

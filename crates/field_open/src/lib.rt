@@ -4,7 +4,7 @@ ghost use mathlib.Core.Path.{_≡_};
 ghost use Rattle.base_answers.specs.Stage.{End};
 ghost use Rattle.field_open.specs.Refusal.{Rows12, Rows36, Rows78, Refusal, Accepted};
 ghost use Rattle.field_open.specs.Parts.{ListLength, Shaped, FreeTest, factorNumber};
-ghost use Rattle.poly_rows.specs.Factors.{OverBoth};
+ghost use Rattle.poly_factors.specs.Factors.{OverBoth};
 ghost use Rattle.field_open.specs.Opening.{Held, nothing, Opens};
 
 const LONGEST: usize = 13;
@@ -82,11 +82,11 @@ fn both_free(p: u64, x: &[u64; 32], y: &[u64; 32]) -> bool
     requires { ⌜ OverBoth p (now x) (now y) ⌝ }
     ensures { λ r. ⌜ FreeTest p (now (x .entry)) (now (y .entry)) r ⌝ }
 {
-    let left = poly_rows::squarefree(p, x);
+    let left = poly_factors::squarefree(p, x);
     if !left {
         return false;
     }
-    poly_rows::squarefree(p, y)
+    poly_factors::squarefree(p, y)
 }
 
 // 7 comes before 8.
@@ -110,7 +110,7 @@ fn check_factors(p: u64, g: &[u64], h: &[u64]) -> u32
     let x = poly_rows::from_list(g);
     let y = poly_rows::from_list(h);
     let free = both_free(p, &x, &y);
-    let apart = poly_rows::coprime(p, &x, &y);
+    let apart = poly_factors::coprime(p, &x, &y);
     first_factor(free, apart)
 }
 

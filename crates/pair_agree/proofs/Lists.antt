@@ -27,7 +27,7 @@ use Rattle.math_rows.specs.Row.{tab, psum, coefs, row}
 use Rattle.math_rows.proofs.Rows.{psum-ext, psum-scale}
 use Rattle.math_rows.proofs.Tab.{length-tab, at-tab, past-tab}
 use Rattle.math_rows.proofs.Unique.{same-cast, mod-of}
-use Rattle.poly_rows.specs.Factors.{polynomial}
+use Rattle.poly_rows.specs.Polynomial.{polynomial}
 use Rattle.field_open.specs.Refusal.{Degree}
 use Rattle.pair_agree.specs.OneField.{leading, Monic, Agree, Cross}
 

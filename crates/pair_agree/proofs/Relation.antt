@@ -18,7 +18,7 @@ use Rattle.math_valued.proofs.Polynomial.{unit-const}
 use Rattle.math_rows.specs.Reading.{Reading}
 use Rattle.math_rows.specs.Made.{reading}
 use Rattle.math_rows.proofs.Unique.{cast-inj, same-cast}
-use Rattle.poly_rows.specs.Factors.{polynomial}
+use Rattle.poly_rows.specs.Polynomial.{polynomial}
 use Rattle.field_open.specs.Refusal.{Degree, Accepted}
 use Rattle.field_open.proofs.Accept.{degree-has}
 use Rattle.pair_agree.specs.OneField.{leading, Monic, Agree, OneField, Coefficients}

@@ -17,7 +17,7 @@ use Rattle.math_valued.proofs.Compare.{leads-mul, leads-cube, leads-unique, lea
 use Rattle.math_valued.proofs.Polynomial.{const-path, unit-const}
 use Rattle.math_rows.specs.Reading.{Reading}
 use Rattle.math_rows.specs.Made.{reading}
-use Rattle.poly_rows.specs.Factors.{polynomial}
+use Rattle.poly_rows.specs.Polynomial.{polynomial}
 use Rattle.field_open.specs.Refusal.{Degree}
 use Rattle.field_open.proofs.Accept.{degree-leads}
 use Rattle.pair_agree.specs.OneField.{leading}

@@ -12,7 +12,7 @@ use native.Mathlib.Decide.{decLt}
 use lib.ListN.{length, getD}
 use Rattle.math_fp.specs.Fp.{Prime}
 use Rattle.math_rows.specs.Made.{reading}
-use Rattle.poly_rows.specs.Factors.{polynomial}
+use Rattle.poly_rows.specs.Polynomial.{polynomial}
 use Rattle.field_open.specs.Refusal.{Accepted}
 use Rattle.field_open.proofs.Accept.{with-prime}
 use Rattle.math_ideals.specs.Ideal.{Basis}

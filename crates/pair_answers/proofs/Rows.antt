@@ -18,7 +18,7 @@ use Rattle.math_valued.proofs.Polynomial.{P-path}
 use Rattle.math_rows.specs.Reading.{Reading}
 use Rattle.math_rows.specs.Made.{reading}
 use Rattle.math_rows.proofs.Rows.{const-neg, cast-sub, psum-ext, psum-scale, row-tab}
-use Rattle.poly_rows.specs.Factors.{polynomial}
+use Rattle.poly_rows.specs.Polynomial.{polynomial}
 use Rattle.field_open.specs.Refusal.{Accepted}
 use Rattle.unit_rows.specs.Six.{cut}
 use Rattle.math_ideals.specs.Element.{O, sc}

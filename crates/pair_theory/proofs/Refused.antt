@@ -14,7 +14,7 @@ use Rattle.math_valued.specs.Polynomial.{polys, Poly, Divides}
 use Rattle.math_valued.specs.Factor.{SquareFactor, CommonFactor}
 use Rattle.math_valued.proofs.Gcds.{divides-mul}
 use Rattle.math_rows.specs.Made.{reading}
-use Rattle.poly_rows.specs.Factors.{polynomial}
+use Rattle.poly_rows.specs.Polynomial.{polynomial}
 use Rattle.field_open.specs.Refusal.{highest, Degree, Fault3, Fault4, Fault5, Fault6, Fault7, Fault8, Refusal, Accepted}
 use Rattle.field_open.proofs.Accept.{accepted, accepted-none}
 use Rattle.pair_agree.specs.OneField.{Agree, Coefficients, OneField}

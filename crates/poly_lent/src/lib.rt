@@ -5,10 +5,11 @@ use poly_rows::digit;
 use poly_rows::more;
 use poly_rows::once;
 use poly_rows::rest;
+use poly_rows::size;
 use poly_rows::size_from;
 ghost use mathlib.Core.Path.{_≡_};
 ghost use Rattle.poly_lent.specs.Sums.{SignIn, Signed, LayIn, Laid, GatherIn, Gathered, SettleIn, Settled, ReachIn, Reach};
-ghost use Rattle.poly_lent.specs.Sized.{MixIn, Mixed, BothIn, BothOut, TimesBy, TimesOut, DetBy, DetOut, QuotientBy, QuotientOut};
+ghost use Rattle.poly_lent.specs.Sized.{MixIn, Mixed, BothIn, BothOut, TimesBy, TimesOut, DetBy, DetOut, QuotientBy, QuotientOut, LessOut, DivideOut};
 
 // v, or - v mod p
 fn signed(p: u64, minus: bool, v: u64) -> u64
@@ -181,4 +182,46 @@ pub fn quotient_in(
         r[k] = v;
     }
     size_from(r, top)
+}
+
+// r - x y in place of r, and its length; n and m are the lengths of x and y.
+pub fn less_in(
+    p: u64,
+    q: Rapid,
+    x: &[u64; 32],
+    n: usize,
+    y: &[u64; 32],
+    m: usize,
+    r: &mut [u64; 32],
+) -> usize
+    requires { ⌜ MixIn p (q .m) (q .lim) (now x) n (now y) m (now r) ⌝ }
+    ensures { λ l. ⌜ LessOut p (now (x .entry)) (now (y .entry)) (now (r .entry)) (now (r .exit)) l ⌝ }
+{
+    mix_in(p, q, true, x, n, y, m, r);
+    size(r)
+}
+
+// The lengths of a quotient and of a remainder.
+pub struct Halves {
+    pub q: usize,
+    pub r: usize,
+}
+
+// The quotient of a by b into the zero row r, and the remainder in place of a, with their lengths.
+pub fn divide_in(
+    p: u64,
+    q: Rapid,
+    a: &mut [u64; 32],
+    n: usize,
+    b: &[u64; 32],
+    m: usize,
+    il: u64,
+    r: &mut [u64; 32],
+) -> Halves
+    requires { ⌜ QuotientBy p (q .m) (q .lim) (now a) n (now b) m il (now r) ⌝ }
+    ensures { λ o. ⌜ DivideOut p (now (a .entry)) (now (b .entry)) (now (r .exit)) (now (a .exit)) (o .q) (o .r) ⌝ }
+{
+    let l = quotient_in(p, q, a, n, b, m, il, r);
+    let k = less_in(p, q, r, l, b, m, a);
+    Halves { q: l, r: k }
 }

@@ -1,4 +1,4 @@
 pub mod Leaf
 pub mod Terms
 pub mod Division
-pub mod Factors
+pub mod Polynomial

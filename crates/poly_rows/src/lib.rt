@@ -6,12 +6,11 @@ ghost use mathlib.Core.Path.{_≡_};
 ghost use Prim.Native.Nat.{_+_, _*_, _-_, _%_, _<_, _≤_};
 ghost use lib.ListN.{length};
 ghost use Rattle.math_rows.specs.Row.{Size, shiftAt};
-ghost use Rattle.poly_rows.specs.Leaf.{Cut, Once, Given, Both, Summed, Difference, Opposite, ScaleBy, ScaleOut};
-ghost use Rattle.poly_rows.specs.Leaf.{CrossIn, Crossed, CrossBy, CrossOut, MulIn, Product, Listed};
+ghost use Rattle.poly_rows.specs.Leaf.{Cut, Once, Given, Opposite, ScaleBy, ScaleOut};
+ghost use Rattle.poly_rows.specs.Leaf.{CrossBy, CrossOut, MulIn, Product, Listed};
 ghost use Rattle.poly_rows.specs.Terms.{Ready, RestIn, MoreIn, More, PartIn, Part, PlaceIn};
 ghost use Rattle.num_residue.specs.Residue.{Modulus};
-ghost use Rattle.poly_rows.specs.Division.{DivIn, Quotient, Divided, DigitIn, Digit};
-ghost use Rattle.poly_rows.specs.Factors.{Derived, Over, OverBoth, Common, SquareTest, CoprimeTest};
+ghost use Rattle.poly_rows.specs.Division.{DigitIn, Digit};
 ghost use Rattle.math_rows.specs.Sum.{sumTo, termAt};
 
 type Row = [u64; 32];
@@ -76,39 +75,18 @@ pub fn once(p: u64, v: u64) -> u64
     if v < p { v } else { v - p }
 }
 
-pub fn add(p: u64, x: &Row, y: &Row) -> Row
-    requires { ⌜ Both p (now x) (now y) ⌝ }
-    ensures { λ r. ⌜ Summed p (now (x .entry)) (now (y .entry)) r ⌝ }
-{
-    let mut r: Row = [0; 32];
-    let mut i: usize = 0;
-    while i < 32 {
-        r[i] = once(p, x[i] + y[i]);
-        i += 1;
-    }
-    r
-}
-
-pub fn sub(p: u64, x: &Row, y: &Row) -> Row
-    requires { ⌜ Both p (now x) (now y) ⌝ }
-    ensures { λ r. ⌜ Difference p (now (x .entry)) (now (y .entry)) r ⌝ }
-{
-    let mut r: Row = [0; 32];
-    let mut i: usize = 0;
-    while i < 32 {
-        r[i] = once(p, x[i] + (p - y[i]));
-        i += 1;
-    }
-    r
-}
-
-// 0 - x
+// - x
 pub fn minus(p: u64, x: &Row) -> Row
     requires { ⌜ Given p (now x) ⌝ }
     ensures { λ r. ⌜ Opposite p (now (x .entry)) r ⌝ }
 {
-    let z: Row = [0; 32];
-    sub(p, &z, x)
+    let mut r: Row = [0; 32];
+    let mut i: usize = 0;
+    while i < 32 {
+        r[i] = once(p, p - x[i]);
+        i += 1;
+    }
+    r
 }
 
 // c x in place of x, which ends before n.
@@ -145,20 +123,6 @@ pub fn cross_in(p: u64, q: Rapid, s: u64, x: &mut Row, c: u64, k: usize, y: &Row
         x[i] = a;
         i += 1;
     }
-}
-
-// The same as a row of its own, where t^k y fits.
-pub fn cross(p: u64, s: u64, x: &Row, c: u64, k: usize, y: &Row) -> Row
-    requires { ⌜ CrossIn p s (now x) c k (now y) ⌝ }
-    ensures { λ r. ⌜ Crossed p s (now (x .entry)) c k (now (y .entry)) r ⌝ }
-{
-    let q = rapid_of(p);
-    let n = size(x);
-    let m = size(y) + k;
-    let top = if n < m { m } else { n };
-    let mut r = *x;
-    cross_in(p, q, s, &mut r, c, k, y, top);
-    r
 }
 
 // s + x y up to a multiple of p, kept below 2^63.
@@ -264,109 +228,4 @@ pub fn digit(
     let u = part(p, q, b, k + 1, to, at);
     let v = rest(p, s, u);
     rest(p, s, (a[at] + (p - v)) * il)
-}
-
-// The quotient of a by b from the top, one coefficient a turn; il is the inverse of b's leading coefficient.
-fn quotient(p: u64, a: &Row, b: &Row, il: u64) -> Row
-    requires { ⌜ DivIn p (now a) (now b) il ⌝ }
-    ensures { λ q. ⌜ Quotient p (now (a .entry)) (now (b .entry)) q ⌝ }
-{
-    let s = rapid_of(p);
-    let n = size(a);
-    let m = size(b);
-    let top = if n < m { 0 } else { n + 1 - m };
-    let mut q: Row = [0; 32];
-    let mut k = top;
-    while k > 0 {
-        k -= 1;
-        let v = digit(p, s, a, &q, b, m, il, top, k);
-        q[k] = v;
-    }
-    q
-}
-
-// a = q b + r
-pub struct QuotRem {
-    pub q: Row,
-    pub r: Row,
-}
-
-pub fn divide(p: u64, a: &Row, b: &Row, il: u64) -> QuotRem
-    requires { ⌜ DivIn p (now a) (now b) il ⌝ }
-    ensures { λ d. ⌜ Divided p (now (a .entry)) (now (b .entry)) (d .q) (d .r) ⌝ }
-{
-    let q = quotient(p, a, b, il);
-    let s = mul(p, &q, b);
-    let r = sub(p, a, &s);
-    QuotRem { q, r }
-}
-
-// d/dt
-fn derivative(p: u64, x: &Row) -> Row
-    requires { ⌜ Given p (now x) ⌝ }
-    ensures { λ r. ⌜ Derived p (now (x .entry)) r ⌝ }
-{
-    let n = size(x);
-    let mut r: Row = [0; 32];
-    let mut i: usize = 0;
-    while i + 1 < n {
-        r[i] = ((i + 1) as u64) * x[i + 1] % p;
-        i += 1;
-    }
-    r
-}
-
-// A greatest common divisor, by Euclid: the longer of the two loses its leading term, until one is 0.
-pub fn gcd(p: u64, a: &Row, b: &Row) -> Row
-    requires { ⌜ OverBoth p (now a) (now b) ⌝ }
-    ensures { λ r. ⌜ Common p (now (a .entry)) (now (b .entry)) r ⌝ }
-{
-    let q = rapid_of(p);
-    let mut x = *a;
-    let mut y = *b;
-    let mut n = size(a);
-    let mut m = size(b);
-    while m > 0 {
-        if n < m {
-            let t = x;
-            x = y;
-            y = t;
-            let k = n;
-            n = m;
-            m = k;
-        } else {
-            let s = y[m - 1];
-            let c = x[n - 1];
-            cross_in(p, q, s, &mut x, c, n - m, &y, n);
-            n = size_from(&x, n - 1);
-        }
-    }
-    x
-}
-
-// Whether no square of a polynomial that is not constant divides x: whether x is coprime to its derivative, which is 0 for a p-th power.
-pub fn squarefree(p: u64, x: &Row) -> bool
-    requires { ⌜ Over p (now x) ⌝ }
-    ensures { λ r. ⌜ SquareTest p (now (x .entry)) r ⌝ }
-{
-    let d = derivative(p, x);
-    let m = size(&d);
-    if m == 0 {
-        let k = size(x);
-        if k == 1 { true } else { false }
-    } else {
-        let g = gcd(p, x, &d);
-        let n = size(&g);
-        if n == 1 { true } else { false }
-    }
-}
-
-// Whether no polynomial that is not constant divides both.
-pub fn coprime(p: u64, x: &Row, y: &Row) -> bool
-    requires { ⌜ OverBoth p (now x) (now y) ⌝ }
-    ensures { λ r. ⌜ CoprimeTest p (now (x .entry)) (now (y .entry)) r ⌝ }
-{
-    let g = gcd(p, x, y);
-    let n = size(&g);
-    if n == 1 { true } else { false }
 }

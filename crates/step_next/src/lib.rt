@@ -1,11 +1,10 @@
 // The step: from the record of a reduced ideal to that of the ideal divided by m, with the degree of m.
-use basis_reduce::Bounds;
-use basis_scale::load;
+use basis_record::load;
 use basis_scale::reduced_basis;
 use poly_rows::Rapid;
 use poly_rows::rapid_of;
-use step_divide::divided;
-ghost use Rattle.step_divide.specs.Quotients.{three};
+use basis_reduce::Bounds;
+ghost use Rattle.basis_record.specs.Seven.{three};
 ghost use Rattle.step_divide.specs.Generated.{generators};
 ghost use Rattle.step_next.specs.Steps.{AdvanceIn, Advanced};
 ghost use Rattle.step_next.specs.Parting.{PartIn, Parting, AdvanceOn};

@@ -1,0 +1,135 @@
+-- Euclid's loop, and what the trimmed length of a greatest common divisor says: 1, a unit; 2 or more, a common factor; 0, both are 0.
+use mathlib.Core.Path.{_≡_, refl, sym, ap, _∙_, subst}
+use mathlib.Core.Logic.{_≢_}
+use mathlib.Core.Bool.{true, false}
+use mathlib.Core.List.{List}
+use Prim.Native.Nat.{ℕ, zero, suc, _+_, _*_, _-_, _%_, _<_, _≤_}
+use native.Mathlib.Nat.{mod-lt, mul-zero, zero-mod}
+use native.Mathlib.Omega.{arith}
+use lib.ListN.{length, getD}
+use Rattle.math_fp.specs.Fp.{Prime}
+use Rattle.math_valued.specs.Polynomial.{IsUnit}
+use Rattle.math_valued.specs.Factor.{Nonconstant}
+use Rattle.math_valued.specs.Gcd.{IsGcd}
+use Rattle.math_valued.proofs.Degree.{lt-eq}
+use Rattle.math_valued.proofs.Polynomial.{P-path, const-unit}
+use Rattle.math_valued.proofs.Coprime.{coprime-unit, common-nonconst, zero-square, zero-common, zero-divides}
+use Rattle.num_residue.specs.Residue.{Modulus}
+use Rattle.math_rows.specs.Made.{reading, derivation}
+use Rattle.math_rows.specs.Row.{tab, Row, Size, row}
+use Rattle.math_rows.proofs.Tab.{Begun, begun-end, tab-row}
+use Rattle.math_rows.proofs.Rows.{size-le, size-has, size-lead-at}
+use Rattle.math_rows.proofs.Turn.{comb-drop}
+use Rattle.math_rows.proofs.Floors.{zero-row, top-not, sized}
+use Rattle.math_rows.proofs.Derivative.{derivative-law}
+use Rattle.math_rows.proofs.Square.{∂, squarefree-unit, square-factor}
+use Rattle.math_turns.proofs.Euclid.{Span, span-start, span-swap, span-turn, span-gcd}
+use Rattle.poly_rows.specs.Leaf.{Cut, Given, CrossBy, Crossed}
+use Rattle.poly_rows.specs.Terms.{Ready}
+use Rattle.poly_rows.specs.Polynomial.{polynomial}
+use Rattle.poly_factors.specs.Factors.{Derived, OverBoth, Common, SquareTest, CoprimeTest}
+use Rattle.poly_rows.proofs.Leaf.{cross-by}
+
+-- ---- the derivative
+pub derived : (p : ℕ) (x : List ℕ) (n i : ℕ) (r : List ℕ) → Given p x → Size x n → n ≤ i + 1 → Begun 32 (λ j. ((j + 1) * getD x (j + 1) 0) % p) r i → Derived p x r
+derived p x n i r h s l b =
+    let g : 1 < p = h .modulus .big in
+    let e : r ≡ tab 32 (λ j. ((j + 1) * getD x (j + 1) 0) % p) = begun-end 32 _ r i b (λ j u v. ap (λ a. ((j + 1) * a) % p) (s .above (j + 1) (omega arith)) ∙ ap (λ a. a % p) (mul-zero (j + 1)) ∙ zero-mod p) in record {
+      is-row = subst (λ u. Row p u) (sym e) (tab-row p _ (omega arith) (λ j. mod-lt ((j + 1) * getD x (j + 1) 0) (omega arith)));
+      law = λ pr. ap (row (reading p pr)) e ∙ derivative-law (reading p pr) (derivation p pr) x (h .hx .size);
+    }
+
+-- ---- Euclid
+pub record Euclid (p : ℕ) (a b x y : List ℕ) (n m : ℕ) : Type 0 where
+  pub hx : Row p x
+  pub hy : Row p y
+  pub sx : Size x n
+  pub sy : Size y m
+  pub each : (pr : Prime p) → let ρ = reading p pr in Span ρ (row ρ a) (row ρ b) (row ρ x) (row ρ y)
+
+pub euclid-start : (p : ℕ) (a b : List ℕ) (n m : ℕ) → OverBoth p a b → Size a n → Size b m → Euclid p a b a b n m
+euclid-start p a b n m h s u = record { hx = h .hx; hy = h .hy; sx = s; sy = u; each = λ pr. span-start (reading p pr) (row (reading p pr) a) (row (reading p pr) b) }
+
+pub euclid-swap : {p : ℕ} {a b x y : List ℕ} {n m : ℕ} → Euclid p a b x y n m → Euclid p a b y x m n
+euclid-swap {p} i = record { hx = i .hy; hy = i .hx; sx = i .sy; sy = i .sx; each = λ pr. span-swap (reading p pr) (i .each pr) }
+
+module _ {p : ℕ} {a b x y : List ℕ} {n m : ℕ} (i : Euclid p a b x y n m) (pos : 0 < m) (le : m ≤ n) where
+  room : m + (n - m) ≤ n × n ≤ 32
+  room = let f : n ≤ length x = i .sx .fits in let g : length x ≡ 32 = i .hx .size in (omega arith, omega arith)
+
+  pub euclid-room : {mul lim : ℕ} → Modulus p → Ready p mul lim → CrossBy p mul lim (getD y (m - 1) 0) x (getD x (n - 1) 0) (n - m) y n
+  euclid-room h q =
+      let l : getD x (n - 1) 0 < p = i .hx .each (n - 1) in
+      cross-by n h q (i .hy .each (m - 1)) (omega arith) (i .hx) (i .hy) (i .sx) (i .sy) (omega arith) (room .0) (room .1)
+
+  module _ (t : List ℕ) (o : Crossed p (getD y (m - 1) 0) x (getD x (n - 1) 0) (n - m) y t) (k : ℕ) (st : Size t k) where
+    pub euclid-less : Prime p → k < n
+    euclid-less pr =
+        let R = reading p pr in
+        let l : k ≤ n - 1 = size-le R (n - 1) (o .is-row) st (lt-eq (R .𝓥) (comb-drop R (n - m) (size-lead-at R n (i .sx) (omega arith)) (size-lead-at R m (i .sy) pos) (omega arith)) (sym (o .law pr))) in
+        omega arith
+
+    pub euclid-turn : Euclid p a b t y k m
+    euclid-turn = record {
+      hx = o .is-row;
+      hy = i .hy;
+      sx = st;
+      sy = i .sy;
+      each = λ pr. let R = reading p pr in span-turn R (R .cast (getD y (m - 1) 0)) (R .cast (getD x (n - 1) 0)) (n - m) (top-not R m (i .hy) (i .sy) pos) (i .each pr) (o .law pr);
+    }
+
+  -- the leading terms cancel
+  pub euclid-cut : {t : List ℕ} → Crossed p (getD y (m - 1) 0) x (getD x (n - 1) 0) (n - m) y t → Prime p → Cut t (n - 1)
+  euclid-cut {t} o pr =
+      let (k, s) = sized t in
+      let l : k < n = euclid-less t o k s pr in
+      record { size = o .is-row .size; fits = omega (arith, room .1); above = λ j u. s .above j (omega arith) }
+
+pub euclid-end : (p : ℕ) (a b x y : List ℕ) (n m : ℕ) → Euclid p a b x y n m → m ≤ 0 → Common p a b x
+euclid-end p a b x y n m i z = record {
+  is-row = i .hx;
+  law = λ pr. let R = reading p pr in
+      span-gcd R (polynomial p pr a) (polynomial p pr b) (polynomial p pr x) (row R y) (i .each pr) (zero-row R y (subst (λ j. Size y j) (let e : m ≡ 0 = omega arith in e) (i .sy)));
+}
+
+-- a row is its greatest common divisor with 0
+pub common-self : (p : ℕ) (x d : List ℕ) (m : ℕ) → Row p x → Size d m → m ≡ 0 → Common p x d x
+common-self p x d m h s e = record {
+  is-row = h;
+  law = λ pr. let R = reading p pr in span-gcd R (polynomial p pr x) (polynomial p pr d) (polynomial p pr x) (row R d) (span-start R (row R x) (row R d)) (zero-row R d (subst (λ j. Size d j) e s));
+}
+
+-- ---- the tests
+module _ (p : ℕ) (pr : Prime p) (g : List ℕ) (hg : Row p g) where
+  -- a row of length 1 is a unit
+  pub size-unit : Size g 1 → IsUnit (reading p pr .𝓥) (polynomial p pr g)
+  size-unit s = const-unit (reading p pr .𝓥) (polynomial p pr g) (size-has (reading p pr) hg s)
+
+  more-two : (n : ℕ) → Size g (suc (suc n)) → Nonconstant (reading p pr .𝓥) (polynomial p pr g)
+  more-two n s = (n, size-has (reading p pr) hg s)
+
+module _ (p : ℕ) (x y g : List ℕ) (c : Common p x y g) where
+  pub coprime-yes : {n : ℕ} → Size g n → n ≡ 1 → CoprimeTest p x y true
+  coprime-yes s e pr = coprime-unit (reading p pr .𝓥) (c .law pr) (size-unit p pr g (c .is-row) (subst (λ j. Size g j) e s))
+
+  pub coprime-no : (n : ℕ) → Size g n → n ≢ 1 → CoprimeTest p x y false
+  coprime-no zero s f pr =
+      let 𝓥 = reading p pr .𝓥 in
+      let z = zero-row (reading p pr) g s in
+      let X = polynomial p pr x in let Y = polynomial p pr y in let G = polynomial p pr g in
+      zero-common 𝓥 X Y (zero-divides 𝓥 G X z (c .law pr .left)) (zero-divides 𝓥 G Y z (c .law pr .right))
+  coprime-no (suc zero) s f pr = absurd (f refl)
+  coprime-no (suc (suc n)) s f pr = common-nonconst (reading p pr .𝓥) (c .law pr) (more-two p pr g (c .is-row) n s)
+
+module _ (p : ℕ) (x d g : List ℕ) (h : Derived p x d) (c : Common p x d g) where
+  with-derivative : (pr : Prime p) → IsGcd (reading p pr .𝓥) (polynomial p pr x) (∂ (reading p pr) (derivation p pr) (polynomial p pr x)) (polynomial p pr g)
+  with-derivative pr = let 𝓥 = reading p pr .𝓥 in
+      subst (λ u. IsGcd 𝓥 (polynomial p pr x) u (polynomial p pr g)) (P-path 𝓥 {a = polynomial p pr d} {b = ∂ (reading p pr) (derivation p pr) (polynomial p pr x)} (h .law pr)) (c .law pr)
+
+  pub square-yes : {n : ℕ} → Size g n → n ≡ 1 → SquareTest p x true
+  square-yes s e pr = squarefree-unit (reading p pr) (derivation p pr) (polynomial p pr x) (polynomial p pr g) (with-derivative pr) (size-unit p pr g (c .is-row) (subst (λ j. Size g j) e s))
+
+  pub square-no : (n : ℕ) → Size g n → n ≢ 1 → SquareTest p x false
+  square-no zero s f pr = let 𝓥 = reading p pr .𝓥 in zero-square 𝓥 (polynomial p pr x) (zero-divides 𝓥 (polynomial p pr g) (polynomial p pr x) (zero-row (reading p pr) g s) (c .law pr .left))
+  square-no (suc zero) s f pr = absurd (f refl)
+  square-no (suc (suc n)) s f pr = square-factor (reading p pr) (derivation p pr) (polynomial p pr x) (polynomial p pr g) (pr .big) (with-derivative pr) (more-two p pr g (c .is-row) n s)
