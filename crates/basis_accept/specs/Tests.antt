@@ -10,7 +10,7 @@ use Rattle.math_ring.specs.Ring.{Ops, CRing}
 use Rattle.math_valued.specs.Val.{Valued}
 use Rattle.math_valued.specs.Degree.{Has, Lt}
 use Rattle.math_fp.specs.Fp.{Prime}
-use Rattle.num_residue.specs.Residue.{Modulus}
+use Rattle.num_mod.specs.Residue.{IsModulus}
 use Rattle.math_rows.specs.Reading.{Reading}
 use Rattle.math_ideals.specs.Basis.{NoFactor}
 use Rattle.field_open.specs.Refusal.{Accepted}
@@ -53,7 +53,7 @@ Shaped F b o = (μ : Meaning F) → Decides o (Numbers μ b)
 
 -- ---- the common factor
 pub record AloneIn (p : ℕ) (b : Seven) : Type 0 where
-  pub modulus : Modulus p
+  pub modulus : IsModulus p
   pub prime : Prime p
   pub rows : AreRows p b
 

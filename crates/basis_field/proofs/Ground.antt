@@ -14,7 +14,7 @@ use native.Mathlib.Omega.{arith}
 use native.Mathlib.Decide.{decLt}
 use lib.ListN.{length, getD, List·getD-eq-default}
 use Rattle.math_fp.specs.Fp.{Prime}
-use Rattle.num_residue.specs.Residue.{Modulus}
+use Rattle.num_mod.specs.Residue.{IsModulus}
 use Rattle.math_rows.specs.Made.{reading}
 use Rattle.math_rows.specs.Row.{Row, Reads}
 use Rattle.field_open.specs.Refusal.{Accepted}
@@ -73,7 +73,7 @@ module _ {p : ℕ} {G H : List ℕ} (A : Accepted p G H) (c : Cubic) (h : Prefix
   pub frame-is : fieldFrame A (c .r) (c .w) r-reads w-reads ≡ frameOf c
   frame-is = (λ i. frame (sym (holds .prime) i) (c .r) (c .w) (dr-is i) (dw-is i))
 
-  pub modulus : Modulus p
+  pub modulus : IsModulus p
   modulus =
       let l : 5 ≤ p = A .low in
       let u : p ≤ 65535 = A .high in

@@ -23,7 +23,7 @@ use Rattle.math_rows.specs.Row.{Row, Size, row}
 use Rattle.math_rows.proofs.Rows.{row-poly, size-le, size-has}
 use Rattle.math_rows.proofs.Floors.{sized, zero-row}
 use Rattle.math_rows.proofs.Quotient.{division-unique}
-use Rattle.num_residue.specs.Residue.{Modulus}
+use Rattle.num_mod.specs.Residue.{IsModulus}
 use Rattle.poly_rows.specs.Leaf.{MulIn, Product, Summed, Difference}
 use Rattle.poly_rows.specs.Division.{DivIn, Divided}
 use Rattle.book_bytes.specs.Decides.{Decides}
@@ -33,7 +33,7 @@ use Rattle.basis_reduce.specs.Frame.{Short}
 use Rattle.basis_scale.proofs.Place.{size-below}
 use Rattle.basis_lattice.specs.Lattice.{InsideIn, InsideAt, MemberIn, MemberAt}
 
-pub by-inverse : {p il : ℕ} {a b : List ℕ} → Modulus p → Row p a → Row p b → Inverts p b il → DivIn p a b il
+pub by-inverse : {p il : ℕ} {a b : List ℕ} → IsModulus p → Row p a → Row p b → Inverts p b il → DivIn p a b il
 by-inverse m ha hb h = record { modulus = m; ha = ha; hb = hb; hi = h .below; inv = h .law }
 
 module _ {p : ℕ} (pr : Prime p) where
@@ -73,7 +73,7 @@ module _ {p : ℕ} (pr : Prime p) where
         (omega arith, eq)
 
   -- a rest by u times a row of 17
-  pub room-of : {b q r m u : List ℕ} → Modulus p → Divided p b u q r → Short p u 17 → Inverts p u 1 → Short p m 17 → MulIn p r m
+  pub room-of : {b q r m u : List ℕ} → IsModulus p → Divided p b u q r → Short p u 17 → Inverts p u 1 → Short p m 17 → MulIn p r m
   room-of {b} {q} {r} {m} {u} md h hu by hm = record {
     modulus = md;
     hx = h .r-row;

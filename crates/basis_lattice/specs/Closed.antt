@@ -11,7 +11,7 @@ use mathlib.Core.List.{List}
 use Prim.Native.Nat.{ℕ}
 use Rattle.math_fp.specs.Fp.{Prime}
 use Rattle.math_valued.specs.Polynomial.{polys}
-use Rattle.num_residue.specs.Residue.{Modulus}
+use Rattle.num_mod.specs.Residue.{IsModulus}
 use Rattle.math_ideals.specs.Element.{O}
 use Rattle.math_ideals.specs.Ideal.{det}
 use Rattle.math_ideals.proofs.Check.{Coords}
@@ -52,7 +52,7 @@ pub record Room (p : ℕ) (b : Seven) : Type 0 where
 
 -- the field's rows
 pub record Given (p : ℕ) (g h gh : List ℕ) : Type 0 where
-  pub modulus : Modulus p
+  pub modulus : IsModulus p
   pub prime : Prime p
   pub hg : Short p g 13
   pub hh : Short p h 13

@@ -6,7 +6,7 @@ use mathlib.Core.Bool.{Bool}
 use mathlib.Core.List.{List}
 use Prim.Native.Nat.{ℕ}
 use Rattle.math_fp.specs.Fp.{Prime}
-use Rattle.num_residue.specs.Residue.{Modulus}
+use Rattle.num_mod.specs.Residue.{IsModulus}
 use Rattle.math_rows.specs.Made.{reading}
 use Rattle.math_rows.specs.Row.{Row, row}
 use Rattle.book_bytes.specs.Decides.{Decides}
@@ -15,7 +15,7 @@ use Rattle.step_divide.specs.Quotients.{Fits, Inverts, Quotients}
 use Rattle.basis_reduce.specs.Frame.{Short}
 
 pub record InsideIn (p : ℕ) (a b c m n u : List ℕ) : Type 0 where
-  pub modulus : Modulus p
+  pub modulus : IsModulus p
   pub prime : Prime p
   pub ha : Row p a
   pub hb : Row p b
@@ -35,7 +35,7 @@ abbrev pub Inside : ℕ → List ℕ → List ℕ → List ℕ → List ℕ → 
 Inside p a b c m n u o = (pr : Prime p) → Decides o (InsideAt pr a b c m n u)
 
 pub record MemberIn (p : ℕ) (va vb vc : List ℕ) (b : Seven) (e : List ℕ) (ie : ℕ) : Type 0 where
-  pub modulus : Modulus p
+  pub modulus : IsModulus p
   pub prime : Prime p
   pub ha : Row p va
   pub hb : Row p vb

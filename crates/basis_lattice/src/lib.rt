@@ -6,7 +6,7 @@ use poly_rows::divide;
 use poly_rows::mul;
 use poly_rows::size;
 use poly_rows::sub;
-use num_residue::inverse;
+use num_mod::inverse;
 ghost use mathlib.Core.Path.{_≡_};
 ghost use Rattle.step_divide.specs.Rows.{seven};
 ghost use Rattle.basis_lattice.specs.Lattice.{InsideIn, Inside, MemberIn, Member};

@@ -22,7 +22,7 @@ use Rattle.math_rows.proofs.Floors.{sized}
 use Rattle.math_turns.specs.Points.{Pt, Turned}
 use Rattle.math_turns.proofs.Turn.{turned-side, b-lt, c-lt}
 use Rattle.poly_rows.specs.Leaf.{CrossBy, CrossOut}
-use Rattle.poly_rows.specs.Terms.{Ready}
+use Rattle.poly_rows.specs.Coefficients.{Ready}
 use Rattle.basis_reduce.specs.Frame.{Frame, Fine, Meaning, Short, rd, Ser, pt, X, Y, side, Ltμ, shift, rowμ}
 use Rattle.basis_reduce.specs.Leaves.{PartIn, TopIn, Topped}
 use Rattle.basis_reduce.specs.Clear.{Rows, Room, RoomAt, CancelIn, CancelOut}

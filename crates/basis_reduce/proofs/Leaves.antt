@@ -25,7 +25,7 @@ use Rattle.math_rows.specs.Row.{Row, fallAt, tpow, psum, coefs, row, Reads}
 use Rattle.math_rows.proofs.Rows.{const-zero, const-neg, psum-ext, psum-plus, row-upto, row-tab}
 use Rattle.math_rows.proofs.Floors.{fall-in, fall-out}
 use Rattle.math_rows.proofs.Turn.{lt-scale}
-use Rattle.num_residue.specs.Residue.{Modulus}
+use Rattle.num_mod.specs.Residue.{IsModulus}
 use Rattle.basis_reduce.specs.Frame.{Frame, Meaning, Short, rd, pt, side, Ltμ}
 use Rattle.basis_reduce.specs.Leaves.{SumIn, Summed, TermsIn, PlainIn, Terms, along, PartIn, PartAtIn, PartAt, partAt, signed, Parted}
 use Rattle.basis_reduce.proofs.Laid.{Laid, laid-short, laid-row}
@@ -41,7 +41,7 @@ less-square (suc p) y z hy hz =
     let e : N._*_ (suc p) (suc p) ≡ N._+_ (N._+_ (N._*_ p p) (N._+_ p p)) 1 = omega arith in
     omega arith
 
-pub square-small : (p : ℕ) → Modulus p → N._*_ p p < 4611686018427387904
+pub square-small : (p : ℕ) → IsModulus p → N._*_ p p < 4611686018427387904
 square-small p h = let a : p < 2147483648 = h .small in omega (arith, less-square 2147483648 p p a a)
 
 pub square-16 : (p : ℕ) → p < 65536 → N._*_ p p ≤ 4294967296

@@ -17,7 +17,7 @@ use Rattle.math_rows.proofs.Turn.{comb-keep, lead-shift}
 use Rattle.math_rows.proofs.Floors.{sized, floor-lt, floor-le}
 use Rattle.math_turns.specs.Points.{Pt, Turned, Moved}
 use Rattle.math_turns.proofs.Turn.{turned-Y, moved-start, moved-swap, moved-turn, moved-then, moved-has, full}
-use Rattle.poly_rows.specs.Terms.{Ready}
+use Rattle.poly_rows.specs.Coefficients.{Ready}
 use Rattle.basis_reduce.specs.Frame.{Frame, Fine, Meaning, Short, Held, rd, pt, X, Y, Ltμ, Hasμ, shift}
 use Rattle.basis_reduce.specs.Leaves.{Parted, TopIn, Topped}
 use Rattle.basis_reduce.specs.Clear.{Pair, Rows, Room, CancelIn, CancelOut, Clearing, Cleared, ShearIn, Shearing, Sheared, Reduced, Movedμ, Ends, ends}

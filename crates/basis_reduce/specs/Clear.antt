@@ -16,7 +16,7 @@ use mathlib.Core.List.{List}
 use Prim.Native.Nat.{ℕ, suc, _+_, _-_, _<_, _≤_}
 use Rattle.math_rows.specs.Row.{Size}
 use Rattle.math_turns.specs.Points.{Turned, Moved}
-use Rattle.poly_rows.specs.Terms.{Ready}
+use Rattle.poly_rows.specs.Coefficients.{Ready}
 use Rattle.basis_reduce.specs.Frame.{Frame, Fine, Meaning, point, Short, Held, rd, pt, X, Y, D, Ltμ, Hasμ, shift}
 use Rattle.basis_reduce.specs.Leaves.{Topped}
 use Rattle.basis_reduce.specs.declared.Top.{Top}

@@ -19,7 +19,7 @@ use Rattle.math_valued.specs.Degree.{Has, Lt}
 use Rattle.math_rows.specs.Reading.{Reading}
 use Rattle.math_rows.specs.Made.{reading}
 use Rattle.math_rows.specs.Row.{Row, row, tpow, Floor, Reads}
-use Rattle.num_residue.specs.Residue.{Modulus}
+use Rattle.num_mod.specs.Residue.{IsModulus}
 use Rattle.math_turns.specs.Points as T
 use Rattle.math_turns.specs.Points.{Pt}
 pub use Rattle.poly_rows.specs.Leaf.{Short}
@@ -35,7 +35,7 @@ abbrev pub frame : ℕ → List ℕ → List ℕ → ℕ → ℕ → Frame
 frame p r w dr dw = record { p = p; r = r; w = w; dr = dr; dw = dw }
 
 pub record Fine (F : Frame) : Type 0 where
-  pub modulus : Modulus (F .p)
+  pub modulus : IsModulus (F .p)
   pub hr : Row (F .p) (F .r)
   pub hw : Row (F .p) (F .w)
 

@@ -16,14 +16,14 @@ use Rattle.math_valued.specs.Degree.{Has}
 use Rattle.math_rows.specs.Reading.{Reading}
 use Rattle.math_rows.specs.Made.{reading}
 use Rattle.math_rows.specs.Row.{Row, fallAt, Floor}
-use Rattle.num_residue.specs.Residue.{Modulus}
-use Rattle.poly_rows.specs.Terms.{Ready}
+use Rattle.num_mod.specs.Residue.{IsModulus}
+use Rattle.poly_rows.specs.Coefficients.{Ready}
 use Rattle.basis_reduce.specs.Frame.{Frame, Fine, Meaning, Short, rd, pt, side, Ltμ}
 use Rattle.basis_reduce.specs.declared.Top.{Top}
 
 -- ---- sums of products, kept below p p
 pub record SumIn (p q x y z : ℕ) : Type 0 where
-  pub modulus : Modulus p
+  pub modulus : IsModulus p
   pub is-q : q ≡ p * p
   pub hx : x < q
   pub hy : y < p
@@ -39,7 +39,7 @@ along ρ b s d j zero = ρ .𝓥 .K .ops .𝟎
 along ρ b s d j (suc n) = ρ .𝓥 .K .ops .add (along ρ b s d j n) (ρ .𝓥 .K .ops .mul (ρ .cast (getD b n 0)) (ρ .cast (fallAt s (d + n) j)))
 
 pub record TermsIn (p q : ℕ) (b : List ℕ) (n : ℕ) (s : List ℕ) (d j : ℕ) : Type 0 where
-  pub modulus : Modulus p
+  pub modulus : IsModulus p
   pub is-q : q ≡ p * p
   pub hb : Row p b
   pub hs : Row p s

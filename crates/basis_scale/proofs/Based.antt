@@ -21,9 +21,9 @@ use Rattle.math_rows.proofs.Turn.{lead-scale, lt-scale}
 use Rattle.math_turns.specs.Points.{Pt, Moved}
 use Rattle.math_turns.proofs.Turn.{moved-scale, moved-then}
 use Rattle.math_rows.proofs.Unique.{cast-inj}
-use Rattle.num_residue.specs.Residue.{Modulus}
+use Rattle.num_mod.specs.Residue.{IsModulus}
 use Rattle.poly_rows.specs.Leaf.{Scaled, ScaleBy, ScaleOut}
-use Rattle.poly_rows.specs.Terms.{Ready}
+use Rattle.poly_rows.specs.Coefficients.{Ready}
 use Rattle.poly_rows.proofs.Leaf.{size-one}
 use Rattle.poly_lent.proofs.Mixing.{size-cut}
 use Rattle.basis_record.specs.Record.{part}
@@ -46,7 +46,7 @@ positive zero h = absurd (h refl)
 positive (suc v) h = omega arith
 
 -- what `scale_in` asks, where the length is known
-by-size : {p mul lim c : ℕ} {x : List ℕ} {n : ℕ} → Modulus p → Ready p mul lim → c < p → Row p x → Size x n → ScaleBy p mul lim c x n
+by-size : {p mul lim c : ℕ} {x : List ℕ} {n : ℕ} → IsModulus p → Ready p mul lim → c < p → Row p x → Size x n → ScaleBy p mul lim c x n
 by-size m w l h s = record { modulus = m; ready = w; hc = l; hx = record { is-row = h; above = s .above }; fits = size-cut h s .fits }
 
 module _ {F : Frame} {q : Pair} {top : ℕ} {d x1 y1 : List ℕ} (g : BasisIn F q top d x1 y1) where

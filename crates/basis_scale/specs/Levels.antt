@@ -9,11 +9,11 @@ use Rattle.math_ring.specs.Ring.{Ops, CRing}
 use Rattle.math_fp.specs.Fp.{Prime}
 use Rattle.math_valued.specs.Val.{Valued}
 use Rattle.math_valued.specs.Degree.{Has, Lt}
-use Rattle.num_residue.specs.Residue.{Modulus}
+use Rattle.num_mod.specs.Residue.{IsModulus}
 use Rattle.math_rows.specs.Reading.{Reading}
 use Rattle.math_rows.specs.Made.{reading}
 use Rattle.math_rows.specs.Row.{Row, Size, row}
-use Rattle.poly_rows.specs.Terms.{Ready}
+use Rattle.poly_rows.specs.Coefficients.{Ready}
 use Rattle.basis_reduce.specs.Frame.{Short}
 
 -- u, of length n, leads with 1
@@ -24,7 +24,7 @@ pub record Monic (p : ℕ) (u : List ℕ) (n : ℕ) : Type 0 where
   pub lead : getD u (n - 1) 0 ≡ 1
 
 pub record LevelIn (p mul lim : ℕ) (u : List ℕ) (lu : ℕ) (k : List ℕ) (n : ℕ) (x : List ℕ) (top : ℕ) : Type 0 where
-  pub modulus : Modulus p
+  pub modulus : IsModulus p
   pub prime : Prime p
   pub odd : p % 2 ≡ 1
   pub ready : Ready p mul lim

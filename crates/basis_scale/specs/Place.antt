@@ -14,11 +14,11 @@ use Rattle.math_ring.specs.Ring.{Ops, CRing}
 use Rattle.math_fp.specs.Fp.{Prime}
 use Rattle.math_valued.specs.Val.{Valued}
 use Rattle.math_valued.specs.Degree.{Has, Lt}
-use Rattle.num_residue.specs.Residue.{Modulus}
+use Rattle.num_mod.specs.Residue.{IsModulus}
 use Rattle.math_rows.specs.Reading.{Reading}
 use Rattle.math_rows.specs.Made.{reading}
 use Rattle.math_rows.specs.Row.{row}
-use Rattle.poly_rows.specs.Terms.{Ready}
+use Rattle.poly_rows.specs.Coefficients.{Ready}
 use Rattle.basis_record.specs.Record.{part}
 use Rattle.basis_reduce.specs.Frame.{Short}
 use Rattle.basis_scale.specs.Levels.{Monic}
@@ -30,7 +30,7 @@ abbrev pub off : {A : Type 0} → Ops A → A → A → A → A → A → A
 off o x y a b c = o .add a (o .add (o .mul b x) (o .mul c y))
 
 pub record ElementIn (p mul lim top s : ℕ) (b c x x1 : List ℕ) (n1 : ℕ) (y1 : List ℕ) (n2 : ℕ) (u : List ℕ) (lu : ℕ) : Type 0 where
-  pub modulus : Modulus p
+  pub modulus : IsModulus p
   pub ready : Ready p mul lim
   pub prime : Prime p
   pub small : p ≤ 65535

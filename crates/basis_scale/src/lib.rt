@@ -7,7 +7,7 @@ use poly_rows::size_from;
 use basis_reduce::Bounds;
 use basis_reduce::lead_of;
 use basis_reduce::reduced;
-use num_residue::inverse;
+use num_mod::inverse;
 use poly_lent::both_in;
 use poly_lent::mix_in;
 use poly_lent::quotient_in;

@@ -23,7 +23,7 @@ use Rattle.math_rows.proofs.Quotient.{division-unique}
 use Rattle.math_rows.proofs.Unique.{row-unique}
 use Rattle.num_prime.specs.Table.{PrimeTest}
 use Rattle.poly_rows.specs.Leaf.{Summed, Difference, Opposite, ScaleOut, Crossed, CrossOut, Product, Listed}
-use Rattle.poly_rows.specs.Terms.{More}
+use Rattle.poly_rows.specs.Coefficients.{More}
 use Rattle.poly_rows.specs.Division.{DivIn, Quotient, Divided}
 use Rattle.poly_rows.specs.Polynomial.{polynomial}
 use Rattle.poly_factors.specs.Factors.{Over, OverBoth, Common, SquareTest, CoprimeTest}

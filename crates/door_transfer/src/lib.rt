@@ -2,9 +2,9 @@
 // slice are, specs/Code.antt what the parts do.
 use poly_long::scale;
 use pair_agree::Pairing;
-use num_residue::cube_root;
-use num_residue::inverse;
-use num_residue::mul;
+use num_mod::cube_root;
+use num_mod::inverse;
+use num_mod::mul;
 ghost use Rattle.pair_agree.specs.Rows.{Law};
 ghost use Rattle.door_transfer.specs.Transfer.{Transfers};
 ghost use Rattle.door_transfer.specs.Code.{FactorsIn, ExchangeIn, Exchanged, PartIn, Part, MultiplyIn, Multiplied, CarryIn, Carried, CarriedSwapped, Unfit};

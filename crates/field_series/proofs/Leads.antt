@@ -12,10 +12,10 @@ use Rattle.math_fp.specs.Fp.{F, Prime, cls}
 use Rattle.math_fp.proofs.Ring.{F-path, cls-mul, mul-mod-mod, mod-mul-mod}
 use Rattle.math_fp.proofs.Field.{Fld, ppos, cancel-zero}
 use Rattle.math_fp.proofs.Fermat.{cls-nonzero}
-use Rattle.num_residue.specs.Residue.{Modulus, Nonzero, Inverse, CubeRoot}
+use Rattle.num_mod.specs.Residue.{IsModulus, Nonzero, Inverse, CubeRoot}
 use Rattle.field_series.specs.Fill.{Leads, LeadRoot, ThriceInverse}
 
-pub modulus-of : {p g h : ℕ} → Leads p g h → Modulus p
+pub modulus-of : {p g h : ℕ} → Leads p g h → IsModulus p
 modulus-of l = record { big = l .prime .big; small = (omega (arith, l .small)) }
 
 pub product-some : (p : ℕ) → Prime p → (a b : ℕ) → 0 < a → a < p → 0 < b → b < p → 0 < (a * b) % p

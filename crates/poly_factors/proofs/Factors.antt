@@ -14,7 +14,7 @@ use Rattle.math_valued.specs.Gcd.{IsGcd}
 use Rattle.math_valued.proofs.Degree.{lt-eq}
 use Rattle.math_valued.proofs.Polynomial.{P-path, const-unit}
 use Rattle.math_valued.proofs.Coprime.{coprime-unit, common-nonconst, zero-square, zero-common, zero-divides}
-use Rattle.num_residue.specs.Residue.{Modulus}
+use Rattle.num_mod.specs.Residue.{IsModulus}
 use Rattle.math_rows.specs.Made.{reading, derivation}
 use Rattle.math_rows.specs.Row.{tab, Row, Size, row}
 use Rattle.math_rows.proofs.Tab.{Begun, begun-end, tab-row}
@@ -25,7 +25,7 @@ use Rattle.math_rows.proofs.Derivative.{derivative-law}
 use Rattle.math_rows.proofs.Square.{∂, squarefree-unit, square-factor}
 use Rattle.math_turns.proofs.Euclid.{Span, span-start, span-swap, span-turn, span-gcd}
 use Rattle.poly_rows.specs.Leaf.{Cut, Given, CrossBy, Crossed}
-use Rattle.poly_rows.specs.Terms.{Ready}
+use Rattle.poly_rows.specs.Coefficients.{Ready}
 use Rattle.poly_rows.specs.Polynomial.{polynomial}
 use Rattle.poly_factors.specs.Factors.{Derived, OverBoth, Common, SquareTest, CoprimeTest}
 use Rattle.poly_rows.proofs.Leaf.{size-one, cross-by}
@@ -57,7 +57,7 @@ module _ {p : ℕ} {a b x y : List ℕ} {n m : ℕ} (i : Euclid p a b x y n m) (
   room : m + (n - m) ≤ n × n ≤ 32
   room = let f : n ≤ length x = i .sx .fits in let g : length x ≡ 32 = i .hx .size in (omega arith, omega arith)
 
-  pub euclid-room : {mul lim : ℕ} → Modulus p → Ready p mul lim → CrossBy p mul lim (getD y (m - 1) 0) x (getD x (n - 1) 0) (n - m) y n
+  pub euclid-room : {mul lim : ℕ} → IsModulus p → Ready p mul lim → CrossBy p mul lim (getD y (m - 1) 0) x (getD x (n - 1) 0) (n - m) y n
   euclid-room h q = cross-by n
       (record {
         modulus = h;

@@ -23,7 +23,7 @@ use Rattle.math_rows.specs.Made.{reading}
 use Rattle.math_rows.specs.Row.{Row, row, coefs, tpow, psum}
 use Rattle.math_rows.proofs.Rows.{const-neg, psum-ext, row-32, row-upto, tpow-add}
 use Rattle.math_rows.proofs.Unique.{same-cast}
-use Rattle.poly_rows.specs.Terms.{More}
+use Rattle.poly_rows.specs.Coefficients.{More}
 use Rattle.poly_lent.specs.Sized.{signOf}
 use Rattle.poly_lent.specs.Sums.{Loose, Signed, LayIn, Laid, GatherIn, Gathered, SettleIn, Settled}
 

@@ -13,12 +13,12 @@ use lib.ListN.{getD, replicate}
 use Rattle.math_ring.specs.Ring.{Ops, CRing}
 use Rattle.math_fp.specs.Fp.{Prime}
 use Rattle.math_valued.specs.Val.{Valued}
-use Rattle.num_residue.specs.Residue.{Modulus}
+use Rattle.num_mod.specs.Residue.{IsModulus}
 use Rattle.math_rows.specs.Reading.{Reading}
 use Rattle.math_rows.specs.Made.{reading}
 use Rattle.math_rows.specs.Row.{Row, Size, row}
 use Rattle.poly_rows.specs.Leaf.{Cut, Product}
-use Rattle.poly_rows.specs.Terms.{Ready}
+use Rattle.poly_rows.specs.Coefficients.{Ready}
 use Rattle.poly_rows.specs.Division.{DivIn, Quotient, Exact}
 
 abbrev pub signOf : {A : Type 0} → Ops A → Bool → A → A
@@ -26,7 +26,7 @@ signOf o true z = o .neg z
 signOf o false z = z
 
 pub record MixIn (p mul lim : ℕ) (x : List ℕ) (n : ℕ) (y : List ℕ) (m : ℕ) (r : List ℕ) : Type 0 where
-  pub modulus : Modulus p
+  pub modulus : IsModulus p
   pub ready : Ready p mul lim
   pub hx : Row p x
   pub hy : Row p y
@@ -42,7 +42,7 @@ pub record Mixed (p : ℕ) (e : Bool) (x : List ℕ) (n : ℕ) (y : List ℕ) (m
   pub above : (i : ℕ) → n + m ≤ i + 1 → getD o i 0 ≡ getD r i 0
 
 pub record BothIn (p mul lim : ℕ) (x : List ℕ) (nx : ℕ) (y : List ℕ) (ny : ℕ) (z : List ℕ) (nz : ℕ) (v : List ℕ) (nv : ℕ) (r : List ℕ) (l : ℕ) : Type 0 where
-  pub modulus : Modulus p
+  pub modulus : IsModulus p
   pub ready : Ready p mul lim
   pub hx : Row p x
   pub hy : Row p y
@@ -64,7 +64,7 @@ pub record BothOut (p : ℕ) (e : Bool) (x y : List ℕ) (f : Bool) (z v r o : L
   pub size : Size o l
 
 pub record TimesBy (p mul lim : ℕ) (x : List ℕ) (n : ℕ) (y : List ℕ) (m : ℕ) (r : List ℕ) : Type 0 where
-  pub modulus : Modulus p
+  pub modulus : IsModulus p
   pub ready : Ready p mul lim
   pub hx : Row p x
   pub hy : Row p y
@@ -78,7 +78,7 @@ pub record TimesOut (p : ℕ) (x y o : List ℕ) (l : ℕ) : Type 0 where
   pub size : Size o l
 
 pub record DetBy (p mul lim : ℕ) (x : List ℕ) (nx : ℕ) (y : List ℕ) (ny : ℕ) (z : List ℕ) (nz : ℕ) (v : List ℕ) (nv : ℕ) (r : List ℕ) : Type 0 where
-  pub modulus : Modulus p
+  pub modulus : IsModulus p
   pub ready : Ready p mul lim
   pub hx : Row p x
   pub hy : Row p y

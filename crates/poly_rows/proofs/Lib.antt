@@ -1,3 +1,3 @@
 pub mod Leaf
-pub mod Terms
+pub mod Coefficients
 pub mod Division

@@ -23,7 +23,7 @@ use Rattle.math_rows.specs.Made.{reading}
 use Rattle.math_rows.specs.Row.{Size, row}
 use Rattle.math_rows.proofs.Rows.{size-le}
 use Rattle.poly_rows.specs.Leaf.{Product}
-use Rattle.poly_rows.specs.Terms.{Ready}
+use Rattle.poly_rows.specs.Coefficients.{Ready}
 use Rattle.math_ideals.specs.Basis.{Good}
 use Rattle.math_ideals.proofs.Degrees.{small}
 use Rattle.math_chain.proofs.Parts.{Parts, parts, Cut, base, base-d}

@@ -20,7 +20,7 @@ use Rattle.math_valued.proofs.Divide.{p-cancel}
 use Rattle.math_valued.proofs.Gcds.{divides-trans}
 use Rattle.math_valued.proofs.Polynomial.{P-path, const-unit}
 use Rattle.math_valued.proofs.Coprime.{gcd-greatest, zero-divides}
-use Rattle.num_residue.specs.Residue.{Modulus, Nonzero, Inverse}
+use Rattle.num_mod.specs.Residue.{IsModulus, Nonzero, Inverse}
 use Rattle.math_rows.specs.Reading.{Reading}
 use Rattle.math_rows.specs.Made.{reading}
 use Rattle.math_rows.specs.Row.{Row, Size, row}
@@ -30,7 +30,7 @@ use Rattle.poly_rows.specs.Leaf.{MulIn, Product, Difference}
 use Rattle.poly_rows.specs.Division.{DivIn, Exact}
 use Rattle.poly_rows.specs.Polynomial.{polynomial}
 use Rattle.poly_factors.specs.Factors.{Common}
-use Rattle.poly_rows.specs.Terms.{Ready}
+use Rattle.poly_rows.specs.Coefficients.{Ready}
 use Rattle.poly_lent.specs.Sized.{BothOut, TimesBy, DetOut}
 use Rattle.poly_rows.proofs.Leaf.{size-one}
 use Rattle.step_divide.specs.Rows.{Seven}

@@ -14,7 +14,7 @@ use Rattle.math_valued.specs.Degree.{Has, Lt, Leads}
 use Rattle.math_valued.proofs.Degree as d
 use Rattle.math_valued.proofs.Compare.{leads-unique}
 use Rattle.math_valued.proofs.Polynomial.{P-path, not-zero}
-use Rattle.num_residue.specs.Residue.{Modulus}
+use Rattle.num_mod.specs.Residue.{IsModulus}
 use Rattle.math_rows.specs.Reading.{Reading}
 use Rattle.math_rows.specs.Made.{reading}
 use Rattle.math_rows.specs.Row.{Row, Size, row}
@@ -100,7 +100,7 @@ module _ {p cap : ℕ} {g h gh : List ℕ} {ie : ℕ} {b : Seven} (i : Generator
   z : Sizes (i .σ) b
   z = sizes (i .σ) b (i .good)
 
-  pub modulus : Modulus p
+  pub modulus : IsModulus p
   modulus = record { big = i .σ .prime .big; small = (let l : p ≤ 65535 = i .σ .high in omega arith) }
 
   pub g-lt : Lt (ρ .𝓥) (row ρ g) (suc (i .σ .degG))

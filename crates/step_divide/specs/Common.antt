@@ -15,18 +15,18 @@ use Rattle.math_fp.specs.Fp.{Prime}
 use Rattle.math_valued.specs.Val.{Valued}
 use Rattle.math_valued.specs.Degree.{Has}
 use Rattle.math_valued.specs.Polynomial.{polys, Poly, Divides, IsUnit}
-use Rattle.num_residue.specs.Residue.{Modulus}
+use Rattle.num_mod.specs.Residue.{IsModulus}
 use Rattle.math_rows.specs.Reading.{Reading}
 use Rattle.math_rows.specs.Made.{reading}
 use Rattle.math_rows.specs.Row.{Row, Size}
 use Rattle.poly_rows.specs.Leaf.{Opposite}
-use Rattle.poly_rows.specs.Terms.{Ready}
+use Rattle.poly_rows.specs.Coefficients.{Ready}
 use Rattle.poly_rows.specs.Division.{DivIn, Exact}
 use Rattle.poly_rows.specs.Polynomial.{polynomial}
 use Rattle.step_divide.specs.Quotients.{Fits}
 
 pub record FourRows (p : ℕ) (x0 x2 y0 y2 : List ℕ) : Type 0 where
-  pub modulus : Modulus p
+  pub modulus : IsModulus p
   pub prime : Prime p
   pub h0 : Row p x0
   pub h2 : Row p x2
@@ -98,7 +98,7 @@ pub record Taken (p : ℕ) (x0 x2 y0 y2 : List ℕ) (o : Four) (l : ℕ) : Type 
 
 -- ---- in place
 pub record NegateIn (p : ℕ) (x : List ℕ) (n : ℕ) : Type 0 where
-  pub modulus : Modulus p
+  pub modulus : IsModulus p
   pub hx : Row p x
   pub sx : Size x n
 

@@ -15,7 +15,7 @@ use Rattle.math_valued.specs.Degree.{Has}
 use Rattle.math_rows.specs.Reading.{Reading}
 use Rattle.math_rows.specs.Made.{reading}
 use Rattle.math_rows.specs.Row.{Row, Size, row}
-use Rattle.poly_rows.specs.Terms.{Ready}
+use Rattle.poly_rows.specs.Coefficients.{Ready}
 use Rattle.math_ideals.specs.Basis.{Good}
 use Rattle.math_chain.proofs.Parts.{Parts, Cut, x1, y1, base}
 use Rattle.field_open.specs.Refusal.{Accepted}

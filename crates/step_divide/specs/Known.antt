@@ -7,7 +7,7 @@ use mathlib.Core.List.{List}
 use Prim.Native.Nat.{ℕ}
 use lib.ListN.{replicate}
 use Rattle.math_rows.specs.Row.{Size}
-use Rattle.poly_rows.specs.Terms.{Ready}
+use Rattle.poly_rows.specs.Coefficients.{Ready}
 use Rattle.step_divide.specs.Rows.{Seven}
 use Rattle.step_divide.specs.Quotients.{Three, CoordsIn, Coordinates}
 use Rattle.step_divide.specs.declared.Spans.{Spans}

@@ -12,7 +12,7 @@ use Rattle.math_ring.specs.Ring.{Ops, CRing}
 use Rattle.math_fp.specs.Fp.{Prime}
 use Rattle.math_valued.specs.Val.{Valued}
 use Rattle.math_valued.specs.Degree.{Lt}
-use Rattle.num_residue.specs.Residue.{Modulus}
+use Rattle.num_mod.specs.Residue.{IsModulus}
 use Rattle.math_rows.specs.Reading.{Reading}
 use Rattle.math_rows.specs.Made.{reading}
 use Rattle.math_rows.specs.Row.{Row, Size, row}
@@ -36,7 +36,7 @@ pub record Inverts (p : ℕ) (b : List ℕ) (il : ℕ) : Type 0 where
   pub law : (n : ℕ) → Size b n → (il * getD b (n - 1) 0) % p ≡ 1
 
 pub record DetIn (p : ℕ) (x y z v : List ℕ) : Type 0 where
-  pub modulus : Modulus p
+  pub modulus : IsModulus p
   pub hx : Row p x
   pub hy : Row p y
   pub hz : Row p z
@@ -66,7 +66,7 @@ module _ {p : ℕ} (pr : Prime p) where
     pub U-α : row (reading p pr) va ⊕ ⊖ (β ⊗ row (reading p pr) (b .m0) ⊕ γ ⊗ row (reading p pr) (b .n0)) ≡ row (reading p pr) (b .u) ⊗ α
 
 pub record CoordsIn (p : ℕ) (va vb vc : List ℕ) (b : Seven) (e : List ℕ) (ie : ℕ) : Type 0 where
-  pub modulus : Modulus p
+  pub modulus : IsModulus p
   pub ha : Row p va
   pub hb : Row p vb
   pub hc : Row p vc

@@ -9,7 +9,7 @@ use mathlib.Core.List.{List}
 use Prim.Native.Nat.{ℕ}
 use lib.ListN.{replicate}
 use Rattle.math_rows.specs.Row.{Row, Size}
-use Rattle.poly_rows.specs.Terms.{Ready}
+use Rattle.poly_rows.specs.Coefficients.{Ready}
 use Rattle.math_ideals.specs.Element.{O}
 use Rattle.math_ideals.proofs.Check.{Coords}
 use Rattle.math_ideals.proofs.Tests.{times-r, times-w}

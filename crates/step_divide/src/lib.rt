@@ -302,7 +302,7 @@ fn taken_off(
         Off { cut: 0, d: l }
     } else {
         let c = k[m - 1];
-        let il = num_residue::inverse(p, c);
+        let il = num_mod::inverse(p, c);
         shorten(p, q, x0, a0, &k, m, il);
         shorten(p, q, x2, a2, &k, m, il);
         shorten(p, q, y0, b0, &k, m, il);

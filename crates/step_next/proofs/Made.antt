@@ -10,7 +10,7 @@ use Rattle.math_valued.specs.Degree.{Has, Lt}
 use Rattle.math_valued.specs.Polynomial.{polys, Poly, Divides, IsUnit}
 use Rattle.math_valued.proofs.Degree as d
 use Rattle.math_valued.proofs.Polynomial.{P-path, const-unit}
-use Rattle.num_residue.specs.Residue.{Modulus}
+use Rattle.num_mod.specs.Residue.{IsModulus}
 use Rattle.math_rows.specs.Reading.{Reading}
 use Rattle.math_rows.specs.Made.{reading}
 use Rattle.math_rows.specs.Row.{Row, Size, row}
@@ -110,7 +110,7 @@ degree-of {p} A b rows good lm lu sm su =
     (omega arith, record { x = s .x; u = s .u; M-deg = ev-M (setting A) (rowsOf A b) s; U-deg = s .U-has; eq = omega arith })
 
 -- ---- what `advanced` asks and makes
-pub field-modulus : {p : ℕ} {g h gh : List ℕ} {n dr dw : ℕ} {r w B : List ℕ} → AdvanceIn p g h gh n dr dw r w B → Modulus p
+pub field-modulus : {p : ℕ} {g h gh : List ℕ} {n dr dw : ℕ} {r w B : List ℕ} → AdvanceIn p g h gh n dr dw r w B → IsModulus p
 field-modulus {p} i = let A = i .keeps .accepted in record { big = A .prime .big; small = (let l : p ≤ 65535 = A .high in omega arith) }
 
 module _ {p : ℕ} {g h gh : List ℕ} {n dr dw : ℕ} {r w B : List ℕ} (i : AdvanceIn p g h gh n dr dw r w B) {b : Seven} (l : SevenLoaded B b) where

@@ -6,7 +6,7 @@ use mathlib.Core.Path.{_≡_}
 use mathlib.Core.List.{List}
 use Prim.Native.Nat.{ℕ, _-_}
 use lib.ListN.{replicate}
-use Rattle.poly_rows.specs.Terms.{Ready}
+use Rattle.poly_rows.specs.Coefficients.{Ready}
 use Rattle.step_divide.specs.Rows.{Seven}
 use Rattle.step_divide.specs.Quotients.{Three}
 use Rattle.step_divide.specs.Known.{Blank}

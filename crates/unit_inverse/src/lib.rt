@@ -2,7 +2,7 @@
 use poly_long::clear;
 use poly_long::mix;
 use poly_long::scale;
-use num_residue::inverse;
+use num_mod::inverse;
 use unit_rows::wide;
 ghost use Rattle.unit_inverse.specs.Inverse.{PairIn, Pair, CofactorIn, Cofactor, NormIn, Norm, InvertIn, Inverted};
 

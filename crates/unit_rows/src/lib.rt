@@ -4,7 +4,7 @@ use poly_long::copy;
 use poly_long::quotient;
 use poly_long::scale;
 use poly_long::size;
-use num_residue::inverse;
+use num_mod::inverse;
 ghost use mathlib.Core.Path.{_≡_};
 ghost use Rattle.unit_rows.specs.Six.{ByIn, By, CoordinateIn, Coordinate, TimesIn, Times, TurnIn, Turn, MonicIn, MonicMade};
 ghost use lib.ListN.{length, replicate};

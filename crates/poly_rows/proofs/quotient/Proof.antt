@@ -1,22 +1,31 @@
 -- `poly_rows::quotient` meets its contract: each turn is `dividing-turn`.
-use mathlib.Core.Path.{_≡_}
-use Prim.Native.Nat.{_≤_, _<_, _-_, _+_}
+use mathlib.Core.Path.{_≡_, sym, subst}
+use mathlib.Core.List.{List}
+use Prim.Native.Nat.{ℕ, _≤_, _<_, _-_, _+_}
 use native.Mathlib.Omega.{arith}
 use lib.ListN.{length}
 use mathlib.Core.Logic.{⊎-elim}
+use Rattle.poly_rows.specs.Division.{DivIn, Quotient}
 use Rattle.poly_rows.proofs.Division.{Dividing, dividing-start, dividing-digit, dividing-turn, dividing-end}
 use borrow.Author.Needs.{needs}
 use Rattle.poly_rows.proofs.quotient.Statement.{statement}
 use Rattle.poly_rows.proofs.quotient.Tie as tie
 
+-- p is the number of what is prepared of it
+ask : {p k : ℕ} {a b : List ℕ} {il : ℕ} → k ≡ p → DivIn p a b il → DivIn k a b il
+ask {a = a} {b = b} {il = il} e h = subst (λ j. DivIn j a b il) (sym e) h
+
+back : {p k : ℕ} {a b q : List ℕ} → k ≡ p → Quotient k a b q → Quotient p a b q
+back {a = a} {b = b} {q = q} e h = subst (λ j. Quotient j a b q) e h
+
 abbrev Inv-loop : tie.InvT-loop
-Inv-loop p a b il s n m top q₀ k₀ q k = Dividing p a b il m top q k
+Inv-loop p a b il s n m top q₀ k₀ q k = Dividing (s .p) a b il m top q k
 
 abbrev μ-loop : tie.MeasureT-loop
 μ-loop p a b il s n m top q₀ k₀ q k = k
 
-rapid-of-requires : tie.Need-rapid-of-requires Inv-loop μ-loop
-rapid-of-requires c κs = c .pre .modulus
+prepare-requires : tie.Need-prepare-requires Inv-loop μ-loop
+prepare-requires c κs = c .pre .modulus
 
 size-requires : tie.Need-size-requires Inv-loop μ-loop
 size-requires c κs = c .before .pre .ha .size
@@ -41,13 +50,13 @@ loop-holds c =
     let fy : w .result ≤ length (s .args .b .now) = w .ensures .fits in
     let ly : length (s .args .b .now) ≡ 32 = s .pre .hb .size in
     let t : (z .result + 1 ≤ top + w .result) × (top + w .result ≤ 33) = ⊎-elim (λ u. (omega arith, omega arith)) (λ u. (omega arith, omega arith)) (c .if1 .came) in
-    dividing-start (s .args .p) (s .args .a .now) (s .args .b .now) (s .args .il) (z .result) (w .result) top (s .pre) (z .ensures) (w .ensures) (t .0) (t .1)
+    dividing-start (c .before .before .before .prepare .result .p) (s .args .a .now) (s .args .b .now) (s .args .il) (z .result) (w .result) top (ask (c .before .before .before .prepare .ensures .is) (s .pre)) (z .ensures) (w .ensures) (t .0) (t .1)
 
 sub-k : tie.Need-sub-k Inv-loop μ-loop
 sub-k c = search needs
 
-digit-requires : tie.Need-digit-requires Inv-loop μ-loop
-digit-requires c κs = dividing-digit (c .before .before .before .before .before .before .before .before .pre) (c .before .before .before .loop .inv) (c .before .before .loop-test .taken) _ _ (c .before .before .before .before .before .before .before .rapid-of .ensures)
+quotient-coefficient-requires : tie.Need-quotient-coefficient-requires Inv-loop μ-loop
+quotient-coefficient-requires c κs = let e = c .before .before .before .before .before .before .before .prepare .ensures in dividing-digit (ask (e .is) (c .before .before .before .before .before .before .before .before .pre)) (c .before .before .before .loop .inv) (c .before .before .loop-test .taken) (e .prepared)
 
 mul-q : tie.Need-mul-q Inv-loop μ-loop
 mul-q c = search needs
@@ -64,10 +73,10 @@ loop-less : tie.Need-loop-less Inv-loop μ-loop
 loop-less c = search needs
 
 loop-again : tie.Need-loop-again Inv-loop μ-loop
-loop-again c = dividing-turn (c .before .before .before .before .before .before .before .before .before .pre) (c .before .before .before .before .loop .inv) (c .before .before .before .loop-test .taken) _ (c .digit .ensures)
+loop-again c = dividing-turn (ask (c .before .before .before .before .before .before .before .before .prepare .ensures .is) (c .before .before .before .before .before .before .before .before .before .pre)) (c .before .before .before .before .loop .inv) (c .before .before .before .loop-test .taken) _ (c .quotient-coefficient .ensures)
 
 returns : tie.Need-returns Inv-loop μ-loop
-returns c = dividing-end _ _ _ _ _ _ _ _ (c .before .before .before .before .before .before .pre) (c .before .loop .inv) (c .loop-test .left)
+returns c = let e = c .before .before .before .before .before .prepare .ensures in back (e .is) (dividing-end _ _ _ _ _ _ _ _ (ask (e .is) (c .before .before .before .before .before .before .pre)) (c .before .loop .inv) (c .loop-test .left))
 
 pub quotient-spec : {M : Type 1} → statement M
 quotient-spec =
@@ -75,14 +84,14 @@ quotient-spec =
     (tie.spec
     Inv-loop
     μ-loop
-    rapid-of-requires
+    prepare-requires
     size-requires
     size-requires-2
     add-top
     sub-top
     loop-holds
     sub-k
-    digit-requires
+    quotient-coefficient-requires
     mul-q
     array-write-q
     loop-less

@@ -6,7 +6,7 @@ use Rattle.poly_rows.proofs.Leaf.{difference}
 use borrow.Author.Needs.{needs}
 use Rattle.poly_rows.proofs.sub.Statement.{statement}
 use Rattle.poly_rows.proofs.sub.Tie as tie
-use Rattle.poly_rows.proofs.once.Reads as once-reads
+use Rattle.num_mod.proofs.reduce_once.Reads as reduce-once-reads
 
 abbrev Inv-loop : tie.InvT-loop
 Inv-loop p x y r₀ i₀ r i = (i ≤ 32) × Begun 32 (λ k. (getD x k 0 + (p - getD y k 0)) % p) r i
@@ -17,32 +17,32 @@ abbrev μ-loop : tie.MeasureT-loop
 loop-holds : tie.Need-loop-holds Inv-loop μ-loop
 loop-holds c = (omega arith, begun-start 32 _)
 
-mul-once : tie.Need-mul-once Inv-loop μ-loop
-mul-once c = search needs
+mul-reduce-once : tie.Need-mul-reduce-once Inv-loop μ-loop
+mul-reduce-once c = search needs
 
-element-copy-out-once : tie.Need-element-copy-out-once Inv-loop μ-loop
-element-copy-out-once c = search needs
+element-copy-out-reduce-once : tie.Need-element-copy-out-reduce-once Inv-loop μ-loop
+element-copy-out-reduce-once c = search needs
 
-mul-once-2 : tie.Need-mul-once-2 Inv-loop μ-loop
-mul-once-2 c = search needs
+mul-reduce-once-2 : tie.Need-mul-reduce-once-2 Inv-loop μ-loop
+mul-reduce-once-2 c = search needs
 
-element-copy-out-once-2 : tie.Need-element-copy-out-once-2 Inv-loop μ-loop
-element-copy-out-once-2 c = search needs
+element-copy-out-reduce-once-2 : tie.Need-element-copy-out-reduce-once-2 Inv-loop μ-loop
+element-copy-out-reduce-once-2 c = search needs
 
-sub-once : tie.Need-sub-once Inv-loop μ-loop
-sub-once c =
+sub-reduce-once : tie.Need-sub-reduce-once Inv-loop μ-loop
+sub-reduce-once c =
     let s = c .before .before .before .before in
     let i = c .before .before .before .loop .i in
     omega (arith, s .pre .hy .each i)
 
-add-once : tie.Need-add-once Inv-loop μ-loop
-add-once c =
+add-reduce-once : tie.Need-add-reduce-once Inv-loop μ-loop
+add-reduce-once c =
     let s = c .before .before .before .before in
     let i = c .before .before .before .loop .i in
     omega (arith, s .pre .hx .each i, s .pre .hy .each i, s .pre .modulus .small)
 
-once-requires : tie.Need-once-requires Inv-loop μ-loop
-once-requires c κs =
+reduce-once-requires : tie.Need-reduce-once-requires Inv-loop μ-loop
+reduce-once-requires c κs =
     let s = c .before .before .before .before in
     let i = c .before .before .before .loop .i in
     record { modulus = s .pre .modulus; low = omega (arith, s .pre .hx .each i, s .pre .hy .each i) }
@@ -62,7 +62,7 @@ loop-less c = search needs
 loop-again : tie.Need-loop-again Inv-loop μ-loop
 loop-again c =
     let l = c .before .before .before .before .loop in
-    (omega arith, begun-more 32 _ _ (l .i) _ (l .inv .1) (omega arith) (c .once .ensures))
+    (omega arith, begun-more 32 _ _ (l .i) _ (l .inv .1) (omega arith) (c .reduce-once .ensures))
 
 returns : tie.Need-returns Inv-loop μ-loop
 returns c =
@@ -76,13 +76,13 @@ sub-spec =
     Inv-loop
     μ-loop
     loop-holds
-    mul-once
-    element-copy-out-once
-    mul-once-2
-    element-copy-out-once-2
-    sub-once
-    add-once
-    once-requires
+    mul-reduce-once
+    element-copy-out-reduce-once
+    mul-reduce-once-2
+    element-copy-out-reduce-once-2
+    sub-reduce-once
+    add-reduce-once
+    reduce-once-requires
     mul-r
     array-write-r
     add-i
