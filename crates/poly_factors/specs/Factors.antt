@@ -12,6 +12,8 @@ use Rattle.math_valued.specs.Polynomial.{Squarefree, Coprime}
 use Rattle.math_valued.specs.Factor.{SquareFactor, CommonFactor}
 use Rattle.math_valued.specs.Gcd.{IsGcd}
 use Rattle.num_mod.specs.Residue.{IsModulus}
+use Rattle.num_mod.specs.Prepared.{Prepared}
+use Rattle.num_mod.specs.declared.Modulus.{Modulus}
 use Rattle.math_rows.specs.Made.{reading, derivation}
 use Rattle.math_rows.specs.Row.{Row, row}
 use Rattle.poly_rows.specs.Polynomial.{polynomial}
@@ -30,6 +32,13 @@ pub record OverBoth (p : ℕ) (x y : List ℕ) : Type 0 where
   pub prime : Prime p
   pub hx : Row p x
   pub hy : Row p y
+
+-- a prepared modulus that is prime, and two rows
+pub record CommonIn (q : Modulus) (x y : List ℕ) : Type 0 where
+  pub modulus : Prepared q
+  pub prime : Prime (q .p)
+  pub hx : Row (q .p) x
+  pub hy : Row (q .p) y
 
 pub record Common (p : ℕ) (x y r : List ℕ) : Type 0 where
   pub is-row : Row p r

@@ -18,7 +18,8 @@ use Rattle.math_rows.specs.Reading.{Reading}
 use Rattle.math_rows.specs.Made.{reading}
 use Rattle.math_rows.specs.Row.{Row, row, tpow}
 use Rattle.poly_rows.specs.Leaf.{Cut}
-use Rattle.poly_rows.specs.Coefficients.{Ready}
+use Rattle.num_mod.specs.Prepared.{Prepared}
+use Rattle.num_mod.specs.declared.Modulus.{Modulus}
 use Rattle.poly_lent.specs.Sized.{signOf}
 
 pub record Loose (l : List ℕ) : Type 0 where
@@ -62,12 +63,11 @@ pub record Gathered (p : ℕ) (e : Bool) (x : List ℕ) (n : ℕ) (y : List ℕ)
       row ρ o ≡ k .add (row ρ acc) (signOf k e (k .mul (row ρ x) (row ρ y)))
   pub above : (k : ℕ) → n + m ≤ k + 1 → getD o k 0 ≡ getD acc k 0
 
-pub record SettleIn (p mul lim : ℕ) (acc : List ℕ) (t : ℕ) : Type 0 where
-  pub modulus : IsModulus p
-  pub ready : Ready p mul lim
+pub record SettleIn (q : Modulus) (acc : List ℕ) (t : ℕ) : Type 0 where
+  pub modulus : Prepared q
   pub size : length acc ≡ 32
   pub fits : t ≤ 32
-  pub below : (i : ℕ) → t ≤ i → getD acc i 0 < p
+  pub below : (i : ℕ) → t ≤ i → getD acc i 0 < (q .p)
 
 pub record Settled (p : ℕ) (acc o : List ℕ) : Type 0 where
   pub is-row : Row p o
