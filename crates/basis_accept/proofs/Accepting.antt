@@ -22,7 +22,7 @@ use Rattle.field_open.specs.Refusal.{Accepted}
 use Rattle.basis_record.specs.Record.{setting, basisOf, IsRecord}
 use Rattle.field_series.specs.Answer.{Prefix}
 use Rattle.field_series.specs.declared.Cubic.{Cubic}
-use Rattle.basis_reduce.specs.Frame.{Frame, Fine, Short}
+use Rattle.basis_parts.specs.Frame.{Frame, Fine, Short}
 use Rattle.step_divide.specs.Rows.{Seven, seven, AreRows, rowsOf}
 use Rattle.step_divide.proofs.Products.{Sizes, sizes, monic-inverts}
 use Rattle.basis_scale.specs.Store.{Loaded, SevenLoaded}

@@ -24,8 +24,8 @@ use Rattle.math_rows.proofs.Unique.{cast-inj}
 use Rattle.poly_rows.specs.Leaf.{CrossIn, Crossed}
 use Rattle.book_bytes.specs.Decides.{Decides}
 use Rattle.step_divide.specs.Rows.{Seven}
-use Rattle.basis_reduce.specs.Frame.{Frame, Meaning, Short, rd, Ser, rowμ, pt, X, Y, Ltμ, Hasμ}
-use Rattle.basis_reduce.specs.Leaves.{PartIn, Parted}
+use Rattle.basis_parts.specs.Frame.{Frame, Meaning, Short, rd, Ser, rowμ, pt, X, Y, Ltμ, Hasμ}
+use Rattle.basis_parts.specs.Leaves.{PartIn, Parted}
 use Rattle.basis_scale.specs.Based.{Z}
 use Rattle.basis_shape.specs.Lengths.{Shape}
 use Rattle.basis_accept.specs.Tests.{ShapedIn, Numbers}

@@ -14,7 +14,7 @@ use Rattle.field_series.specs.declared.Cubic.{Cubic}
 use Rattle.basis_field.specs.Known.{Known}
 use Rattle.book_bytes.specs.Decides.{Decides}
 use Rattle.step_divide.specs.Rows.{Seven, rowsOf}
-use Rattle.basis_reduce.specs.Frame.{Short}
+use Rattle.basis_parts.specs.Frame.{Short}
 
 pub record Seventeen (p : ℕ) (b : Seven) : Type 0 where
   pub m0 : Short p (b .m0) 17

@@ -5,14 +5,14 @@ use basis_lattice::under;
 use poly_rows::cross;
 use poly_factors::gcd;
 use poly_rows::size;
-use basis_reduce::Bounds;
-use basis_reduce::part;
+use basis_parts::Bounds;
+use basis_parts::part;
 use basis_shape::below;
 use basis_shape::narrow;
 use basis_shape::shape;
 ghost use Rattle.step_divide.specs.Rows.{seven};
 ghost use Rattle.basis_field.specs.Known.{Known};
-ghost use Rattle.basis_reduce.specs.Given.{given};
+ghost use Rattle.basis_parts.specs.Given.{given};
 ghost use Rattle.basis_accept.specs.Answer.{PassIn, Passes, Accepts};
 ghost use Rattle.basis_accept.specs.Tests.{ShapedIn, Shaped, AloneIn, Alone};
 

@@ -24,7 +24,7 @@ use Rattle.field_roots.proofs.Only.{series-of-reads}
 use Rattle.basis_record.specs.Record.{setting}
 use Rattle.field_series.specs.Answer.{Prefix}
 use Rattle.field_series.specs.declared.Cubic.{Cubic}
-use Rattle.basis_reduce.specs.Frame.{Frame, frame, Fine, Meaning}
+use Rattle.basis_parts.specs.Frame.{Frame, frame, Fine, Meaning}
 use Rattle.basis_scale.proofs.Start.{fieldFrame, meaning}
 use Rattle.basis_field.specs.Known.{Known}
 

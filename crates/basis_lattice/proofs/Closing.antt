@@ -28,7 +28,7 @@ use Rattle.math_ideals.proofs.Sizes.{O-path}
 use Rattle.math_ideals.proofs.Tests.{times-r, times-w}
 use Rattle.field_open.specs.Refusal.{Accepted}
 use Rattle.basis_record.specs.Record.{setting, polyOf}
-use Rattle.basis_reduce.specs.Frame.{Short}
+use Rattle.basis_parts.specs.Frame.{Short}
 use Rattle.book_bytes.proofs.Tests.{answer-no, settled}
 use Rattle.step_divide.specs.Rows.{Seven, rowsOf, Holds}
 use Rattle.step_divide.specs.Quotients.{Inverts, DetIn, Det}

@@ -29,7 +29,7 @@ use Rattle.poly_rows.specs.Division.{DivIn, Divided}
 use Rattle.book_bytes.specs.Decides.{Decides}
 use Rattle.step_divide.specs.Rows.{Seven}
 use Rattle.step_divide.specs.Quotients.{Inverts, Det}
-use Rattle.basis_reduce.specs.Frame.{Short}
+use Rattle.basis_parts.specs.Frame.{Short}
 use Rattle.basis_scale.proofs.Place.{size-below}
 use Rattle.basis_lattice.specs.Lattice.{InsideIn, InsideAt, MemberIn, MemberAt}
 

@@ -18,7 +18,7 @@ use Rattle.math_ideals.proofs.Check.{Coords}
 use Rattle.math_ideals.proofs.Tests.{times-r, times-w}
 use Rattle.field_open.specs.Refusal.{Accepted}
 use Rattle.basis_record.specs.Record.{setting}
-use Rattle.basis_reduce.specs.Frame.{Short}
+use Rattle.basis_parts.specs.Frame.{Short}
 use Rattle.basis_scale.proofs.Place.{size-below, short-lt, row-short}
 use Rattle.book_bytes.specs.Decides.{Decides}
 use Rattle.book_bytes.proofs.Tests.{answer-no}

@@ -18,7 +18,7 @@ use Rattle.math_ideals.proofs.Check.{Coords}
 use Rattle.math_ideals.proofs.Tests.{times-r, times-w}
 use Rattle.field_open.specs.Refusal.{Accepted}
 use Rattle.basis_record.specs.Record.{setting, polyOf}
-use Rattle.basis_reduce.specs.Frame.{Short}
+use Rattle.basis_parts.specs.Frame.{Short}
 use Rattle.book_bytes.specs.Decides.{Decides}
 use Rattle.step_divide.specs.Rows.{Seven, rowsOf, Holds}
 use Rattle.step_divide.specs.Quotients.{Inverts, Det}

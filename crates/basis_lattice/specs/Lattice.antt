@@ -12,7 +12,7 @@ use Rattle.math_rows.specs.Row.{Row, row}
 use Rattle.book_bytes.specs.Decides.{Decides}
 use Rattle.step_divide.specs.Rows.{Seven, AreRows}
 use Rattle.step_divide.specs.Quotients.{Fits, Inverts, Quotients}
-use Rattle.basis_reduce.specs.Frame.{Short}
+use Rattle.basis_parts.specs.Frame.{Short}
 
 pub record InsideIn (p : ℕ) (a b c m n u : List ℕ) : Type 0 where
   pub modulus : IsModulus p

@@ -27,11 +27,11 @@ use Rattle.poly_rows.specs.Coefficients.{Ready}
 use Rattle.poly_rows.proofs.Leaf.{size-one}
 use Rattle.poly_lent.proofs.Mixing.{size-cut}
 use Rattle.basis_record.specs.Record.{part}
-use Rattle.basis_reduce.specs.Frame.{Frame, Meaning, Short, Held, point, rd, Ser, rowμ, pt, X, Y, Ltμ}
-use Rattle.basis_reduce.specs.Leaves.{PartIn, Led}
+use Rattle.basis_parts.specs.Frame.{Frame, Meaning, Short, Held, point, rd, Ser, rowμ, pt, X, Y, Ltμ}
+use Rattle.basis_parts.specs.Leaves.{PartIn, Led}
 use Rattle.basis_reduce.specs.Clear.{Pair, Ends, ClearIn, Reduced}
 use Rattle.basis_scale.specs.declared.Factors.{Factors}
-use Rattle.basis_reduce.proofs.Laid.{zeros-at}
+use Rattle.basis_parts.proofs.Laid.{zeros-at}
 use Rattle.basis_reduce.proofs.Clearing.{part-in, rows-of}
 use Rattle.basis_scale.specs.Levels.{Monic}
 use Rattle.basis_scale.specs.Place.{off, ElementIn, PlacedAt, FillIn, Filled}

@@ -21,7 +21,7 @@ use Rattle.poly_rows.specs.Leaf.{CrossBy, CrossOut}
 use Rattle.poly_rows.specs.Division.{DivIn, Quotient}
 use Rattle.poly_rows.proofs.Leaf.{size-one}
 use Rattle.poly_lent.specs.Sized.{Mixed}
-use Rattle.basis_reduce.specs.Frame.{Short}
+use Rattle.basis_parts.specs.Frame.{Short}
 use Rattle.basis_scale.specs.Levels.{LevelIn, Leveled, Monic}
 use Rattle.basis_scale.proofs.Two.{half}
 use Rattle.basis_scale.proofs.Place.{row-short}

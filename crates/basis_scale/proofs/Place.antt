@@ -25,8 +25,8 @@ use Rattle.poly_rows.specs.Leaf.{Cut, ScaleBy, ScaleOut}
 use Rattle.poly_lent.specs.Sized.{BothIn, BothOut}
 use Rattle.poly_lent.proofs.Mixing.{size-cut}
 use Rattle.basis_record.specs.Record.{part}
-use Rattle.basis_reduce.specs.Frame.{Short}
-use Rattle.basis_reduce.proofs.Laid.{zeros-at}
+use Rattle.basis_parts.specs.Frame.{Short}
+use Rattle.basis_parts.proofs.Laid.{zeros-at}
 use Rattle.basis_scale.specs.Store.{StoreIn, Stored}
 use Rattle.basis_scale.specs.Levels.{LevelIn, Leveled}
 use Rattle.basis_scale.specs.Place.{ElementIn, PlaceIn, PlacedAt, Placed, FillIn, Filled}

@@ -13,7 +13,7 @@ use Rattle.math_valued.proofs.Degree.{k-domain}
 use Rattle.num_mod.specs.Residue.{IsModulus, Nonzero, Inverse}
 use Rattle.math_rows.specs.Reading.{Reading}
 use Rattle.math_rows.specs.Made.{reading}
-use Rattle.basis_reduce.proofs.Leaves.{less-square}
+use Rattle.basis_parts.proofs.Leaves.{less-square}
 use Rattle.basis_scale.specs.Scales.{ScalesIn, Scaling}
 use Rattle.basis_scale.proofs.Two.{cast-two}
 use Rattle.basis_scale.specs.declared.Factors.{Factors}

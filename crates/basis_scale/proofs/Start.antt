@@ -20,7 +20,7 @@ use Rattle.math_chain.proofs.Frame.{pair}
 use Rattle.math_chain.proofs.Moved.{changed-of}
 use Rattle.math_chain.proofs.Correct.{Ends, order-correct}
 use Rattle.basis_record.specs.Record.{part, setting, polyOf, basisOf}
-use Rattle.basis_reduce.specs.Frame.{Frame, frame, Meaning, pt}
+use Rattle.basis_parts.specs.Frame.{Frame, frame, Meaning, pt}
 use Rattle.basis_reduce.specs.Clear as reduced
 use Rattle.basis_scale.specs.Based.{BasedAt, Based, Mpt, Npt, at}
 use Rattle.basis_scale.specs.First.{unit, nothing, units}

@@ -15,7 +15,7 @@ use Rattle.math_rows.specs.Made.{reading}
 use Rattle.math_rows.specs.Row.{Row, row, coefs}
 use Rattle.math_rows.proofs.Tab.{length-tab, at-tab}
 use Rattle.math_rows.proofs.Rows.{row-upto, row-tab, psum-ext}
-use Rattle.basis_reduce.proofs.Laid.{zeros-at}
+use Rattle.basis_parts.proofs.Laid.{zeros-at}
 use Rattle.basis_record.specs.Record.{part}
 use Rattle.basis_scale.specs.Store.{StoreIn, Stored, LoadIn, Loaded}
 

@@ -18,7 +18,7 @@ use Rattle.math_rows.specs.Row.{Size}
 use Rattle.math_turns.specs.Points.{Pt, Moved}
 use Rattle.poly_rows.specs.Coefficients.{Ready}
 use Rattle.basis_record.specs.Record.{part}
-use Rattle.basis_reduce.specs.Frame.{Frame, Meaning, Short, rd, Ser, rowμ, pt, X, Y, Ltμ}
+use Rattle.basis_parts.specs.Frame.{Frame, Meaning, Short, rd, Ser, rowμ, pt, X, Y, Ltμ}
 use Rattle.basis_reduce.specs.Clear.{Pair, Ends, ClearIn, Reduced}
 use Rattle.basis_scale.specs.Place.{off}
 

@@ -7,7 +7,7 @@ use mathlib.Core.Path.{_≡_}
 use mathlib.Core.List.{List}
 use Prim.Native.Nat.{ℕ, suc, _+_, _%_, _≤_}
 use lib.ListN.{set, replicate}
-use Rattle.basis_reduce.specs.Frame.{Frame, Fine, Meaning}
+use Rattle.basis_parts.specs.Frame.{Frame, Fine, Meaning}
 use Rattle.basis_reduce.specs.Clear.{Pair, pair}
 
 abbrev pub nothing : List ℕ

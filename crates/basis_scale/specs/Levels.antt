@@ -14,7 +14,7 @@ use Rattle.math_rows.specs.Reading.{Reading}
 use Rattle.math_rows.specs.Made.{reading}
 use Rattle.math_rows.specs.Row.{Row, Size, row}
 use Rattle.poly_rows.specs.Coefficients.{Ready}
-use Rattle.basis_reduce.specs.Frame.{Short}
+use Rattle.basis_parts.specs.Frame.{Short}
 
 -- u, of length n, leads with 1
 pub record Monic (p : ℕ) (u : List ℕ) (n : ℕ) : Type 0 where

@@ -20,7 +20,7 @@ use Rattle.math_rows.specs.Made.{reading}
 use Rattle.math_rows.specs.Row.{row}
 use Rattle.poly_rows.specs.Coefficients.{Ready}
 use Rattle.basis_record.specs.Record.{part}
-use Rattle.basis_reduce.specs.Frame.{Short}
+use Rattle.basis_parts.specs.Frame.{Short}
 use Rattle.basis_scale.specs.Levels.{Monic}
 use Rattle.basis_scale.specs.Store.{Stored}
 use Rattle.basis_scale.specs.declared.Factors.{Factors}

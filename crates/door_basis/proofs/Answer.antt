@@ -19,7 +19,7 @@ use Rattle.math_ideals.specs.Next.{Start}
 use Rattle.basis_record.specs.Record.{setting, basisOf, IsRecord}
 use Rattle.basis_record.proofs.Unique.{basis-unique}
 use Rattle.math_chain.proofs.Closing.{start-unique}
-use Rattle.basis_reduce.specs.Frame.{Frame}
+use Rattle.basis_parts.specs.Frame.{Frame}
 use Rattle.basis_scale.specs.Based.{Based}
 use Rattle.basis_scale.specs.First.{OrderIn, units, unit, nothing}
 use Rattle.basis_scale.proofs.Start.{fieldFrame, order-start}

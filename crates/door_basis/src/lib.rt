@@ -16,7 +16,7 @@ pub fn first(c: field_series::Cubic) -> [u16; 119]
     let f = c.field;
     let r = c.r;
     let w = c.w;
-    let b = basis_reduce::Bounds {
+    let b = basis_parts::Bounds {
         p: f.p,
         dr: f.dr,
         dw: f.dw,

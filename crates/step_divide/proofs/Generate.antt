@@ -23,7 +23,8 @@ use Rattle.math_rows.specs.Made.{reading}
 use Rattle.math_rows.specs.Row.{Size, row}
 use Rattle.math_rows.proofs.Rows.{size-le}
 use Rattle.poly_rows.specs.Leaf.{Product}
-use Rattle.poly_rows.specs.Coefficients.{Ready}
+use Rattle.num_mod.specs.Prepared.{Prepared}
+use Rattle.num_mod.specs.declared.Modulus.{Modulus}
 use Rattle.math_ideals.specs.Basis.{Good}
 use Rattle.math_ideals.proofs.Degrees.{small}
 use Rattle.math_chain.proofs.Parts.{Parts, parts, Cut, base, base-d}
@@ -41,6 +42,9 @@ use Rattle.step_divide.specs.declared.Lengths.{Lengths}
 use Rattle.step_divide.specs.declared.Cuts.{Cuts}
 use Rattle.step_divide.proofs.Coordinates.{Narrow, r-narrow, w-narrow}
 use Rattle.step_divide.proofs.Products.{Sizes, sizes, modulus, fits-of, g-lt, h-lt, by-e, by-u, quot-r, quot-w}
+
+abbrev of : ℕ → ℕ → ℕ → Modulus
+of p mul lim = record { p = p; m = mul; lim = lim }
 
 module _ {p cap : ℕ} {g h gh : List ℕ} {ie : ℕ} {b : Seven} (i : GeneratorsIn p cap g h gh ie b) where
   abbrev ρ : Reading p
@@ -72,11 +76,11 @@ module _ {p cap : ℕ} {g h gh : List ℕ} {ie : ℕ} {b : Seven} (i : Generator
     ie-is = f .ie-is;
   }
 
-  pub turn-in : {mul lim : ℕ} {e : List ℕ} {l : Lengths} {o : Three} → Ready p mul lim → Measured p g h gh ie b e l → Blank o → TurnIn p mul lim g h gh b l e o
+  pub turn-in : {mul lim : ℕ} {e : List ℕ} {l : Lengths} {o : Three} → Prepared (of p mul lim) → Measured p g h gh ie b e l → Blank o → TurnIn (of p mul lim) g h gh b l e o
   turn-in r m k = record {
     cap = cap;
     inp = subst (λ j. GeneratorsIn p cap g h gh j b) (sym (m .ie-is)) i;
-    ready = r;
+    modulus = r;
     known = record { seven = m .seven; sg = m .sg; sh = m .sh; sgh = m .sgh; det = m .det; se = m .se; ie-is = refl };
     blank = k;
   }
@@ -187,8 +191,8 @@ module _ {p cap : ℕ} {g h gh : List ℕ} {ie : ℕ} {b : Seven} (i : Generator
               ap (λ s. s .0) (ap₂ (λ s u. o .add s (o .neg u)) (ap₂ (o .mul) (sym ec) (sym fa)) (ap₂ (o .mul) (sym ea) (sym fc)) ∙ sym (signs (i .σ .prime))) ∙ t);
         }
 
-    pub take-in : {mul lim : ℕ} {d : List ℕ} → Ready p mul lim → d ≡ replicate 32 0 → TakeIn p mul lim xa (ox .a) (x .c) (ox .c) (y .a) (oy .a) yc (oy .c) d
-    take-in r e = record { inp = cut-in; ready = r; sx0 = na .size; sx2 = tx .spans .sc; sy0 = ty .spans .sa; sy2 = nc .size; blank = e }
+    pub take-in : {mul lim : ℕ} {d : List ℕ} → Prepared (of p mul lim) → d ≡ replicate 32 0 → TakeIn (of p mul lim) xa (ox .a) (x .c) (ox .c) (y .a) (oy .a) yc (oy .c) d
+    take-in r e = record { inp = cut-in; modulus = r; sx0 = na .size; sx2 = tx .spans .sc; sy0 = ty .spans .sa; sy2 = nc .size; blank = e }
 
     -- ---- the generators
     module _ {nc′ mc nb mb u : List ℕ} {c l : ℕ} (t : Taken p xa (x .c) (y .a) yc (four nc′ mc nb mb u c) l) where

@@ -30,7 +30,8 @@ use Rattle.poly_rows.specs.Leaf.{MulIn, Product, Difference}
 use Rattle.poly_rows.specs.Division.{DivIn, Exact}
 use Rattle.poly_rows.specs.Polynomial.{polynomial}
 use Rattle.poly_factors.specs.Factors.{Common}
-use Rattle.poly_rows.specs.Coefficients.{Ready}
+use Rattle.num_mod.specs.Prepared.{Prepared}
+use Rattle.num_mod.specs.declared.Modulus.{Modulus}
 use Rattle.poly_lent.specs.Sized.{BothOut, TimesBy, DetOut}
 use Rattle.poly_rows.proofs.Leaf.{size-one}
 use Rattle.step_divide.specs.Rows.{Seven}
@@ -48,8 +49,8 @@ pub det-out : {p : ℕ} {x y z v o : List ℕ} {l : ℕ} → DetOut p x y z v o 
 det-out h = record { is-row = h .is-row; law = h .law }
 
 -- what `times_in` asks
-pub times-by : {p mul lim n m : ℕ} {x y r : List ℕ} → MulIn p x y → Ready p mul lim → Size x n → Size y m → r ≡ replicate 32 0 → TimesBy p mul lim x n y m r
-times-by h w a b z = record { modulus = h .modulus; ready = w; hx = h .hx; hy = h .hy; sx = a; sy = b; fits = h .room _ _ a b; blank = z }
+pub times-by : {q : Modulus} {n m : ℕ} {x y r : List ℕ} → MulIn (q .p) x y → Prepared q → Size x n → Size y m → r ≡ replicate 32 0 → TimesBy q x n y m r
+times-by h w a b z = record { modulus = w; hx = h .hx; hy = h .hy; sx = a; sy = b; fits = h .room _ _ a b; blank = z }
 
 -- ---- coordinates
 module _ {p : ℕ} {va vb vc : List ℕ} {b : Seven} {e : List ℕ} {ie : ℕ} (c : CoordsIn p va vb vc b e ie)

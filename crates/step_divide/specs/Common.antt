@@ -20,7 +20,8 @@ use Rattle.math_rows.specs.Reading.{Reading}
 use Rattle.math_rows.specs.Made.{reading}
 use Rattle.math_rows.specs.Row.{Row, Size}
 use Rattle.poly_rows.specs.Leaf.{Opposite}
-use Rattle.poly_rows.specs.Coefficients.{Ready}
+use Rattle.num_mod.specs.Prepared.{Prepared}
+use Rattle.num_mod.specs.declared.Modulus.{Modulus}
 use Rattle.poly_rows.specs.Division.{DivIn, Exact}
 use Rattle.poly_rows.specs.Polynomial.{polynomial}
 use Rattle.step_divide.specs.Quotients.{Fits}
@@ -32,6 +33,10 @@ pub record FourRows (p : ℕ) (x0 x2 y0 y2 : List ℕ) : Type 0 where
   pub h2 : Row p x2
   pub k0 : Row p y0
   pub k2 : Row p y2
+
+pub record ContentIn (q : Modulus) (x0 x2 y0 y2 : List ℕ) : Type 0 where
+  pub rows : FourRows (q .p) x0 x2 y0 y2
+  pub modulus : Prepared q
 
 pub record Content (p : ℕ) (x0 x2 y0 y2 r : List ℕ) : Type 0 where
   pub is-row : Row p r
@@ -83,9 +88,9 @@ pub record CutOff (p : ℕ) (x0 x2 y0 y2 : List ℕ) (o : Four) : Type 0 where
   pub hd : Row p (o .d)
   pub law : (pr : Prime p) → Without p pr x0 x2 y0 y2 o
 
-pub record TakeIn (p mul lim : ℕ) (x0 : List ℕ) (a0 : ℕ) (x2 : List ℕ) (a2 : ℕ) (y0 : List ℕ) (b0 : ℕ) (y2 : List ℕ) (b2 : ℕ) (d : List ℕ) : Type 0 where
-  pub inp : CutIn p x0 x2 y0 y2
-  pub ready : Ready p mul lim
+pub record TakeIn (q : Modulus) (x0 : List ℕ) (a0 : ℕ) (x2 : List ℕ) (a2 : ℕ) (y0 : List ℕ) (b0 : ℕ) (y2 : List ℕ) (b2 : ℕ) (d : List ℕ) : Type 0 where
+  pub inp : CutIn (q .p) x0 x2 y0 y2
+  pub modulus : Prepared q
   pub sx0 : Size x0 a0
   pub sx2 : Size x2 a2
   pub sy0 : Size y0 b0
@@ -106,9 +111,9 @@ pub record Negated (p : ℕ) (x o : List ℕ) (n : ℕ) : Type 0 where
   pub opposite : Opposite p x o
   pub size : Size o n
 
-pub record ShortenIn (p mul lim : ℕ) (x : List ℕ) (n : ℕ) (k : List ℕ) (m il : ℕ) : Type 0 where
-  pub inp : DivIn p x k il
-  pub ready : Ready p mul lim
+pub record ShortenIn (q : Modulus) (x : List ℕ) (n : ℕ) (k : List ℕ) (m il : ℕ) : Type 0 where
+  pub inp : DivIn (q .p) x k il
+  pub modulus : Prepared q
   pub sx : Size x n
   pub sk : Size k m
 

@@ -7,7 +7,8 @@ use mathlib.Core.List.{List}
 use Prim.Native.Nat.{ℕ}
 use lib.ListN.{replicate}
 use Rattle.math_rows.specs.Row.{Size}
-use Rattle.poly_rows.specs.Coefficients.{Ready}
+use Rattle.num_mod.specs.Prepared.{Prepared}
+use Rattle.num_mod.specs.declared.Modulus.{Modulus}
 use Rattle.step_divide.specs.Rows.{Seven}
 use Rattle.step_divide.specs.Quotients.{Three, CoordsIn, Coordinates}
 use Rattle.step_divide.specs.declared.Spans.{Spans}
@@ -27,9 +28,9 @@ pub record AreLengths (b : Seven) (l : Lengths) : Type 0 where
   pub n2 : Size (b .n2) (l .n2)
   pub u : Size (b .u) (l .u)
 
-pub record CoordsBy (p mul lim : ℕ) (va : List ℕ) (na : ℕ) (vb : List ℕ) (nb : ℕ) (vc : List ℕ) (nc : ℕ) (b : Seven) (l : Lengths) (e : List ℕ) (o : Three) : Type 0 where
-  pub inp : CoordsIn p va vb vc b e (l .ie)
-  pub ready : Ready p mul lim
+pub record CoordsBy (q : Modulus) (va : List ℕ) (na : ℕ) (vb : List ℕ) (nb : ℕ) (vc : List ℕ) (nc : ℕ) (b : Seven) (l : Lengths) (e : List ℕ) (o : Three) : Type 0 where
+  pub inp : CoordsIn (q .p) va vb vc b e (l .ie)
+  pub modulus : Prepared q
   pub sa : Size va na
   pub sb : Size vb nb
   pub sc : Size vc nc

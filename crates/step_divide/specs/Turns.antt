@@ -9,7 +9,8 @@ use mathlib.Core.List.{List}
 use Prim.Native.Nat.{ℕ}
 use lib.ListN.{replicate}
 use Rattle.math_rows.specs.Row.{Row, Size}
-use Rattle.poly_rows.specs.Coefficients.{Ready}
+use Rattle.num_mod.specs.Prepared.{Prepared}
+use Rattle.num_mod.specs.declared.Modulus.{Modulus}
 use Rattle.math_ideals.specs.Element.{O}
 use Rattle.math_ideals.proofs.Check.{Coords}
 use Rattle.math_ideals.proofs.Tests.{times-r, times-w}
@@ -22,12 +23,12 @@ use Rattle.step_divide.specs.Generated.{GeneratorsIn}
 use Rattle.step_divide.specs.declared.Spans.{Spans}
 use Rattle.step_divide.specs.declared.Lengths.{Lengths}
 
-pub record LengthsIn (p mul lim cap ie : ℕ) (b : Seven) (e : List ℕ) : Type 0 where
+pub record LengthsIn (q : Modulus) (cap ie : ℕ) (b : Seven) (e : List ℕ) : Type 0 where
   pub g : List ℕ
   pub h : List ℕ
   pub gh : List ℕ
-  pub inp : GeneratorsIn p cap g h gh ie b
-  pub ready : Ready p mul lim
+  pub inp : GeneratorsIn (q .p) cap g h gh ie b
+  pub modulus : Prepared q
   pub blank : e ≡ replicate 32 0
 
 pub record Found (p cap lg lh ie : ℕ) (b : Seven) (e : List ℕ) (l : Lengths) : Type 0 where
@@ -48,18 +49,18 @@ pub record Measured (p : ℕ) (g h gh : List ℕ) (ie : ℕ) (b : Seven) (e : Li
   pub se : Size e (l .e)
   pub ie-is : l .ie ≡ ie
 
-pub record TurnIn (p mul lim : ℕ) (g h gh : List ℕ) (b : Seven) (l : Lengths) (e : List ℕ) (o : Three) : Type 0 where
+pub record TurnIn (q : Modulus) (g h gh : List ℕ) (b : Seven) (l : Lengths) (e : List ℕ) (o : Three) : Type 0 where
   pub cap : ℕ
-  pub inp : GeneratorsIn p cap g h gh (l .ie) b
-  pub ready : Ready p mul lim
-  pub known : Measured p g h gh (l .ie) b e l
+  pub inp : GeneratorsIn (q .p) cap g h gh (l .ie) b
+  pub modulus : Prepared q
+  pub known : Measured (q .p) g h gh (l .ie) b e l
   pub blank : Blank o
 
-abbrev pub TurnRIn : (p mul lim : ℕ) (h gh : List ℕ) → Seven → Lengths → List ℕ → Three → Type 0
-TurnRIn p mul lim h gh b l e o = (g : List ℕ) × TurnIn p mul lim g h gh b l e o
+abbrev pub TurnRIn : (q : Modulus) (h gh : List ℕ) → Seven → Lengths → List ℕ → Three → Type 0
+TurnRIn q h gh b l e o = (g : List ℕ) × TurnIn q g h gh b l e o
 
-abbrev pub TurnWIn : (p mul lim : ℕ) (g gh : List ℕ) → Seven → Lengths → List ℕ → Three → Type 0
-TurnWIn p mul lim g gh b l e o = (h : List ℕ) × TurnIn p mul lim g h gh b l e o
+abbrev pub TurnWIn : (q : Modulus) (g gh : List ℕ) → Seven → Lengths → List ℕ → Three → Type 0
+TurnWIn q g gh b l e o = (h : List ℕ) × TurnIn q g h gh b l e o
 
 abbrev pub Says : {p : ℕ} {G H : List ℕ} (σ : Accepted p G H) (b : Seven) → O (setting σ) .El → Three → Type 0
 Says σ b v t = (q : Coords (setting σ) (rowsOf σ b) v) → (polyOf σ (t .a) ≡ q .α) × (polyOf σ (t .b) ≡ q .β) × (polyOf σ (t .c) ≡ q .γ)

@@ -1,6 +1,6 @@
 // The generators of the next ideal, on rows: r m and w m in coordinates by exact quotients, and what they have in common taken off.
-use poly_rows::Rapid;
-use poly_rows::once;
+use num_mod::Modulus;
+use num_mod::reduce_once;
 use poly_rows::size;
 use poly_rows::size_from;
 use poly_lent::both_in;
@@ -12,7 +12,7 @@ ghost use Rattle.step_divide.specs.Rows.{seven};
 ghost use Rattle.step_divide.specs.Quotients.{three, DetIn, Det};
 ghost use Rattle.step_divide.specs.Known.{CoordsBy, CoordsOut};
 ghost use Rattle.step_divide.specs.Turns.{LengthsIn, Found, TurnRIn, TurnedR, TurnWIn, TurnedW};
-ghost use Rattle.step_divide.specs.Common.{FourRows, Content, four, NegateIn, Negated, ShortenIn, Shortened, TakeIn, Taken};
+ghost use Rattle.step_divide.specs.Common.{ContentIn, Content, four, NegateIn, Negated, ShortenIn, Shortened, TakeIn, Taken};
 ghost use Rattle.step_divide.specs.Generated.{generators, DividedIn, Divided};
 
 // x y - z v
@@ -43,8 +43,7 @@ pub struct Lengths {
 
 // The lengths of the seven rows, all of which end before cap, with those of G and H, and e into the zero row e; cap is the length of G H.
 fn lengths_of(
-    p: u64,
-    q: Rapid,
+    q: Modulus,
     ie: u64,
     cap: usize,
     g: usize,
@@ -58,8 +57,8 @@ fn lengths_of(
     u: &[u64; 32],
     e: &mut [u64; 32],
 ) -> Lengths
-    requires { ⌜ LengthsIn p (q .m) (q .lim) cap ie (seven (now m0) (now m1) (now m2) (now n0) (now n1) (now n2) (now u)) (now e) ⌝ }
-    ensures { λ l. ⌜ Found p cap g h ie (seven (now (m0 .entry)) (now (m1 .entry)) (now (m2 .entry)) (now (n0 .entry)) (now (n1 .entry)) (now (n2 .entry)) (now (u .entry))) (now (e .exit)) l ⌝ }
+    requires { ⌜ LengthsIn q cap ie (seven (now m0) (now m1) (now m2) (now n0) (now n1) (now n2) (now u)) (now e) ⌝ }
+    ensures { λ l. ⌜ Found (q .p) cap g h ie (seven (now (m0 .entry)) (now (m1 .entry)) (now (m2 .entry)) (now (n0 .entry)) (now (n1 .entry)) (now (n2 .entry)) (now (u .entry))) (now (e .exit)) l ⌝ }
 {
     let a = size_from(m0, cap);
     let b = size_from(m1, cap);
@@ -68,7 +67,7 @@ fn lengths_of(
     let f = size_from(n1, cap);
     let i = size_from(n2, cap);
     let j = size_from(u, cap);
-    let k = det_in(p, q, m1, b, n2, i, m2, c, n1, f, e);
+    let k = det_in(q, m1, b, n2, i, m2, c, n1, f, e);
     Lengths {
         m0: a,
         m1: b,
@@ -94,8 +93,7 @@ pub struct Spans {
 
 // The coordinates of va + vb r + vc w in a basis whose lengths are known, into three zero rows; va is used up.
 fn coords_in(
-    p: u64,
-    q: Rapid,
+    q: Modulus,
     va: &mut [u64; 32],
     na: usize,
     vb: &[u64; 32],
@@ -115,17 +113,17 @@ fn coords_in(
     b: &mut [u64; 32],
     c: &mut [u64; 32],
 ) -> Spans
-    requires { ⌜ CoordsBy p (q .m) (q .lim) (now va) na (now vb) nb (now vc) nc (seven (now m0) (now m1) (now m2) (now n0) (now n1) (now n2) (now u)) l (now e) (three (now a) (now b) (now c)) ⌝ }
-    ensures { λ o. ⌜ CoordsOut p (now (va .entry)) (now (vb .entry)) (now (vc .entry)) (seven (now (m0 .entry)) (now (m1 .entry)) (now (m2 .entry)) (now (n0 .entry)) (now (n1 .entry)) (now (n2 .entry)) (now (u .entry))) (now (e .entry)) (three (now (a .exit)) (now (b .exit)) (now (c .exit))) o ⌝ }
+    requires { ⌜ CoordsBy q (now va) na (now vb) nb (now vc) nc (seven (now m0) (now m1) (now m2) (now n0) (now n1) (now n2) (now u)) l (now e) (three (now a) (now b) (now c)) ⌝ }
+    ensures { λ o. ⌜ CoordsOut (q .p) (now (va .entry)) (now (vb .entry)) (now (vc .entry)) (seven (now (m0 .entry)) (now (m1 .entry)) (now (m2 .entry)) (now (n0 .entry)) (now (n1 .entry)) (now (n2 .entry)) (now (u .entry))) (now (e .entry)) (three (now (a .exit)) (now (b .exit)) (now (c .exit))) o ⌝ }
 {
     let mut s: [u64; 32] = [0; 32];
     let mut t: [u64; 32] = [0; 32];
-    let ls = det_in(p, q, vb, nb, n2, l.n2, vc, nc, n1, l.n1, &mut s);
-    let lb = quotient_in(p, q, &s, ls, e, l.e, l.ie, b);
-    let lt = det_in(p, q, vc, nc, m1, l.m1, vb, nb, m2, l.m2, &mut t);
-    let lc = quotient_in(p, q, &t, lt, e, l.e, l.ie, c);
-    let lh = both_in(p, q, true, b, lb, m0, l.m0, true, c, lc, n0, l.n0, va, na);
-    let la = quotient_in(p, q, va, lh, u, l.u, 1, a);
+    let ls = det_in(q, vb, nb, n2, l.n2, vc, nc, n1, l.n1, &mut s);
+    let lb = quotient_in(q, &s, ls, e, l.e, l.ie, b);
+    let lt = det_in(q, vc, nc, m1, l.m1, vb, nb, m2, l.m2, &mut t);
+    let lc = quotient_in(q, &t, lt, e, l.e, l.ie, c);
+    let lh = both_in(q, true, b, lb, m0, l.m0, true, c, lc, n0, l.n0, va, na);
+    let la = quotient_in(q, va, lh, u, l.u, 1, a);
     Spans {
         a: la,
         b: lb,
@@ -135,8 +133,7 @@ fn coords_in(
 
 // r m = M2 G H + M0 r + M1 H w in coordinates.
 fn turned_r(
-    p: u64,
-    q: Rapid,
+    q: Modulus,
     h: &[u64; 32],
     gh: &[u64; 32],
     m0: &[u64; 32],
@@ -152,15 +149,14 @@ fn turned_r(
     b: &mut [u64; 32],
     c: &mut [u64; 32],
 ) -> Spans
-    requires { ⌜ TurnRIn p (q .m) (q .lim) (now h) (now gh) (seven (now m0) (now m1) (now m2) (now n0) (now n1) (now n2) (now u)) l (now e) (three (now a) (now b) (now c)) ⌝ }
-    ensures { λ o. ⌜ TurnedR p (now (h .entry)) (now (gh .entry)) (seven (now (m0 .entry)) (now (m1 .entry)) (now (m2 .entry)) (now (n0 .entry)) (now (n1 .entry)) (now (n2 .entry)) (now (u .entry))) (three (now (a .exit)) (now (b .exit)) (now (c .exit))) o ⌝ }
+    requires { ⌜ TurnRIn q (now h) (now gh) (seven (now m0) (now m1) (now m2) (now n0) (now n1) (now n2) (now u)) l (now e) (three (now a) (now b) (now c)) ⌝ }
+    ensures { λ o. ⌜ TurnedR (q .p) (now (h .entry)) (now (gh .entry)) (seven (now (m0 .entry)) (now (m1 .entry)) (now (m2 .entry)) (now (n0 .entry)) (now (n1 .entry)) (now (n2 .entry)) (now (u .entry))) (three (now (a .exit)) (now (b .exit)) (now (c .exit))) o ⌝ }
 {
     let mut x: [u64; 32] = [0; 32];
     let mut z: [u64; 32] = [0; 32];
-    let nx = times_in(p, q, m2, l.m2, gh, l.gh, &mut x);
-    let nz = times_in(p, q, m1, l.m1, h, l.h, &mut z);
+    let nx = times_in(q, m2, l.m2, gh, l.gh, &mut x);
+    let nz = times_in(q, m1, l.m1, h, l.h, &mut z);
     coords_in(
-        p,
         q,
         &mut x,
         nx,
@@ -185,8 +181,7 @@ fn turned_r(
 
 // w m = M1 G H + M2 G r + M0 w in coordinates.
 fn turned_w(
-    p: u64,
-    q: Rapid,
+    q: Modulus,
     g: &[u64; 32],
     gh: &[u64; 32],
     m0: &[u64; 32],
@@ -202,15 +197,14 @@ fn turned_w(
     b: &mut [u64; 32],
     c: &mut [u64; 32],
 ) -> Spans
-    requires { ⌜ TurnWIn p (q .m) (q .lim) (now g) (now gh) (seven (now m0) (now m1) (now m2) (now n0) (now n1) (now n2) (now u)) l (now e) (three (now a) (now b) (now c)) ⌝ }
-    ensures { λ o. ⌜ TurnedW p (now (g .entry)) (now (gh .entry)) (seven (now (m0 .entry)) (now (m1 .entry)) (now (m2 .entry)) (now (n0 .entry)) (now (n1 .entry)) (now (n2 .entry)) (now (u .entry))) (three (now (a .exit)) (now (b .exit)) (now (c .exit))) o ⌝ }
+    requires { ⌜ TurnWIn q (now g) (now gh) (seven (now m0) (now m1) (now m2) (now n0) (now n1) (now n2) (now u)) l (now e) (three (now a) (now b) (now c)) ⌝ }
+    ensures { λ o. ⌜ TurnedW (q .p) (now (g .entry)) (now (gh .entry)) (seven (now (m0 .entry)) (now (m1 .entry)) (now (m2 .entry)) (now (n0 .entry)) (now (n1 .entry)) (now (n2 .entry)) (now (u .entry))) (three (now (a .exit)) (now (b .exit)) (now (c .exit))) o ⌝ }
 {
     let mut x: [u64; 32] = [0; 32];
     let mut y: [u64; 32] = [0; 32];
-    let nx = times_in(p, q, m1, l.m1, gh, l.gh, &mut x);
-    let ny = times_in(p, q, m2, l.m2, g, l.g, &mut y);
+    let nx = times_in(q, m1, l.m1, gh, l.gh, &mut x);
+    let ny = times_in(q, m2, l.m2, g, l.g, &mut y);
     coords_in(
-        p,
         q,
         &mut x,
         nx,
@@ -234,17 +228,17 @@ fn turned_w(
 }
 
 // A greatest common divisor of four. Usually the first two have none, and it ends there.
-fn content(p: u64, x0: &[u64; 32], x2: &[u64; 32], y0: &[u64; 32], y2: &[u64; 32]) -> [u64; 32]
-    requires { ⌜ FourRows p (now x0) (now x2) (now y0) (now y2) ⌝ }
-    ensures { λ r. ⌜ Content p (now (x0 .entry)) (now (x2 .entry)) (now (y0 .entry)) (now (y2 .entry)) r ⌝ }
+fn content(q: Modulus, x0: &[u64; 32], x2: &[u64; 32], y0: &[u64; 32], y2: &[u64; 32]) -> [u64; 32]
+    requires { ⌜ ContentIn q (now x0) (now x2) (now y0) (now y2) ⌝ }
+    ensures { λ r. ⌜ Content (q .p) (now (x0 .entry)) (now (x2 .entry)) (now (y0 .entry)) (now (y2 .entry)) r ⌝ }
 {
-    let g = poly_factors::gcd(p, x2, y2);
+    let g = poly_factors::gcd(q, x2, y2);
     let n = poly_rows::size(&g);
     if n == 1 {
         g
     } else {
-        let h = poly_factors::gcd(p, &g, y0);
-        poly_factors::gcd(p, &h, x0)
+        let h = poly_factors::gcd(q, &g, y0);
+        poly_factors::gcd(q, &h, x0)
     }
 }
 
@@ -255,19 +249,19 @@ fn negate(p: u64, x: &mut [u64; 32], n: usize)
 {
     let mut i: usize = 0;
     while i < n {
-        let v = once(p, p - x[i]);
+        let v = reduce_once(p, p - x[i]);
         x[i] = v;
         i += 1;
     }
 }
 
 // x / k in place of x, where k divides x, and its length; n and m are the lengths of x and k.
-fn shorten(p: u64, q: Rapid, x: &mut [u64; 32], n: usize, k: &[u64; 32], m: usize, il: u64) -> usize
-    requires { ⌜ ShortenIn p (q .m) (q .lim) (now x) n (now k) m il ⌝ }
-    ensures { λ l. ⌜ Shortened p (now (x .entry)) (now (k .entry)) (now (x .exit)) l ⌝ }
+fn shorten(q: Modulus, x: &mut [u64; 32], n: usize, k: &[u64; 32], m: usize, il: u64) -> usize
+    requires { ⌜ ShortenIn q (now x) n (now k) m il ⌝ }
+    ensures { λ l. ⌜ Shortened (q .p) (now (x .entry)) (now (k .entry)) (now (x .exit)) l ⌝ }
 {
     let mut t: [u64; 32] = [0; 32];
-    let l = quotient_in(p, q, x, n, k, m, il, &mut t);
+    let l = quotient_in(q, x, n, k, m, il, &mut t);
     *x = t;
     l
 }
@@ -280,8 +274,7 @@ pub struct Off {
 
 // Four polynomials of known lengths, and their determinant x2 y0 - x0 y2 in the zero row d, without their common factor.
 fn taken_off(
-    p: u64,
-    q: Rapid,
+    q: Modulus,
     x0: &mut [u64; 32],
     a0: usize,
     x2: &mut [u64; 32],
@@ -292,22 +285,22 @@ fn taken_off(
     b2: usize,
     d: &mut [u64; 32],
 ) -> Off
-    requires { ⌜ TakeIn p (q .m) (q .lim) (now x0) a0 (now x2) a2 (now y0) b0 (now y2) b2 (now d) ⌝ }
-    ensures { λ o. ⌜ Taken p (now (x0 .entry)) (now (x2 .entry)) (now (y0 .entry)) (now (y2 .entry)) (four (now (x0 .exit)) (now (x2 .exit)) (now (y0 .exit)) (now (y2 .exit)) (now (d .exit)) (o .cut)) (o .d) ⌝ }
+    requires { ⌜ TakeIn q (now x0) a0 (now x2) a2 (now y0) b0 (now y2) b2 (now d) ⌝ }
+    ensures { λ o. ⌜ Taken (q .p) (now (x0 .entry)) (now (x2 .entry)) (now (y0 .entry)) (now (y2 .entry)) (four (now (x0 .exit)) (now (x2 .exit)) (now (y0 .exit)) (now (y2 .exit)) (now (d .exit)) (o .cut)) (o .d) ⌝ }
 {
-    let k = content(p, x0, x2, y0, y2);
-    let l = det_in(p, q, x2, a2, y0, b0, x0, a0, y2, b2, d);
+    let k = content(q, x0, x2, y0, y2);
+    let l = det_in(q, x2, a2, y0, b0, x0, a0, y2, b2, d);
     let m = size(&k);
     if m == 1 {
         Off { cut: 0, d: l }
     } else {
         let c = k[m - 1];
-        let il = num_mod::inverse(p, c);
-        shorten(p, q, x0, a0, &k, m, il);
-        shorten(p, q, x2, a2, &k, m, il);
-        shorten(p, q, y0, b0, &k, m, il);
-        shorten(p, q, y2, b2, &k, m, il);
-        let n = shorten(p, q, d, l, &k, m, il);
+        let il = num_mod::inverse(q.p, c);
+        shorten(q, x0, a0, &k, m, il);
+        shorten(q, x2, a2, &k, m, il);
+        shorten(q, y0, b0, &k, m, il);
+        shorten(q, y2, b2, &k, m, il);
+        let n = shorten(q, d, l, &k, m, il);
         Off { cut: m - 1, d: n }
     }
 }
@@ -326,8 +319,7 @@ pub struct Cuts {
 // have in common, and the denominator d = (x2 y0 - x0 y2)/k. The pairs (-y2, x2)/k and (y0, -x0)/k are the generators P and Q. lg, lh and
 // cap are the lengths of G, H and G H, and all rows lent end before cap; ie = -lead(G H) is the inverse of the leading coefficient of e.
 pub fn divided(
-    p: u64,
-    q: Rapid,
+    q: Modulus,
     cap: usize,
     g: &[u64; 32],
     lg: usize,
@@ -350,16 +342,16 @@ pub fn divided(
     yc: &mut [u64; 32],
     d: &mut [u64; 32],
 ) -> Cuts
-    requires { ⌜ DividedIn p (q .m) (q .lim) cap (now g) lg (now h) lh (now gh) ie (seven (now m0) (now m1) (now m2) (now n0) (now n1) (now n2) (now u)) (three (now xa) (now xb) (now xc)) (three (now ya) (now yb) (now yc)) (now d) ⌝ }
-    ensures { λ o. ⌜ Divided p (now (g .entry)) (now (h .entry)) (now (gh .entry)) (seven (now (m0 .entry)) (now (m1 .entry)) (now (m2 .entry)) (now (n0 .entry)) (now (n1 .entry)) (now (n2 .entry)) (now (u .entry))) (generators (now (xb .exit)) (now (yb .exit)) (now (yc .exit)) (now (xc .exit)) (now (ya .exit)) (now (xa .exit)) (now (d .exit)) (o .cut)) o ⌝ }
+    requires { ⌜ DividedIn q cap (now g) lg (now h) lh (now gh) ie (seven (now m0) (now m1) (now m2) (now n0) (now n1) (now n2) (now u)) (three (now xa) (now xb) (now xc)) (three (now ya) (now yb) (now yc)) (now d) ⌝ }
+    ensures { λ o. ⌜ Divided (q .p) (now (g .entry)) (now (h .entry)) (now (gh .entry)) (seven (now (m0 .entry)) (now (m1 .entry)) (now (m2 .entry)) (now (n0 .entry)) (now (n1 .entry)) (now (n2 .entry)) (now (u .entry))) (generators (now (xb .exit)) (now (yb .exit)) (now (yc .exit)) (now (xc .exit)) (now (ya .exit)) (now (xa .exit)) (now (d .exit)) (o .cut)) o ⌝ }
 {
     let mut e: [u64; 32] = [0; 32];
-    let l = lengths_of(p, q, ie, cap, lg, lh, m0, m1, m2, n0, n1, n2, u, &mut e);
-    let x = turned_r(p, q, h, gh, m0, m1, m2, n0, n1, n2, u, l, &e, xa, xb, xc);
-    let y = turned_w(p, q, g, gh, m0, m1, m2, n0, n1, n2, u, l, &e, ya, yb, yc);
-    negate(p, xa, x.a);
-    negate(p, yc, y.c);
-    let o = taken_off(p, q, xa, x.a, xc, x.c, ya, y.a, yc, y.c, d);
+    let l = lengths_of(q, ie, cap, lg, lh, m0, m1, m2, n0, n1, n2, u, &mut e);
+    let x = turned_r(q, h, gh, m0, m1, m2, n0, n1, n2, u, l, &e, xa, xb, xc);
+    let y = turned_w(q, g, gh, m0, m1, m2, n0, n1, n2, u, l, &e, ya, yb, yc);
+    negate(q.p, xa, x.a);
+    negate(q.p, yc, y.c);
+    let o = taken_off(q, xa, x.a, xc, x.c, ya, y.a, yc, y.c, d);
     Cuts {
         cut: o.cut,
         x: x.b,

@@ -33,7 +33,7 @@ use Rattle.basis_record.specs.Record.{part, setting, polyOf, basisOf, IsRecord}
 use Rattle.step_divide.specs.Rows.{Seven, seven, AreRows, rowsOf}
 use Rattle.step_divide.proofs.Products.{sizes}
 use Rattle.step_divide.specs.Generated.{Generators, Generated, GeneratorsIn, AreGenerators}
-use Rattle.basis_reduce.specs.Frame.{frame, Meaning}
+use Rattle.basis_parts.specs.Frame.{frame, Meaning}
 use Rattle.basis_scale.specs.Store.{SevenLoaded}
 use Rattle.basis_scale.specs.Based.{BasisIn, BasedAt, Based}
 use Rattle.basis_scale.proofs.Loads.{rows-are, rows-path, rows-good}

@@ -34,7 +34,7 @@ use Rattle.step_divide.specs.Rows.{Seven, rowsOf}
 use Rattle.step_divide.specs.Generated.{Generators, Generated}
 use Rattle.step_divide.proofs.Coordinates.{r-narrow, w-narrow}
 use Rattle.step_divide.proofs.Products.{sizes}
-use Rattle.basis_reduce.specs.Frame.{Frame, frame, Fine, Meaning, Short}
+use Rattle.basis_parts.specs.Frame.{Frame, frame, Fine, Meaning, Short}
 use Rattle.basis_reduce.specs.Clear.{Pair, pair, ClearIn}
 use Rattle.basis_scale.specs.Based.{BasisIn}
 use Rattle.basis_scale.proofs.Place.{row-short}

@@ -4,7 +4,7 @@ use basis_scale::reduced_basis;
 use step_divide::divided;
 use poly_rows::Rapid;
 use poly_rows::rapid_of;
-use basis_reduce::Bounds;
+use basis_parts::Bounds;
 ghost use Rattle.step_divide.specs.Quotients.{three};
 ghost use Rattle.step_divide.specs.Generated.{generators};
 ghost use Rattle.step_next.specs.Steps.{AdvanceIn, Advanced};

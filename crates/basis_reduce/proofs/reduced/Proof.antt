@@ -3,7 +3,7 @@ use mathlib.Core.Path.{_≡_, subst}
 use mathlib.Core.Bool.{Bool, true, false}
 use mathlib.Core.List.{List}
 use Prim.Native.Nat.{ℕ}
-use Rattle.basis_reduce.specs.Frame.{Frame}
+use Rattle.basis_parts.specs.Frame.{Frame}
 use Rattle.basis_reduce.specs.Clear.{Pair, Cleared, pair, swapIf}
 use Rattle.basis_reduce.proofs.Shearing.{shear-in, reduced-end}
 use Rattle.basis_reduce.proofs.reduced.Statement.{statement}
@@ -20,10 +20,10 @@ clear-y-requires : tie.Need-clear-y-requires
 clear-y-requires c κs = c .before .before .before .before .pre .inp
 
 clear-x-requires : tie.Need-clear-x-requires
-clear-x-requires c κs = record { inp = shear-in (swapped (c .before .before .before .before .before .before .if1 .taken) (c .before .before .before .before .before .before .before .clear-y .ensures)); ready = c .before .before .before .before .before .before .before .before .before .before .before .before .pre .inp .ready; hmx = c .before .before .before .before .before .before .before .before .before .before .before .before .pre .hnx; hnx = c .before .before .before .before .before .before .before .before .before .before .before .before .pre .hmx }
+clear-x-requires c κs = record { inp = shear-in (swapped (c .before .before .before .before .before .before .if1 .taken) (c .before .before .before .before .before .before .before .clear-y .ensures)); hmx = c .before .before .before .before .before .before .before .before .before .before .before .before .pre .hnx; hnx = c .before .before .before .before .before .before .before .before .before .before .before .before .pre .hmx }
 
 clear-x-requires-2 : tie.Need-clear-x-requires-2
-clear-x-requires-2 c κs = record { inp = shear-in (unswapped (c .before .before .before .before .before .before .if1 .left) (c .before .before .before .before .before .before .before .clear-y .ensures)); ready = c .before .before .before .before .before .before .before .before .before .before .before .before .pre .inp .ready; hmx = c .before .before .before .before .before .before .before .before .before .before .before .before .pre .hmx; hnx = c .before .before .before .before .before .before .before .before .before .before .before .before .pre .hnx }
+clear-x-requires-2 c κs = record { inp = shear-in (unswapped (c .before .before .before .before .before .before .if1 .left) (c .before .before .before .before .before .before .before .clear-y .ensures)); hmx = c .before .before .before .before .before .before .before .before .before .before .before .before .pre .hmx; hnx = c .before .before .before .before .before .before .before .before .before .before .before .before .pre .hnx }
 
 returns : tie.Need-returns
 returns c = reduced-end (swapped (c .before .before .before .before .before .before .before .if1 .taken) (c .before .before .before .before .before .before .before .before .clear-y .ensures)) (c .clear-x .ensures)

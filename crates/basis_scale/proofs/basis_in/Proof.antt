@@ -3,7 +3,7 @@ use mathlib.Core.Path.{_≡_, subst}
 use mathlib.Core.Bool.{Bool, true, false}
 use mathlib.Core.List.{List}
 use Prim.Native.Nat.{ℕ}
-use Rattle.basis_reduce.specs.Frame.{Frame}
+use Rattle.basis_parts.specs.Frame.{Frame}
 use Rattle.basis_reduce.specs.Clear.{Pair, Reduced, ends, endsIf}
 use Rattle.basis_scale.proofs.Based.{based-clear}
 use Rattle.basis_scale.proofs.basis_in.Statement.{statement}

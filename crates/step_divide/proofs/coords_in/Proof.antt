@@ -9,25 +9,25 @@ det-in-requires : tie.Need-det-in-requires
 det-in-requires c κs =
     let s = c .before .pre in
     let h = c .before .pre .inp in
-    record { modulus = h .modulus; ready = s .ready; hx = h .hb; hy = h .rows .n2; hz = h .hc; hv = h .rows .n1; sx = s .sb; sy = s .sizes .n2; sz = s .sc; sv = s .sizes .n1; left = h .b-n2 _ _ (s .sb) (s .sizes .n2); right = h .c-n1 _ _ (s .sc) (s .sizes .n1); blank = refl }
+    record { modulus = s .modulus; hx = h .hb; hy = h .rows .n2; hz = h .hc; hv = h .rows .n1; sx = s .sb; sy = s .sizes .n2; sz = s .sc; sv = s .sizes .n1; left = h .b-n2 _ _ (s .sb) (s .sizes .n2); right = h .c-n1 _ _ (s .sc) (s .sizes .n1); blank = refl }
 
 quotient-in-requires : tie.Need-quotient-in-requires
 quotient-in-requires c κs =
     let s = c .before .before .before .before .pre in
     let h = c .before .before .before .before .pre .inp in
-    record { inp = record { modulus = h .modulus; ha = c .before .before .det-in .ensures .is-row; hb = h .he; hi = h .by-e .below; inv = h .by-e .law }; ready = s .ready; sa = c .before .before .det-in .ensures .size; sb = s .se; blank = s .blank .b }
+    record { inp = record { modulus = h .modulus; ha = c .before .before .det-in .ensures .is-row; hb = h .he; hi = h .by-e .below; inv = h .by-e .law }; modulus = s .modulus; sa = c .before .before .det-in .ensures .size; sb = s .se; blank = s .blank .b }
 
 det-in-requires-2 : tie.Need-det-in-requires-2
 det-in-requires-2 c κs =
     let s = c .before .before .before .before .before .before .pre in
     let h = c .before .before .before .before .before .before .pre .inp in
-    record { modulus = h .modulus; ready = s .ready; hx = h .hc; hy = h .rows .m1; hz = h .hb; hv = h .rows .m2; sx = s .sc; sy = s .sizes .m1; sz = s .sb; sv = s .sizes .m2; left = h .c-m1 _ _ (s .sc) (s .sizes .m1); right = h .b-m2 _ _ (s .sb) (s .sizes .m2); blank = refl }
+    record { modulus = s .modulus; hx = h .hc; hy = h .rows .m1; hz = h .hb; hv = h .rows .m2; sx = s .sc; sy = s .sizes .m1; sz = s .sb; sv = s .sizes .m2; left = h .c-m1 _ _ (s .sc) (s .sizes .m1); right = h .b-m2 _ _ (s .sb) (s .sizes .m2); blank = refl }
 
 quotient-in-requires-2 : tie.Need-quotient-in-requires-2
 quotient-in-requires-2 c κs =
     let s = c .before .before .before .before .before .before .before .before .before .pre in
     let h = c .before .before .before .before .before .before .before .before .before .pre .inp in
-    record { inp = record { modulus = h .modulus; ha = c .before .before .det-in2 .ensures .is-row; hb = h .he; hi = h .by-e .below; inv = h .by-e .law }; ready = s .ready; sa = c .before .before .det-in2 .ensures .size; sb = s .se; blank = s .blank .c }
+    record { inp = record { modulus = h .modulus; ha = c .before .before .det-in2 .ensures .is-row; hb = h .he; hi = h .by-e .below; inv = h .by-e .law }; modulus = s .modulus; sa = c .before .before .det-in2 .ensures .size; sb = s .se; blank = s .blank .c }
 
 both-in-requires : tie.Need-both-in-requires
 both-in-requires c κs =
@@ -36,8 +36,7 @@ both-in-requires c κs =
     let β = c .before .before .before .before .before .before .before .before .quotient-in .ensures in
     let γ = c .before .before .before .quotient-in2 .ensures in
     record {
-      modulus = h .modulus;
-      ready = s .ready;
+      modulus = s .modulus;
       hx = β .quotient .is-row;
       hy = h .rows .m0;
       hz = γ .quotient .is-row;
@@ -56,7 +55,7 @@ quotient-in-requires-3 : tie.Need-quotient-in-requires-3
 quotient-in-requires-3 c κs =
     let s = c .before .before .before .before .before .before .before .before .before .before .before .before .before .before .before .before .pre in
     let h = c .before .before .before .before .before .before .before .before .before .before .before .before .before .before .before .before .pre .inp in
-    record { inp = record { modulus = h .modulus; ha = c .before .before .both-in .ensures .is-row; hb = h .rows .u; hi = h .by-u .below; inv = h .by-u .law }; ready = s .ready; sa = c .before .before .both-in .ensures .size; sb = s .sizes .u; blank = s .blank .a }
+    record { inp = record { modulus = h .modulus; ha = c .before .before .both-in .ensures .is-row; hb = h .rows .u; hi = h .by-u .below; inv = h .by-u .law }; modulus = s .modulus; sa = c .before .before .both-in .ensures .size; sb = s .sizes .u; blank = s .blank .a }
 
 returns : tie.Need-returns
 returns c =

@@ -33,7 +33,7 @@ det-in-requires c κs =
     let m2 = c .before .before .before .before .before .size-from3 .ensures in
     let n1 = c .before .before .before .size-from5 .ensures in
     let n2 = c .before .before .size-from6 .ensures in
-    record { modulus = h .modulus; ready = c .before .before .before .before .before .before .before .before .pre .ready; hx = h .hx; hy = h .hy; hz = h .hz; hv = h .hv; sx = m1; sy = n2; sz = m2; sv = n1; left = h .left _ _ m1 n2; right = h .right _ _ m2 n1; blank = c .before .before .before .before .before .before .before .before .pre .blank }
+    record { modulus = c .before .before .before .before .before .before .before .before .pre .modulus; hx = h .hx; hy = h .hy; hz = h .hz; hv = h .hv; sx = m1; sy = n2; sz = m2; sv = n1; left = h .left _ _ m1 n2; right = h .right _ _ m2 n1; blank = c .before .before .before .before .before .before .before .before .pre .blank }
 
 returns : tie.Need-returns
 returns c = record {

@@ -1,10 +1,10 @@
--- `basis_reduce::terms` meets its contract: `Run`, the first i terms are summed.
+-- `basis_parts::terms` meets its contract: `Run`, the first i terms are summed.
 use Prim.Native.Nat.{ℕ, _+_, _-_, _≤_}
 use native.Mathlib.Omega.{arith}
-use Rattle.basis_reduce.proofs.Leaves.{Run, run-start, run-in, run-more, run-end}
+use Rattle.basis_parts.proofs.Leaves.{Run, run-start, run-in, run-more, run-end}
 use borrow.Author.Needs.{needs}
-use Rattle.basis_reduce.proofs.terms.Statement.{statement}
-use Rattle.basis_reduce.proofs.terms.Tie as tie
+use Rattle.basis_parts.proofs.terms.Statement.{statement}
+use Rattle.basis_parts.proofs.terms.Tie as tie
 
 abbrev Inv-loop : tie.InvT-loop
 Inv-loop p q b n s d j i₀ a₀ i a = Run p q b n s d j i a

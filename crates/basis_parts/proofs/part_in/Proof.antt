@@ -1,30 +1,30 @@
--- `basis_reduce::part_in` meets its contract: a row swept from the front.
+-- `basis_parts::part_in` meets its contract: a row swept from the front.
 use mathlib.Core.Path.{refl}
 use Prim.Native.Nat.{ℕ, _*_, _-_, _≤_, _<_}
 use native.Mathlib.Omega.{arith}
-use Rattle.basis_reduce.specs.Given.{given}
-use Rattle.basis_reduce.specs.Leaves.{partAt}
-use Rattle.basis_reduce.proofs.Laid.{Swept, swept-start, swept-more, swept-laid}
-use Rattle.basis_reduce.proofs.Leaves.{square-small, parted}
-use Rattle.basis_reduce.proofs.part_in.Statement.{statement}
-use Rattle.basis_reduce.proofs.part_in.Tie as tie
+use Rattle.basis_parts.specs.Given.{given}
+use Rattle.basis_parts.specs.Leaves.{partAt}
+use Rattle.basis_parts.proofs.Laid.{Swept, swept-start, swept-more, swept-laid}
+use Rattle.basis_parts.proofs.Leaves.{square-small, parted}
+use Rattle.basis_parts.proofs.part_in.Statement.{statement}
+use Rattle.basis_parts.proofs.part_in.Tie as tie
 
 abbrev Inv-loop : tie.InvT-loop
-Inv-loop f fast minus b c r w z₀ p top q j₀ z j = Swept (f .p) (f .top) (λ pr i. partAt (given f r w) pr minus b c (f .top) i) z₀ z j
+Inv-loop f minus b c r w z₀ p top q j₀ z j = Swept (f .m .p) (f .top) (λ pr i. partAt (given f r w) pr minus b c (f .top) i) z₀ z j
 
 abbrev μ-loop : tie.MeasureT-loop
-μ-loop f fast minus b c r w z₀ p top q j₀ z j = f .top - j
+μ-loop f minus b c r w z₀ p top q j₀ z j = f .top - j
 
 mul-q : tie.Need-mul-q Inv-loop μ-loop
 mul-q c =
-    let k : c .args .f .p * c .args .f .p < 4611686018427387904 = square-small (c .args .f .p) (c .pre .inp .fine .modulus) in
+    let k : c .args .f .m .p * c .args .f .m .p < 4611686018427387904 = square-small (c .args .f .m .p) (c .pre .inp .fine .modulus .small) in
     record { fits = omega arith }
 
 loop-holds : tie.Need-loop-holds Inv-loop μ-loop
 loop-holds c = swept-start (c .pre .hz .is-row)
 
 digit-requires : tie.Need-digit-requires Inv-loop μ-loop
-digit-requires c κs = record { inp = record { inp = c .before .before .pre .inp; is-q = refl; high = c .loop-test .taken }; ready = c .before .before .pre .ready }
+digit-requires c κs = record { inp = c .before .before .pre .inp; is-q = refl; high = c .loop-test .taken }
 
 mul-z : tie.Need-mul-z Inv-loop μ-loop
 mul-z c =

@@ -21,10 +21,10 @@ use Rattle.math_rows.specs.Reading.{Reading}
 use Rattle.math_rows.specs.Row.{Size, tpow, psum}
 use Rattle.math_rows.proofs.Rows.{const-zero, psum-cut, psum-lt, psum-lead}
 use Rattle.math_rows.proofs.Floors.{floor-lt, floor-top}
-use Rattle.basis_reduce.specs.Frame.{Frame, Meaning, rd, pt, side, Ltμ, Hasμ}
-use Rattle.basis_reduce.specs.Leaves.{PartIn, PartAt, partAt, Parted, TopIn, Topped, Led}
-use Rattle.basis_reduce.specs.declared.Top.{Top}
-use Rattle.basis_reduce.proofs.Leaves.{part-floor, part-high}
+use Rattle.basis_parts.specs.Frame.{Frame, Meaning, rd, pt, side, Ltμ, Hasμ}
+use Rattle.basis_parts.specs.Leaves.{PartIn, PartAt, partAt, Parted, TopIn, Topped, Led}
+use Rattle.basis_parts.specs.declared.Top.{Top}
+use Rattle.basis_parts.proofs.Leaves.{part-floor, part-high}
 
 module _ {p : ℕ} (ρ : Reading p) where
   open Reading ρ using (𝓥)
@@ -74,7 +74,7 @@ pub record Seek (F : Frame) (e : Bool) (b c : List ℕ) (low l j : ℕ) : Type 0
   pub upto : j ≤ l
   pub ends : (μ : Meaning F) → Ltμ μ (side μ e (pt μ b c)) j
 
-module _ {F : Frame} {m lim : ℕ} {e : Bool} {b c : List ℕ} {top l low : ℕ} (g : TopIn F m lim e b c top l low) where
+module _ {F : Frame} {e : Bool} {b c : List ℕ} {top l low : ℕ} (g : TopIn F e b c top l low) where
   pub seek-start : Seek F e b c low l l
   seek-start = record { from = g .room; upto = omega arith; ends = g .ends }
 
@@ -93,7 +93,7 @@ module _ {F : Frame} {m lim : ℕ} {e : Bool} {b c : List ℕ} {top l low : ℕ}
 
   pub seek-end : (j : ℕ) → j ≤ low → Seek F e b c low l j → Topped F e b c low l (record { n = low; c = 0 })
   seek-end j u h =
-      let k : 1 < F .p = g .inp .fine .modulus .big in
+      let k : 1 < F .m .p = g .inp .fine .modulus .big in
       record { from = omega arith; upto = g .room; below = omega arith; ends = λ μ. lt-up (rd μ .𝓥) low (h .ends μ) u; none = λ q. refl; some = λ u. absurd (omega arith); lead = λ u. absurd (omega arith) }
 
 -- ---- what a top says of the size

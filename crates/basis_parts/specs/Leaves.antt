@@ -17,9 +17,8 @@ use Rattle.math_rows.specs.Reading.{Reading}
 use Rattle.math_rows.specs.Made.{reading}
 use Rattle.math_rows.specs.Row.{Row, fallAt, Floor}
 use Rattle.num_mod.specs.Residue.{IsModulus}
-use Rattle.poly_rows.specs.Coefficients.{Ready}
-use Rattle.basis_reduce.specs.Frame.{Frame, Fine, Meaning, Short, rd, pt, side, Ltμ}
-use Rattle.basis_reduce.specs.declared.Top.{Top}
+use Rattle.basis_parts.specs.Frame.{Frame, Fine, Meaning, Short, rd, pt, side, Ltμ}
+use Rattle.basis_parts.specs.declared.Top.{Top}
 
 -- ---- sums of products, kept below p p
 pub record SumIn (p q x y z : ℕ) : Type 0 where
@@ -57,53 +56,46 @@ pub record Terms (p q : ℕ) (b : List ℕ) (n : ℕ) (s : List ℕ) (d j r : �
 -- ---- polynomial parts
 pub record PartIn (F : Frame) (b c : List ℕ) (top : ℕ) : Type 0 where
   pub fine : Fine F
-  pub hb : Short (F .p) b (top - F .dr)
-  pub hc : Short (F .p) c (top - F .dw)
+  pub hb : Short (F .m .p) b (top - F .dr)
+  pub hc : Short (F .m .p) c (top - F .dw)
   pub fits : top ≤ 32
   pub low-r : F .dr ≤ top
   pub low-w : F .dw ≤ top
 
 pub record PartAtIn (F : Frame) (q : ℕ) (b c : List ℕ) (top j : ℕ) : Type 0 where
   pub inp : PartIn F b c top
-  pub is-q : q ≡ F .p * F .p
+  pub is-q : q ≡ F .m .p * F .m .p
   pub high : j < top
 
--- the same with what a quick remainder needs, into z
-pub record PartBy (F : Frame) (m lim : ℕ) (b c : List ℕ) (top : ℕ) (z : List ℕ) : Type 0 where
+-- the same into z
+pub record PartBy (F : Frame) (b c : List ℕ) (top : ℕ) (z : List ℕ) : Type 0 where
   pub inp : PartIn F b c top
-  pub ready : Ready (F .p) m lim
-  pub hz : Short (F .p) z top
+  pub hz : Short (F .m .p) z top
 
-pub record PartAtBy (F : Frame) (m lim q : ℕ) (b c : List ℕ) (top j : ℕ) : Type 0 where
+pub record QuickAtIn (F : Frame) (q : ℕ) (b c : List ℕ) (top j : ℕ) : Type 0 where
   pub inp : PartAtIn F q b c top j
-  pub ready : Ready (F .p) m lim
-
-pub record QuickAtIn (F : Frame) (m lim q : ℕ) (b c : List ℕ) (top j : ℕ) : Type 0 where
-  pub inp : PartAtIn F q b c top j
-  pub ready : Ready (F .p) m lim
-  pub small : F .p < 65536
+  pub small : F .m .p < 65536
 
 -- x + y or x − y
 abbrev pub signed : {A : Type 0} → Ops A → Bool → A → A → A
 signed o true x y = o .add x (o .neg y)
 signed o false x y = o .add x y
 
-abbrev pub partAt : (F : Frame) → (pr : Prime (F .p)) → Bool → List ℕ → List ℕ → ℕ → ℕ → reading (F .p) pr .𝓥 .K .El
+abbrev pub partAt : (F : Frame) → (pr : Prime (F .m .p)) → Bool → List ℕ → List ℕ → ℕ → ℕ → reading (F .m .p) pr .𝓥 .K .El
 partAt F pr e b c top j =
-    signed (reading (F .p) pr .𝓥 .K .ops) e (along (reading (F .p) pr) b (F .r) (F .dr) j (top - F .dr)) (along (reading (F .p) pr) c (F .w) (F .dw) j (top - F .dw))
+    signed (reading (F .m .p) pr .𝓥 .K .ops) e (along (reading (F .m .p) pr) b (F .r) (F .dr) j (top - F .dr)) (along (reading (F .m .p) pr) c (F .w) (F .dw) j (top - F .dw))
 
 pub record PartAt (F : Frame) (e : Bool) (b c : List ℕ) (top j v : ℕ) : Type 0 where
-  pub below : v < F .p
-  pub law : (pr : Prime (F .p)) → reading (F .p) pr .cast v ≡ partAt F pr e b c top j
+  pub below : v < F .m .p
+  pub law : (pr : Prime (F .m .p)) → reading (F .m .p) pr .cast v ≡ partAt F pr e b c top j
 
 pub record Parted (F : Frame) (e : Bool) (b c : List ℕ) (top : ℕ) (z : List ℕ) : Type 0 where
-  pub short : Short (F .p) z top
+  pub short : Short (F .m .p) z top
   pub law : (μ : Meaning F) → Floor (rd μ) (side μ e (pt μ b c)) z
 
 -- ---- leading terms: the size ends before l
-pub record TopIn (F : Frame) (m lim : ℕ) (e : Bool) (b c : List ℕ) (top l low : ℕ) : Type 0 where
+pub record TopIn (F : Frame) (e : Bool) (b c : List ℕ) (top l low : ℕ) : Type 0 where
   pub inp : PartIn F b c top
-  pub ready : Ready (F .p) m lim
   pub fits : l ≤ top
   pub room : low ≤ l
   pub ends : (μ : Meaning F) → Ltμ μ (side μ e (pt μ b c)) l
@@ -111,16 +103,12 @@ pub record TopIn (F : Frame) (m lim : ℕ) (e : Bool) (b c : List ℕ) (top l lo
 pub record Topped (F : Frame) (e : Bool) (b c : List ℕ) (low l : ℕ) (t : Top) : Type 0 where
   pub from : low ≤ t .n
   pub upto : t .n ≤ l
-  pub below : t .c < F .p
+  pub below : t .c < F .m .p
   pub ends : (μ : Meaning F) → Ltμ μ (side μ e (pt μ b c)) (t .n)
   pub none : t .n ≡ low → t .c ≡ 0
   pub some : low < t .n → 0 < t .c
   pub lead : low < t .n → (μ : Meaning F) → rd μ .𝓥 .Lead (side μ e (pt μ b c)) (t .n - 1) 0 (rd μ .cast (t .c))
 
-pub record LeadIn (F : Frame) (m lim : ℕ) (b c : List ℕ) (top : ℕ) : Type 0 where
-  pub inp : PartIn F b c top
-  pub ready : Ready (F .p) m lim
-
 -- r is the leading coefficient of the size, where the size has a degree that is not below 0
 pub record Led (F : Frame) (e : Bool) (b c : List ℕ) (r : ℕ) : Type 0 where
-  pub law : (μ : Meaning F) (d : ℕ) → Has (rd μ .𝓥) (side μ e (pt μ b c)) d → (0 < r) × (r < F .p) × rd μ .𝓥 .Lead (side μ e (pt μ b c)) d 0 (rd μ .cast r)
+  pub law : (μ : Meaning F) (d : ℕ) → Has (rd μ .𝓥) (side μ e (pt μ b c)) d → (0 < r) × (r < F .m .p) × rd μ .𝓥 .Lead (side μ e (pt μ b c)) d 0 (rd μ .cast r)

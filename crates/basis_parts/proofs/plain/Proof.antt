@@ -1,11 +1,11 @@
--- `basis_reduce::plain` meets its contract: `Heap`, i products of numbers below p are summed.
+-- `basis_parts::plain` meets its contract: `Heap`, i products of numbers below p are summed.
 use Prim.Native.Nat.{ℕ, _+_, _*_, _-_, _≤_, _<_}
 use native.Mathlib.Omega.{arith}
 use lib.ListN.{getD}
-use Rattle.basis_reduce.proofs.Leaves.{Run, heap-start, heap-term, heap-square, heap-room, heap-more, heap-end}
+use Rattle.basis_parts.proofs.Leaves.{Run, heap-start, heap-term, heap-square, heap-room, heap-more, heap-end}
 use borrow.Author.Needs.{needs}
-use Rattle.basis_reduce.proofs.plain.Statement.{statement}
-use Rattle.basis_reduce.proofs.plain.Tie as tie
+use Rattle.basis_parts.proofs.plain.Statement.{statement}
+use Rattle.basis_parts.proofs.plain.Tie as tie
 
 abbrev Inv-loop : tie.InvT-loop
 Inv-loop p b n s d j i₀ a₀ i a = Run p (i * (p * p) + 1) b n s d j i a

@@ -25,10 +25,9 @@ use Rattle.math_rows.specs.Row.{Row, fallAt, tpow, psum, coefs, row, Reads}
 use Rattle.math_rows.proofs.Rows.{const-zero, const-neg, psum-ext, psum-plus, row-upto, row-tab}
 use Rattle.math_rows.proofs.Floors.{fall-in, fall-out}
 use Rattle.math_rows.proofs.Turn.{lt-scale}
-use Rattle.num_mod.specs.Residue.{IsModulus}
-use Rattle.basis_reduce.specs.Frame.{Frame, Meaning, Short, rd, pt, side, Ltμ}
-use Rattle.basis_reduce.specs.Leaves.{SumIn, Summed, TermsIn, PlainIn, Terms, along, PartIn, PartAtIn, PartAt, partAt, signed, Parted}
-use Rattle.basis_reduce.proofs.Laid.{Laid, laid-short, laid-row}
+use Rattle.basis_parts.specs.Frame.{Frame, Meaning, Short, rd, pt, side, Ltμ}
+use Rattle.basis_parts.specs.Leaves.{SumIn, Summed, TermsIn, PlainIn, Terms, along, PartIn, PartAtIn, PartAt, partAt, signed, Parted}
+use Rattle.basis_parts.proofs.Laid.{Laid, laid-short, laid-row}
 
 -- ---- numbers
 -- a product of two numbers below p lies below p p
@@ -41,8 +40,8 @@ less-square (suc p) y z hy hz =
     let e : N._*_ (suc p) (suc p) ≡ N._+_ (N._+_ (N._*_ p p) (N._+_ p p)) 1 = omega arith in
     omega arith
 
-pub square-small : (p : ℕ) → IsModulus p → N._*_ p p < 4611686018427387904
-square-small p h = let a : p < 2147483648 = h .small in omega (arith, less-square 2147483648 p p a a)
+pub square-small : (p : ℕ) → p < 2147483648 → N._*_ p p < 4611686018427387904
+square-small p a = omega (arith, less-square 2147483648 p p a a)
 
 pub square-16 : (p : ℕ) → p < 65536 → N._*_ p p ≤ 4294967296
 square-16 p h = let l : p ≤ 65536 = omega arith in mul-le-mul l l
@@ -157,7 +156,7 @@ module _ {F : Frame} (e : Bool) {b c : List ℕ} {top : ℕ} (g : PartIn F b c t
       let lw : F .dw ≤ top = g .low-w in
       ap₂ (signed (ρ .𝓥 .K .ops) e) (along-low ρ b (F .r) (F .dr) j (N._-_ top (F .dr)) (omega arith)) (along-low ρ c (F .w) (F .dw) j (N._-_ top (F .dw)) (omega arith)) ∙ signed-zero (ρ .𝓥 .K) e
 
-pub parted : {F : Frame} {e : Bool} {b c : List ℕ} {top : ℕ} {z : List ℕ} {i : ℕ} → PartIn F b c top → Laid (F .p) top (λ pr j. partAt F pr e b c top j) z i → top ≤ i → Parted F e b c top z
+pub parted : {F : Frame} {e : Bool} {b c : List ℕ} {top : ℕ} {z : List ℕ} {i : ℕ} → PartIn F b c top → Laid (F .m .p) top (λ pr j. partAt F pr e b c top j) z i → top ≤ i → Parted F e b c top z
 parted {F} {e} {b} {c} {top} {z} g h l = record {
   short = laid-short h l;
   law = λ μ. lt-eq (rd μ .𝓥) (part-floor e g μ) (ap (λ y. rd μ .𝓥 .L .ops .add (side μ e (pt μ b c)) (rd μ .𝓥 .L .ops .neg y)) (sym (laid-row h l (μ .prime) (part-high e g μ))));
@@ -245,23 +244,23 @@ module _ {p : ℕ} {b : List ℕ} {n : ℕ} {s : List ℕ} {d j : ℕ} (g : Plai
       record { below = omega arith; law = λ pr. h .law pr ∙ ap (along (reading p pr) b s d j) e }
 
 -- ---- one coefficient of a size, from two sums; p divides q
-module _ {F : Frame} {b c : List ℕ} {top j : ℕ} (g : PartIn F b c top) (q Q x y : ℕ) (none : (pr : Prime (F .p)) → reading (F .p) pr .cast q ≡ reading (F .p) pr .𝓥 .K .ops .𝟎)
-    (hx : Terms (F .p) Q b (N._-_ top (F .dr)) (F .r) (F .dr) j x) (hy : Terms (F .p) Q c (N._-_ top (F .dw)) (F .w) (F .dw) j y) (le : y ≤ q) where
-  pos : 0 < F .p
-  pos = let k : 1 < F .p = g .fine .modulus .big in omega arith
+module _ {F : Frame} {b c : List ℕ} {top j : ℕ} (g : PartIn F b c top) (q Q x y : ℕ) (none : (pr : Prime (F .m .p)) → reading (F .m .p) pr .cast q ≡ reading (F .m .p) pr .𝓥 .K .ops .𝟎)
+    (hx : Terms (F .m .p) Q b (N._-_ top (F .dr)) (F .r) (F .dr) j x) (hy : Terms (F .m .p) Q c (N._-_ top (F .dw)) (F .w) (F .dw) j y) (le : y ≤ q) where
+  pos : 0 < F .m .p
+  pos = let k : 1 < F .m .p = g .fine .modulus .big in omega arith
 
-  pub part-minus : {e : Bool} → e ≡ true → PartAt F e b c top j (N._+_ x (N._-_ q y) % F .p)
-  part-minus {e} u = subst (λ e. PartAt F e b c top j (N._+_ x (N._-_ q y) % F .p)) (sym u) (record {
+  pub part-minus : {e : Bool} → e ≡ true → PartAt F e b c top j (N._+_ x (N._-_ q y) % F .m .p)
+  part-minus {e} u = subst (λ e. PartAt F e b c top j (N._+_ x (N._-_ q y) % F .m .p)) (sym u) (record {
     below = mod-lt _ pos;
     law = λ pr.
-        let ρ = reading (F .p) pr in
+        let ρ = reading (F .m .p) pr in
         ρ .cast-mod (N._+_ x (N._-_ q y)) ∙ ρ .cast-add x (N._-_ q y) ∙ ap₂ (ρ .𝓥 .K .ops .add) (hx .law pr) (cast-from ρ q y (none pr) le ∙ ap (ρ .𝓥 .K .ops .neg) (hy .law pr));
   })
 
-  pub part-plus : {e : Bool} → e ≡ false → PartAt F e b c top j (N._+_ x y % F .p)
-  part-plus {e} u = subst (λ e. PartAt F e b c top j (N._+_ x y % F .p)) (sym u) (record {
+  pub part-plus : {e : Bool} → e ≡ false → PartAt F e b c top j (N._+_ x y % F .m .p)
+  part-plus {e} u = subst (λ e. PartAt F e b c top j (N._+_ x y % F .m .p)) (sym u) (record {
     below = mod-lt _ pos;
-    law = λ pr. let ρ = reading (F .p) pr in ρ .cast-mod (N._+_ x y) ∙ ρ .cast-add x y ∙ ap₂ (ρ .𝓥 .K .ops .add) (hx .law pr) (hy .law pr);
+    law = λ pr. let ρ = reading (F .m .p) pr in ρ .cast-mod (N._+_ x y) ∙ ρ .cast-add x y ∙ ap₂ (ρ .𝓥 .K .ops .add) (hx .law pr) (hy .law pr);
   })
 
   -- a number of the same remainder

@@ -1,17 +1,17 @@
--- `basis_reduce::plus` meets its contract: a product of two numbers below p is below p p, which is below 2^62.
+-- `basis_parts::plus` meets its contract: a product of two numbers below p is below p p, which is below 2^62.
 use mathlib.Core.Path.{_≡_, refl}
 use Prim.Native.Nat.{ℕ, _+_, _*_, _<_}
 use native.Mathlib.Omega.{arith}
 use Rattle.math_rows.specs.Made.{reading}
-use Rattle.basis_reduce.proofs.Leaves.{less-square, square-small, cast-less}
-use Rattle.basis_reduce.proofs.plus.Statement.{statement}
-use Rattle.basis_reduce.proofs.plus.Tie as tie
+use Rattle.basis_parts.proofs.Leaves.{less-square, square-small, cast-less}
+use Rattle.basis_parts.proofs.plus.Statement.{statement}
+use Rattle.basis_parts.proofs.plus.Tie as tie
 
 mul-s : tie.Need-mul-s
-mul-s c = omega (arith, less-square (c .args .p) (c .args .y) (c .args .z) (c .pre .hy) (c .pre .hz), square-small (c .args .p) (c .pre .modulus))
+mul-s c = omega (arith, less-square (c .args .p) (c .args .y) (c .args .z) (c .pre .hy) (c .pre .hz), square-small (c .args .p) (c .pre .modulus .small))
 
 add-s : tie.Need-add-s
-add-s c = omega (arith, less-square (c .args .p) (c .args .y) (c .args .z) (c .pre .hy) (c .pre .hz), square-small (c .args .p) (c .pre .modulus))
+add-s c = omega (arith, less-square (c .args .p) (c .args .y) (c .args .z) (c .pre .hy) (c .pre .hz), square-small (c .args .p) (c .pre .modulus .small))
 
 returns : tie.Need-returns
 returns c = record { below = c .if1 .taken; law = λ pr. refl }
