@@ -62,9 +62,9 @@ negate-spec =
     Inv-loop
     μ-loop
     loop-holds
-    mul-once
-    element-copy-out-once
-    sub-once
+    mul-reduce-once
+    element-copy-out-reduce-once
+    sub-reduce-once
     reduce-once-requires
     mul-x
     element-write-x
