@@ -26,12 +26,12 @@ pub fn prepare(p: u64) -> Modulus
     requires { ⌜ IsModulus p ⌝ }
     ensures { λ q. ⌜ PreparedOf p q ⌝ }
 {
+    let m = scale_of(p);
     if p < 65536 {
-        let m = scale_of(p);
         let lim = 64 * (p * p);
         Modulus { p, m, lim }
     } else {
-        Modulus { p, m: 0, lim: 0 }
+        Modulus { p, m, lim: 0 }
     }
 }
 
