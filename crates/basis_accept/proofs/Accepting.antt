@@ -13,6 +13,9 @@ use lib.ListN.{length, getD}
 use Rattle.math_valued.specs.Val.{Valued}
 use Rattle.math_valued.specs.Degree.{Has, Lt}
 use Rattle.math_valued.proofs.Degree as d
+use Rattle.math_fp.specs.Fp.{Prime}
+use Rattle.num_mod.specs.Prepared.{PreparedOf}
+use Rattle.num_mod.specs.declared.Modulus.{Modulus}
 use Rattle.math_rows.specs.Reading.{Reading}
 use Rattle.math_rows.specs.Made.{reading}
 use Rattle.math_rows.specs.Row.{Row, row}
@@ -22,7 +25,7 @@ use Rattle.field_open.specs.Refusal.{Accepted}
 use Rattle.basis_record.specs.Record.{setting, basisOf, IsRecord}
 use Rattle.field_series.specs.Answer.{Prefix}
 use Rattle.field_series.specs.declared.Cubic.{Cubic}
-use Rattle.basis_parts.specs.Frame.{Frame, Fine, Short}
+use Rattle.basis_parts.specs.Frame.{Frame, frame, Fine, Short}
 use Rattle.step_divide.specs.Rows.{Seven, seven, AreRows, rowsOf}
 use Rattle.step_divide.proofs.Products.{Sizes, sizes, monic-inverts}
 use Rattle.basis_scale.specs.Store.{Loaded, SevenLoaded}
@@ -30,7 +33,7 @@ use Rattle.basis_scale.proofs.Place.{row-short}
 use Rattle.basis_scale.proofs.Start.{meaning}
 use Rattle.basis_scale.proofs.Loads.{rows-path, rows-good}
 use Rattle.basis_field.specs.Known.{Known}
-use Rattle.basis_field.proofs.Ground.{frameOf, frame-is, fine, r-reads, w-reads, modulus, dr-is, dw-is, room}
+use Rattle.basis_field.proofs.Ground.{frameOf, frame-is, frame-by, fine, r-reads, w-reads, modulus, dr-is, dw-is, room}
 use Rattle.basis_field.proofs.Lists.{field-holds, g-row, h-row, gh-row, holds-of}
 use Rattle.book_bytes.specs.Decides.{Decides}
 use Rattle.book_bytes.proofs.Tests.{answer-no, settled}
@@ -147,6 +150,17 @@ module _ {p : ℕ} {G H : List ℕ} (A : Accepted p G H) (c : Cubic) (h : Prefix
 pub are-rows : {p : ℕ} {b : Seven} → Seventeen p b → AreRows p b
 are-rows s = record { m0 = s .m0 .is-row; m1 = s .m1 .is-row; m2 = s .m2 .is-row; n0 = s .n0 .is-row; n1 = s .n1 .is-row; n2 = s .n2 .is-row; u = s .u .is-row }
 
+-- ---- what is prepared of p in place of p
+module _ (c : Cubic) {q : Modulus} (e : PreparedOf (c .field .p) q) {b : Seven} where
+  pub shaped-by : (top : ℕ) → ShapedIn (frameOf c) top b → ShapedIn (frame q (c .r) (c .w) (c .field .dr) (c .field .dw)) top b
+  shaped-by top i = subst (λ F. ShapedIn F top b) (frame-by c e) i
+
+  pub shaped-from : {o : Bool} → Shaped (frame q (c .r) (c .w) (c .field .dr) (c .field .dw)) b o → Shaped (frameOf c) b o
+  shaped-from {o} s = subst (λ F. Shaped F b o) (sym (frame-by c e)) s
+
+  pub alone-from : {o : Bool} → Alone (q .p) b o → Alone (c .field .p) b o
+  alone-from {o} s = subst (λ p. Alone p b o) (e .is) s
+
 -- ---- one test after the other
 module _ {c : Cubic} {b : Seven} (i : PassIn c b) where
   abbrev pub A₀ : Accepted (i .known .p) (i .known .G) (i .known .H)
@@ -170,9 +184,10 @@ module _ {c : Cubic} {b : Seven} (i : PassIn c b) where
   pub not-alone : {o : Bool} → o ≡ false → Alone (c .field .p) b o → Passes c b false
   not-alone e a p G H A h = answer-no (λ good. alone-at A h a G H A .no! e (good .scaled .seven))
 
-  pub alone-in : AloneIn (c .field .p) b
-  alone-in = subst (λ q. AloneIn q b) (sym (p-is A₀ c (i .known .prefix)))
-      (record { modulus = modulus A₀ c (i .known .prefix); prime = A₀ .prime; rows = are-rows (rows-at A₀ (i .known .prefix)) })
+  pub alone-in : {q : Modulus} → PreparedOf (c .field .p) q → AloneIn q b
+  alone-in {q} e =
+      let u : i .known .p ≡ q .p = sym (p-is A₀ c (i .known .prefix)) ∙ sym (e .is) in
+      record { modulus = e .prepared; prime = subst Prime u (A₀ .prime); rows = subst (λ p. AreRows p b) u (are-rows (rows-at A₀ (i .known .prefix))) }
 
   -- the bounds of the field
   pub sum-low : c .field .dr + c .field .dw ≤ 16

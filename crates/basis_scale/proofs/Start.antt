@@ -9,6 +9,7 @@ use Rattle.math_ring.proofs.Laws as rg
 use Rattle.math_valued.specs.Polynomial.{polys}
 use Rattle.math_valued.proofs.Degree.{lead-eq, same}
 use Rattle.math_valued.proofs.Polynomial.{P-path}
+use Rattle.num_mod.specs.Prepared.{ready}
 use Rattle.math_rows.specs.Made.{reading}
 use Rattle.math_rows.specs.Row.{Reads}
 use Rattle.math_turns.specs.Points.{Moved}
@@ -28,7 +29,7 @@ use Rattle.basis_scale.proofs.First.{unit-is, nothing-is}
 
 module _ {p : ℕ} {G H : List ℕ} (A : Accepted p G H) (r w : List ℕ) (hr : Reads (reading p (A .prime)) r (setting A .dr) (setting A .r)) (hw : Reads (reading p (A .prime)) w (setting A .dw) (setting A .w)) where
   abbrev pub fieldFrame : Frame
-  fieldFrame = frame p r w (setting A .dr) (setting A .dw)
+  fieldFrame = frame (ready p) r w (setting A .dr) (setting A .dw)
 
   -- the lists mean the series of the field
   abbrev pub meaning : Meaning fieldFrame

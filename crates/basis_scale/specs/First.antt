@@ -21,8 +21,8 @@ units = pair unit nothing nothing unit
 
 pub record OrderIn (F : Frame) (top : ℕ) : Type 0 where
   pub fine : Fine F
-  pub small : F .p ≤ 65535
-  pub odd : F .p % 2 ≡ 1
+  pub small : F .m .p ≤ 65535
+  pub odd : F .m .p % 2 ≡ 1
   pub top-is : top ≡ suc (F .dr + F .dw)
   pub fits : top ≤ 17
   pub some : Meaning F

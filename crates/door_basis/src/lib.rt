@@ -16,8 +16,9 @@ pub fn first(c: field_series::Cubic) -> [u16; 119]
     let f = c.field;
     let r = c.r;
     let w = c.w;
+    let m = num_mod::prepare(f.p);
     let b = basis_parts::Bounds {
-        p: f.p,
+        m,
         dr: f.dr,
         dw: f.dw,
         top: f.dr + f.dw + 1,

@@ -13,7 +13,8 @@ use Rattle.math_valued.specs.Degree.{Has, Lt}
 use Rattle.math_valued.specs.Polynomial.{polys, Poly}
 use Rattle.math_valued.proofs.Degree as d
 use Rattle.math_valued.proofs.Polynomial.{P-path, view, not-zero}
-use Rattle.num_mod.specs.Residue.{IsModulus}
+use Rattle.num_mod.specs.Prepared.{ready}
+use Rattle.num_mod.proofs.Prepared.{ready-prepared}
 use Rattle.math_rows.specs.Reading.{Reading}
 use Rattle.math_rows.specs.Made.{reading}
 use Rattle.math_rows.specs.Row.{Row, Size, row}
@@ -65,7 +66,7 @@ pub record RowsOf (p : ℕ) (o : Generators) : Type 0 where
   pub hu : Row p (o .u)
 
 module _ {p : ℕ} {G H : List ℕ} (A : Accepted p G H) {g h gh : List ℕ} {n dr dw : ℕ} {r w : List ℕ} (k : Known A g h gh n dr dw r w) where
-  abbrev pub meaning : Meaning (frame p r w dr dw)
+  abbrev pub meaning : Meaning (frame (ready p) r w dr dw)
   meaning = record {
     prime = A .prime;
     r = setting A .r;
@@ -132,7 +133,7 @@ module _ {p : ℕ} {G H : List ℕ} (A : Accepted p G H) {g h gh : List ℕ} {n 
         ]
       ]
 
-  abbrev μ : Meaning (frame p r w dr dw)
+  abbrev μ : Meaning (frame (ready p) r w dr dw)
   μ = meaning A (kp .known A)
 
   -- the sizes of the two elements
@@ -214,11 +215,11 @@ module _ {p : ℕ} {G H : List ℕ} (A : Accepted p G H) {g h gh : List ℕ} {n 
   short-c x y {i} hy l lx ly = row-short ρ (suc (rm .s) - dw) hy
       (c-lt ρ (setting A .r) (setting A .w) {a = at x y} dw (suc (rm .s) - dw) (setting A .two≢) (μ .w-deg) lx ly (let q : dw ≤ suc (rm .s) = dw-low in omega arith))
 
-  clear-in : ClearIn (frame p r w dr dw) (pairOf o) (suc (rm .s)) (suc (rm .u))
+  clear-in : ClearIn (frame (ready p) r w dr dw) (pairOf o) (suc (rm .s)) (suc (rm .u))
   clear-in = record {
     room = record {
       fine = record {
-        modulus = record { big = A .prime .big; small = (let l : p ≤ 65535 = A .high in omega arith) };
+        modulus = ready-prepared p (record { big = A .prime .big; small = (let l : p ≤ 65535 = A .high in omega arith) });
         hr = kp .hr;
         hw = kp .hw;
       };
@@ -254,7 +255,7 @@ module _ {p : ℕ} {G H : List ℕ} (A : Accepted p G H) {g h gh : List ℕ} {n 
   u-has : Has (ρ .𝓥) (row ρ (o .u)) (rm .u)
   u-has = d.has-eq (ρ .𝓥) (rm .d-has) (sym (ap (λ t. t .0) (m .u-is)))
 
-  basis-in′ : BasisIn (frame p r w dr dw) (pairOf o) (suc (rm .s)) (o .u) (o .x) (o .y)
+  basis-in′ : BasisIn (frame (ready p) r w dr dw) (pairOf o) (suc (rm .s)) (o .u) (o .x) (o .y)
   basis-in′ =
       let nx = r-narrow (setting A) (rowsOf A b) (small (setting A) (rowsOf A b) good) good (m .k .of-r) in
       let ny = w-narrow (setting A) (rowsOf A b) (small (setting A) (rowsOf A b) good) good (m .k .of-w) in
@@ -274,5 +275,5 @@ module _ {p : ℕ} {G H : List ℕ} (A : Accepted p G H) {g h gh : List ℕ} {n 
         clear = clear-in;
       }
 
-  pub basis-in : BasisIn (frame p r w dr dw) (pairOf o) (n + 1 - o .cut) (o .u) (o .x) (o .y)
-  basis-in = subst (λ j. BasisIn (frame p r w dr dw) (pairOf o) j (o .u) (o .x) (o .y)) whole basis-in′
+  pub basis-in : BasisIn (frame (ready p) r w dr dw) (pairOf o) (n + 1 - o .cut) (o .u) (o .x) (o .y)
+  basis-in = subst (λ j. BasisIn (frame (ready p) r w dr dw) (pairOf o) j (o .u) (o .x) (o .y)) whole basis-in′

@@ -19,7 +19,7 @@ module _ {F : Frame} {q : Pair} {top lu : ℕ} {b : Bool} {mb mc mx nb nc nx : L
 reduced-requires : tie.Need-reduced-requires
 reduced-requires c κs =
     let i = c .before .before .before .before .before .before .pre in
-    record { inp = record { inp = based-clear (i .by .inp) (i .by .size); ready = i .by .ready }; hmx = i .hmx; hnx = i .hnx }
+    record { inp = based-clear (i .by .inp) (i .by .size); hmx = i .hmx; hnx = i .hnx }
 
 finished-requires : tie.Need-finished-requires
 finished-requires c κs = record { q = _; by = c .before .before .before .before .before .before .before .before .before .before .before .before .before .before .before .before .before .pre .by; from = swapped (c .before .before .before .before .before .before .before .before .before .if1 .taken) (c .before .before .before .before .before .before .before .before .before .before .reduced .ensures) }

@@ -67,10 +67,10 @@ divided-requires : tie.Need-divided-requires
 divided-requires c κs =
     let s = c .before .before .before .before .before .before .before .before .before .before .before .before .before .before .before .before .before .before .before .before .before .before .pre in
     let l = seven-loaded (c .before .before .before .before .before .before .before .before .before .before .before .before .before .before .before) in
-    record { inp = divided-in (s .on .inp) l; ready = s .on .ready; sg = g-size (s .on .inp) l; sh = h-size (s .on .inp) l; sgh = gh-size (s .on .inp) l; blank-x = s .on .blank-x; blank-y = s .on .blank-y; blank-d = s .on .blank-d }
+    record { inp = divided-in (s .on .inp) l; modulus = s .on .modulus .prepared; sg = g-size (s .on .inp) l; sh = h-size (s .on .inp) l; sgh = gh-size (s .on .inp) l; blank-x = s .on .blank-x; blank-y = s .on .blank-y; blank-d = s .on .blank-d }
 
-sub-t27 : tie.Need-sub-t27
-sub-t27 c = shorter (c .before .before .before .before .before .before .before .before .before .before .before .before .before .before .before .before .before .before .before .before .before .before .before .before .pre .on .inp) (seven-loaded (c .before .before .before .before .before .before .before .before .before .before .before .before .before .before .before .before .before)) _ _ (c .before .divided .ensures .was-m0) (c .before .divided .ensures .was-u)
+sub-t26 : tie.Need-sub-t26
+sub-t26 c = shorter (c .before .before .before .before .before .before .before .before .before .before .before .before .before .before .before .before .before .before .before .before .before .before .before .before .pre .on .inp) (seven-loaded (c .before .before .before .before .before .before .before .before .before .before .before .before .before .before .before .before .before)) _ _ (c .before .divided .ensures .was-m0) (c .before .divided .ensures .was-u)
 
 returns : tie.Need-returns
 returns c = record { b = _; loaded = seven-loaded (c .before .before .before .before .before .before .before .before .before .before .before .before .before .before .before .before .before); lm = _; lu = _; divided = c .before .divided .ensures; degree = refl }
@@ -97,5 +97,5 @@ parted-spec =
     sub-divided-2
     sub-divided-3
     divided-requires
-    sub-t27
+    sub-t26
     returns)
