@@ -61,19 +61,19 @@ sub-divided-2 : tie.Need-sub-divided-2
 sub-divided-2 c = omega (arith, dw-low (c .before .before .before .before .before .before .before .before .pre .on .inp) (seven-loaded (c .before)))
 
 sub-divided-3 : tie.Need-sub-divided-3
-sub-divided-3 c = lead-low (c .before .before .before .before .before .before .before .before .pre .on .inp) (seven-loaded (c .before))
+sub-divided-3 c = lead-low (c .before .before .before .before .before .before .before .before .before .pre .on .inp) (seven-loaded (c .before .before))
 
 divided-requires : tie.Need-divided-requires
 divided-requires c κs =
-    let s = c .before .before .before .before .before .before .before .before .before .before .before .before .before .before .before .before .before .before .before .before .before .before .pre in
-    let l = seven-loaded (c .before .before .before .before .before .before .before .before .before .before .before .before .before .before .before) in
+    let s = c .before .before .before .before .before .before .before .before .before .before .before .before .before .before .before .before .before .before .before .before .before .before .before .pre in
+    let l = seven-loaded (c .before .before .before .before .before .before .before .before .before .before .before .before .before .before .before .before) in
     record { inp = divided-in (s .on .inp) l; modulus = s .on .modulus .prepared; sg = g-size (s .on .inp) l; sh = h-size (s .on .inp) l; sgh = gh-size (s .on .inp) l; blank-x = s .on .blank-x; blank-y = s .on .blank-y; blank-d = s .on .blank-d }
 
 sub-t26 : tie.Need-sub-t26
-sub-t26 c = shorter (c .before .before .before .before .before .before .before .before .before .before .before .before .before .before .before .before .before .before .before .before .before .before .before .before .pre .on .inp) (seven-loaded (c .before .before .before .before .before .before .before .before .before .before .before .before .before .before .before .before .before)) _ _ (c .before .divided .ensures .was-m0) (c .before .divided .ensures .was-u)
+sub-t26 c = shorter (c .before .before .before .before .before .before .before .before .before .before .before .before .before .before .before .before .before .before .before .before .before .before .before .before .before .pre .on .inp) (seven-loaded (c .before .before .before .before .before .before .before .before .before .before .before .before .before .before .before .before .before .before)) _ _ (c .before .divided .ensures .was-m0) (c .before .divided .ensures .was-u)
 
 returns : tie.Need-returns
-returns c = record { b = _; loaded = seven-loaded (c .before .before .before .before .before .before .before .before .before .before .before .before .before .before .before .before .before); lm = _; lu = _; divided = c .before .divided .ensures; degree = refl }
+returns c = record { b = _; loaded = seven-loaded (c .before .before .before .before .before .before .before .before .before .before .before .before .before .before .before .before .before .before); lm = _; lu = _; divided = c .before .divided .ensures; degree = refl }
 
 pub parted-spec : {M : Type 1} → statement M
 parted-spec =
