@@ -1,17 +1,17 @@
 // Refusal 9: all tests of a record. Each is two-sided. specs/Tests.antt has what they decide; proofs/ has that lengths of polynomial parts decide
 // the sizes (Shapes). Crate shape has the tests of numbers and lengths, crate basis_lattice those of membership.
-use num_mod::Modulus;
-use num_mod::prepare;
-use basis_scale::load;
 use basis_lattice::under;
-use poly_rows::cross;
-use poly_factors::gcd;
-use poly_rows::size;
 use basis_parts::Bounds;
 use basis_parts::part;
+use basis_scale::load;
 use basis_shape::below;
 use basis_shape::narrow;
 use basis_shape::shape;
+use num_mod::Modulus;
+use num_mod::prepare;
+use poly_factors::gcd;
+use poly_rows::cross;
+use poly_rows::size;
 ghost use Rattle.step_divide.specs.Rows.{seven};
 ghost use Rattle.basis_field.specs.Known.{Known};
 ghost use Rattle.basis_parts.specs.Given.{given};

@@ -1,12 +1,12 @@
 // Refusal 9: whether an element lies in the lattice of a record, and whether the lattice is closed under products with r and w. specs/ has what
 // the tests decide; proofs/ has that exact divisions decide membership (Members), the products (Products) and the answer (Closing).
-use step_divide::det;
+use num_mod::inverse;
 use poly_rows::add;
 use poly_rows::divide;
 use poly_rows::mul;
 use poly_rows::size;
 use poly_rows::sub;
-use num_mod::inverse;
+use step_divide::det;
 ghost use mathlib.Core.Path.{_≡_};
 ghost use Rattle.step_divide.specs.Rows.{seven};
 ghost use Rattle.basis_lattice.specs.Lattice.{InsideIn, Inside, MemberIn, Member};

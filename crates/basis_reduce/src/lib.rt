@@ -1,13 +1,13 @@
 // The reduction of two elements b r + c w to a reduced pair, on rows of 32 coefficients, lowest first, each below p.
 // Rows are lent, and turned in place; crate basis_parts has the polynomial parts and their leading terms.
 // Every contract speaks of the polynomial that a row stands for; none speaks of coefficients.
-use num_mod::Modulus;
-use poly_rows::cross_in;
-use poly_rows::size_from;
 use basis_parts::Bounds;
 use basis_parts::Top;
 use basis_parts::part_in;
 use basis_parts::top_of;
+use num_mod::Modulus;
+use poly_rows::cross_in;
+use poly_rows::size_from;
 ghost use Rattle.basis_parts.specs.Given.{given};
 ghost use Rattle.basis_reduce.specs.Clear.{CancelIn, CancelOut, ClearIn, Cleared, ShearBy, Sheared, ReduceIn, Reduced, pair, ends, swapIf, endsIf};
 

@@ -1,15 +1,15 @@
 // The basis record: seven rows of 17 coefficients, M0, M1, M2, N0, N1, N2, U. It starts as zeros and is filled row by row.
-use num_mod::Modulus;
-use poly_rows::cross_in;
-use poly_rows::scale_in;
-use poly_rows::size_from;
 use basis_parts::Bounds;
 use basis_parts::lead_of;
 use basis_reduce::reduced;
+use num_mod::Modulus;
 use num_mod::inverse;
 use poly_lent::both_in;
 use poly_lent::mix_in;
 use poly_lent::quotient_in;
+use poly_rows::cross_in;
+use poly_rows::scale_in;
+use poly_rows::size_from;
 ghost use mathlib.Core.Path.{_≡_};
 ghost use Prim.Native.Nat.{_+_, _*_, _-_, _%_, _<_, _≤_};
 ghost use Rattle.basis_parts.specs.Given.{given};
@@ -125,21 +125,7 @@ fn placed(
     let nb = size_from(b, top);
     let nc = size_from(c, top);
     let mut k = *x;
-    let n = both_in(
-        q,
-        false,
-        b,
-        nb,
-        x1,
-        n1,
-        false,
-        c,
-        nc,
-        y1,
-        n2,
-        &mut k,
-        top,
-    );
+    let n = both_in(q, false, b, nb, x1, n1, false, c, nc, y1, n2, &mut k, top);
     level(q, u, lu, &mut k, n, x, top);
     stored(rows, i, x, top);
     stored(rows, i + 1, b, top);
@@ -168,38 +154,8 @@ fn filled(
     ensures { λ o. ⌜ Filled (q .p) k (now (mb .entry)) (now (mc .entry)) (now (mx .entry)) (now (nb .entry)) (now (nc .entry)) (now (nx .entry)) (now (x1 .entry)) (now (y1 .entry)) (now (u .entry)) o ⌝ }
 {
     let mut rows: [u16; 119] = [0; 119];
-    placed(
-        &mut rows,
-        0,
-        q,
-        top,
-        k.m,
-        mb,
-        mc,
-        mx,
-        x1,
-        n1,
-        y1,
-        n2,
-        u,
-        lu,
-    );
-    placed(
-        &mut rows,
-        3,
-        q,
-        top,
-        k.n,
-        nb,
-        nc,
-        nx,
-        x1,
-        n1,
-        y1,
-        n2,
-        u,
-        lu,
-    );
+    placed(&mut rows, 0, q, top, k.m, mb, mc, mx, x1, n1, y1, n2, u, lu);
+    placed(&mut rows, 3, q, top, k.n, nb, nc, nx, x1, n1, y1, n2, u, lu);
     stored(&mut rows, 6, u, lu);
     rows
 }

@@ -1,10 +1,10 @@
 // The rows of a unit carried over from one pair to another pair of the same field. specs/Transfer.antt says what the answer and the lent
 // slice are, specs/Code.antt what the parts do.
-use poly_long::scale;
-use pair_agree::Pairing;
 use num_mod::cube_root;
 use num_mod::inverse;
 use num_mod::mul;
+use pair_agree::Pairing;
+use poly_long::scale;
 ghost use Rattle.pair_agree.specs.Rows.{Law};
 ghost use Rattle.door_transfer.specs.Transfer.{Transfers};
 ghost use Rattle.door_transfer.specs.Code.{FactorsIn, ExchangeIn, Exchanged, PartIn, Part, MultiplyIn, Multiplied, CarryIn, Carried, CarriedSwapped, Unfit};

@@ -1,12 +1,12 @@
 // The generators of the next ideal, on rows: r m and w m in coordinates by exact quotients, and what they have in common taken off.
 use num_mod::Modulus;
 use num_mod::reduce_once;
-use poly_rows::size;
-use poly_rows::size_from;
 use poly_lent::both_in;
 use poly_lent::det_in;
 use poly_lent::quotient_in;
 use poly_lent::times_in;
+use poly_rows::size;
+use poly_rows::size_from;
 ghost use mathlib.Core.Path.{_≡_};
 ghost use Rattle.step_divide.specs.Rows.{seven};
 ghost use Rattle.step_divide.specs.Quotients.{three, DetIn, Det};

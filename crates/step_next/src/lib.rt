@@ -1,10 +1,10 @@
 // The step: from the record of a reduced ideal to that of the ideal divided by m, with the degree of m.
+use basis_parts::Bounds;
 use basis_scale::load;
 use basis_scale::reduced_basis;
-use step_divide::divided;
 use num_mod::Modulus;
 use num_mod::prepare;
-use basis_parts::Bounds;
+use step_divide::divided;
 ghost use Rattle.step_divide.specs.Quotients.{three};
 ghost use Rattle.step_divide.specs.Generated.{generators};
 ghost use Rattle.step_next.specs.Steps.{AdvanceIn, Advanced};

@@ -1,8 +1,8 @@
 // The rows F0, F1, F2 of the inverse, after those of E in the lent slice of crate unit_rows.
+use num_mod::inverse;
 use poly_long::clear;
 use poly_long::mix;
 use poly_long::scale;
-use num_mod::inverse;
 use unit_rows::wide;
 ghost use Rattle.unit_inverse.specs.Inverse.{PairIn, Pair, CofactorIn, Cofactor, NormIn, Norm, InvertIn, Inverted};
 
