@@ -68,13 +68,15 @@ returns : tie.Need-returns
 returns c =
     let s = c .before .before .before in
     let y : c .before .terms2 .result < s .args .q = c .before .terms2 .ensures .below in
-    part-minus (s .pre .inp) (s .args .q) _ _ _ (λ pr. ap (reading (s .args .f .m .p) pr .cast) (s .pre .is-q) ∙ cast-square (reading (s .args .f .m .p) pr)) (c .before .before .terms .ensures) (c .before .terms2 .ensures) (omega arith) (c .if1 .taken)
+    part-minus (s .pre .inp) (s .args .q) _ _ _ (λ pr. ap (reading (s .args .f .m .p) pr .cast) (s .pre .is-q) ∙ cast-square (reading (s .args .f .m .p) pr))
+    (c .before .before .terms .ensures) (c .before .terms2 .ensures) (omega arith) (c .if1 .taken)
 
 returns-2 : tie.Need-returns-2
 returns-2 c =
     let s = c .before .before .before in
     let y : c .before .terms2 .result < s .args .q = c .before .terms2 .ensures .below in
-    part-plus (s .pre .inp) (s .args .q) _ _ _ (λ pr. ap (reading (s .args .f .m .p) pr .cast) (s .pre .is-q) ∙ cast-square (reading (s .args .f .m .p) pr)) (c .before .before .terms .ensures) (c .before .terms2 .ensures) (omega arith) (c .if1 .left)
+    part-plus (s .pre .inp) (s .args .q) _ _ _ (λ pr. ap (reading (s .args .f .m .p) pr .cast) (s .pre .is-q) ∙ cast-square (reading (s .args .f .m .p) pr))
+    (c .before .before .terms .ensures) (c .before .terms2 .ensures) (omega arith) (c .if1 .left)
 
 pub part-at-spec : {M : Type 1} → statement M
 part-at-spec =

@@ -79,23 +79,29 @@ reduce-requires-2 c κs = c .before .before .before .before .pre .inp .inp .fine
 
 returns : tie.Need-returns
 returns c =
-    let s = c .before .before .before .before .before in
+    let at2 = c .before .before in
+    let at3 = at2 .before in
+    let s = at3 .before .before in
     let e : s .args .q ≡ s .args .f .m .p * s .args .f .m .p = s .pre .inp .is-q in
-    let y : c .before .before .plain2 .result < 32 * (s .args .f .m .p * s .args .f .m .p) + 1 = c .before .before .plain2 .ensures .below in
-    let l : c .before .before .plain2 .result ≤ 32 * s .args .q = omega arith in
-    let none : (pr : Prime (s .args .f .m .p)) → reading (s .args .f .m .p) pr .cast (32 * s .args .q) ≡ reading (s .args .f .m .p) pr .𝓥 .K .ops .𝟎 = (λ pr. cast-squares (reading (s .args .f .m .p) pr) 32 (s .args .q) e) in
-    part-as (s .pre .inp .inp) (32 * s .args .q) _ _ _ none (c .before .before .before .plain .ensures) (c .before .before .plain2 .ensures) l (c .reduce .ensures)
-    (part-minus (s .pre .inp .inp) (32 * s .args .q) _ _ _ none (c .before .before .before .plain .ensures) (c .before .before .plain2 .ensures) l (c .before .if1 .taken))
+    let y : at2 .plain2 .result < 32 * (s .args .f .m .p * s .args .f .m .p) + 1 = at2 .plain2 .ensures .below in
+    let l : at2 .plain2 .result ≤ 32 * s .args .q = omega arith in
+    let none : (pr : Prime (s .args .f .m .p)) → reading (s .args .f .m .p) pr .cast (32 * s .args .q) ≡ reading (s .args .f .m .p) pr .𝓥 .K .ops .𝟎 =
+    (λ pr. cast-squares (reading (s .args .f .m .p) pr) 32 (s .args .q) e) in
+    part-as (s .pre .inp .inp) (32 * s .args .q) _ _ _ none (at3 .plain .ensures) (at2 .plain2 .ensures) l (c .reduce .ensures)
+    (part-minus (s .pre .inp .inp) (32 * s .args .q) _ _ _ none (at3 .plain .ensures) (at2 .plain2 .ensures) l (c .before .if1 .taken))
 
 returns-2 : tie.Need-returns-2
 returns-2 c =
-    let s = c .before .before .before .before .before in
+    let at2 = c .before .before in
+    let at3 = at2 .before in
+    let s = at3 .before .before in
     let e : s .args .q ≡ s .args .f .m .p * s .args .f .m .p = s .pre .inp .is-q in
-    let y : c .before .before .plain2 .result < 32 * (s .args .f .m .p * s .args .f .m .p) + 1 = c .before .before .plain2 .ensures .below in
-    let l : c .before .before .plain2 .result ≤ 32 * s .args .q = omega arith in
-    let none : (pr : Prime (s .args .f .m .p)) → reading (s .args .f .m .p) pr .cast (32 * s .args .q) ≡ reading (s .args .f .m .p) pr .𝓥 .K .ops .𝟎 = (λ pr. cast-squares (reading (s .args .f .m .p) pr) 32 (s .args .q) e) in
-    part-as (s .pre .inp .inp) (32 * s .args .q) _ _ _ none (c .before .before .before .plain .ensures) (c .before .before .plain2 .ensures) l (c .reduce2 .ensures)
-    (part-plus (s .pre .inp .inp) (32 * s .args .q) _ _ _ none (c .before .before .before .plain .ensures) (c .before .before .plain2 .ensures) l (c .before .if1 .left))
+    let y : at2 .plain2 .result < 32 * (s .args .f .m .p * s .args .f .m .p) + 1 = at2 .plain2 .ensures .below in
+    let l : at2 .plain2 .result ≤ 32 * s .args .q = omega arith in
+    let none : (pr : Prime (s .args .f .m .p)) → reading (s .args .f .m .p) pr .cast (32 * s .args .q) ≡ reading (s .args .f .m .p) pr .𝓥 .K .ops .𝟎 =
+    (λ pr. cast-squares (reading (s .args .f .m .p) pr) 32 (s .args .q) e) in
+    part-as (s .pre .inp .inp) (32 * s .args .q) _ _ _ none (at3 .plain .ensures) (at2 .plain2 .ensures) l (c .reduce2 .ensures)
+    (part-plus (s .pre .inp .inp) (32 * s .args .q) _ _ _ none (at3 .plain .ensures) (at2 .plain2 .ensures) l (c .before .if1 .left))
 
 pub quick-at-spec : {M : Type 1} → statement M
 quick-at-spec =

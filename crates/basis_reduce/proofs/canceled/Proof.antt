@@ -28,10 +28,17 @@ sub-top-of c =
     omega arith
 
 top-of-requires : tie.Need-top-of-requires
-top-of-requires c κs = cancel-top (c .before .before .before .before .before .before .before .before .before .before .pre) (c .before .before .before .before .before .cross-in .ensures) (c .before .before .before .cross-in2 .ensures)
+top-of-requires c κs =
+    let at5 = c .before .before .before .before .before in
+    let at10 = at5 .before .before .before .before .before in
+    cancel-top (at10 .pre) (at5 .cross-in .ensures) (c .before .before .before .cross-in2 .ensures)
 
 returns : tie.Need-returns
-returns c = cancel-made (c .before .before .before .before .before .before .before .before .before .before .before .pre) (c .before .before .before .before .before .before .cross-in .ensures) (c .before .before .before .before .cross-in2 .ensures) (c .top-of .ensures)
+returns c =
+    let at4 = c .before .before .before .before in
+    let at6 = at4 .before .before in
+    let at11 = at6 .before .before .before .before .before in
+    cancel-made (at11 .pre) (at6 .cross-in .ensures) (at4 .cross-in2 .ensures) (c .top-of .ensures)
 
 pub canceled-spec : {M : Type 1} → statement M
 canceled-spec =

@@ -24,16 +24,26 @@ sub-low : tie.Need-sub-low Inv-loop μ-loop
 sub-low c = shear-pos (c .before .before .before .before .pre .inp) (c .before .before .part-in .ensures) _ (c .size-from .ensures)
 
 mul-t19 : tie.Need-mul-t19 Inv-loop μ-loop
-mul-t19 c = let l : c .size-from .result - 1 < 32 = shear-low (c .before .before .before .before .pre .inp) (c .before .before .part-in .ensures) _ (c .size-from .ensures) in record { fits = omega arith }
+mul-t19 c =
+    let at4 = c .before .before .before .before in
+    let l : c .size-from .result - 1 < 32 = shear-low (at4 .pre .inp) (c .before .before .part-in .ensures) _ (c .size-from .ensures) in
+    record { fits = omega arith }
 
 element-copy-out-t22 : tie.Need-element-copy-out-t22 Inv-loop μ-loop
 element-copy-out-t22 c = shear-low (c .before .before .before .before .pre .inp) (c .before .before .part-in .ensures) _ (c .size-from .ensures)
 
 top-of-requires : tie.Need-top-of-requires Inv-loop μ-loop
-top-of-requires c κs = shear-top (c .before .before .before .before .before .before .before .pre .inp) (c .before .before .before .before .before .part-in .ensures) _ (c .before .before .before .size-from .ensures)
+top-of-requires c κs =
+    let at5 = c .before .before .before .before .before in
+    let at7 = at5 .before .before in
+    shear-top (at7 .pre .inp) (at5 .part-in .ensures) _ (c .before .before .before .size-from .ensures)
 
 loop-holds : tie.Need-loop-holds Inv-loop μ-loop
-loop-holds c = shear-start (c .before .before .before .before .before .before .before .before .pre .inp) (c .before .before .before .before .before .before .part-in .ensures) _ (c .before .before .before .before .size-from .ensures) (c .top-of .ensures)
+loop-holds c =
+    let at4 = c .before .before .before .before in
+    let at6 = at4 .before .before in
+    let at8 = at6 .before .before in
+    shear-start (at8 .pre .inp) (at6 .part-in .ensures) _ (at4 .size-from .ensures) (c .top-of .ensures)
 
 canceled-requires : tie.Need-canceled-requires Inv-loop μ-loop
 canceled-requires c κs = shear-turn-in (c .before .before .before .before .loop .inv) (c .before .before .if1 .taken)
@@ -45,10 +55,17 @@ loop-again : tie.Need-loop-again Inv-loop μ-loop
 loop-again c = shear-turn (c .before .before .before .before .before .loop .inv) (c .before .before .before .if1 .taken) (c .canceled .ensures)
 
 part-in-requires-2 : tie.Need-part-in-requires-2 Inv-loop μ-loop
-part-in-requires-2 c κs = record { inp = part-in (c .before .before .before .before .before .loop .inv .room) (c .before .before .before .before .before .loop .inv .hn); hz = c .before .before .before .before .before .before .before .before .before .before .before .before .before .before .pre .hnx }
+part-in-requires-2 c κs =
+    let at5 = c .before .before .before .before .before in
+    let at14 = at5 .before .before .before .before .before .before .before .before .before in
+    record { inp = part-in (at5 .loop .inv .room) (at5 .loop .inv .hn); hz = at14 .pre .hnx }
 
 returns : tie.Need-returns Inv-loop μ-loop
-returns c = shear-end (c .before .before .before .before .before .before .loop .inv) (omega arith) (c .before .before .before .before .before .before .before .before .before .before .before .before .before .part-in .ensures) (c .before .before .before .before .before .before .before .before .before .before .before .size-from .ensures) (c .part-in2 .ensures)
+returns c =
+    let at6 = c .before .before .before .before .before .before in
+    let at11 = at6 .before .before .before .before .before in
+    let at13 = at11 .before .before in
+    shear-end (at6 .loop .inv) (omega arith) (at13 .part-in .ensures) (at11 .size-from .ensures) (c .part-in2 .ensures)
 
 pub clear-x-spec : {M : Type 1} → statement M
 clear-x-spec =

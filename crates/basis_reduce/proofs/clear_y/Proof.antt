@@ -30,26 +30,42 @@ returns : tie.Need-returns Inv-loop μ-loop
 returns c = clear-end (clear-swap (c .before .before .before .before .loop .inv)) (c .if2 .taken)
 
 canceled-requires : tie.Need-canceled-requires Inv-loop μ-loop
-canceled-requires c κs = clear-in (clear-swap (c .before .before .before .before .before .before .before .before .before .before .before .loop .inv)) (c .before .before .before .before .before .before .before .before .before .if1 .taken) (omega arith)
+canceled-requires c κs =
+    let at9 = c .before .before .before .before .before .before .before .before .before in
+    let at11 = at9 .before .before in
+    clear-in (clear-swap (at11 .loop .inv)) (at9 .if1 .taken) (omega arith)
 
 loop-less : tie.Need-loop-less Inv-loop μ-loop
 loop-less c =
-    let h : c .canceled .result .n < c .before .before .before .before .before .before .before .before .before .before .before .before .loop .y2 .n = clear-less (clear-swap (c .before .before .before .before .before .before .before .before .before .before .before .before .loop .inv)) (c .before .before .before .before .before .before .before .before .before .before .if1 .taken) (omega arith) (c .canceled .ensures) in
+    let at10 = c .before .before .before .before .before .before .before .before .before .before in
+    let at12 = at10 .before .before in
+    let h : c .canceled .result .n < at12 .loop .y2 .n = clear-less (clear-swap (at12 .loop .inv)) (at10 .if1 .taken) (omega arith) (c .canceled .ensures) in
     omega arith
 
 loop-again : tie.Need-loop-again Inv-loop μ-loop
-loop-again c = clear-swap (clear-turn (clear-swap (c .before .before .before .before .before .before .before .before .before .before .before .before .loop .inv)) (c .before .before .before .before .before .before .before .before .before .before .if1 .taken) (omega arith) (c .canceled .ensures))
+loop-again c =
+    let at10 = c .before .before .before .before .before .before .before .before .before .before in
+    let at12 = at10 .before .before in
+    clear-swap (clear-turn (clear-swap (at12 .loop .inv)) (at10 .if1 .taken) (omega arith) (c .canceled .ensures))
 
 canceled-requires-2 : tie.Need-canceled-requires-2 Inv-loop μ-loop
-canceled-requires-2 c κs = clear-in (c .before .before .before .before .before .before .before .before .before .before .before .loop .inv) (c .before .before .before .before .before .before .before .if2 .left) (omega arith)
+canceled-requires-2 c κs =
+    let at7 = c .before .before .before .before .before .before .before in
+    let at11 = at7 .before .before .before .before in
+    clear-in (at11 .loop .inv) (at7 .if2 .left) (omega arith)
 
 loop-less-2 : tie.Need-loop-less-2 Inv-loop μ-loop
 loop-less-2 c =
-    let h : c .canceled2 .result .n < c .before .before .before .before .before .before .before .before .before .before .before .before .loop .y1 .n = clear-less (c .before .before .before .before .before .before .before .before .before .before .before .before .loop .inv) (c .before .before .before .before .before .before .before .before .if2 .left) (omega arith) (c .canceled2 .ensures) in
+    let at8 = c .before .before .before .before .before .before .before .before in
+    let at12 = at8 .before .before .before .before in
+    let h : c .canceled2 .result .n < at12 .loop .y1 .n = clear-less (at12 .loop .inv) (at8 .if2 .left) (omega arith) (c .canceled2 .ensures) in
     omega arith
 
 loop-again-2 : tie.Need-loop-again-2 Inv-loop μ-loop
-loop-again-2 c = clear-turn (c .before .before .before .before .before .before .before .before .before .before .before .before .loop .inv) (c .before .before .before .before .before .before .before .before .if2 .left) (omega arith) (c .canceled2 .ensures)
+loop-again-2 c =
+    let at8 = c .before .before .before .before .before .before .before .before in
+    let at12 = at8 .before .before .before .before in
+    clear-turn (at12 .loop .inv) (at8 .if2 .left) (omega arith) (c .canceled2 .ensures)
 
 returns-2 : tie.Need-returns-2 Inv-loop μ-loop
 returns-2 c = clear-end (c .before .before .loop .inv) (omega arith)

@@ -27,10 +27,15 @@ sub-r : tie.Need-sub-r
 sub-r c = low (c .args .p) (c .args .m) (c .args .x) (c .pre)
 
 returns : tie.Need-returns
-returns c = left-small (c .before .args .p) (c .before .args .x * c .before .args .m / 4398046511104) (c .before .args .x) (low (c .before .args .p) (c .before .args .m) (c .before .args .x) (c .before .pre)) (search needs)
+returns c =
+    left-small (c .before .args .p) (c .before .args .x * c .before .args .m / 4398046511104) (c .before .args .x)
+    (low (c .before .args .p) (c .before .args .m) (c .before .args .x) (c .before .pre)) (search needs)
 
 returns-2 : tie.Need-returns-2
-returns-2 c = left-large (c .before .args .p) (c .before .args .x * c .before .args .m / 4398046511104) (c .before .args .x) (low (c .before .args .p) (c .before .args .m) (c .before .args .x) (c .before .pre)) (search needs) (high (c .before .args .p) (c .before .args .m) (c .before .args .x) (c .before .pre))
+returns-2 c =
+    left-large (c .before .args .p) (c .before .args .x * c .before .args .m / 4398046511104) (c .before .args .x)
+    (low (c .before .args .p) (c .before .args .m) (c .before .args .x) (c .before .pre)) (search needs)
+    (high (c .before .args .p) (c .before .args .m) (c .before .args .x) (c .before .pre))
 
 pub remainder-spec : {M : Type 1} → statement M
 remainder-spec = tie.close (tie.spec mul-q mul-r sub-r returns returns-2)

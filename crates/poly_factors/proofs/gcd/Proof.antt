@@ -64,22 +64,39 @@ array-read-c c =
     omega arith
 
 cross-in-requires : tie.Need-cross-in-requires Inv-loop μ-loop
-cross-in-requires c κs = euclid-room (c .before .before .before .before .loop .inv) (c .before .before .before .loop-test .taken) (c .before .before .if1 .left) (c .before .before .before .before .before .before .before .before .before .pre .modulus)
+cross-in-requires c κs =
+    let at4 = c .before .before .before .before in
+    let at9 = at4 .before .before .before .before .before in
+    euclid-room (at4 .loop .inv) (c .before .before .before .loop-test .taken) (c .before .before .if1 .left) (at9 .pre .modulus)
 
 sub-size-from : tie.Need-sub-size-from Inv-loop μ-loop
 sub-size-from c = omega arith
 
 size-from-requires : tie.Need-size-from-requires Inv-loop μ-loop
-size-from-requires c κs = euclid-cut (c .before .before .before .before .before .before .loop .inv) (c .before .before .before .before .before .loop-test .taken) (c .before .before .before .before .if1 .left) (c .before .cross-in .ensures .crossed) (c .before .before .before .before .before .before .before .before .before .before .before .pre .prime)
+size-from-requires c κs =
+    let at4 = c .before .before .before .before in
+    let at5 = at4 .before in
+    let at6 = at5 .before in
+    let at11 = at6 .before .before .before .before .before in
+    euclid-cut (at6 .loop .inv) (at5 .loop-test .taken) (at4 .if1 .left) (c .before .cross-in .ensures .crossed) (at11 .pre .prime)
 
 loop-less-2 : tie.Need-loop-less-2 Inv-loop μ-loop
 loop-less-2 c =
-    let l = c .before .before .before .before .before .before .before .loop in
-    let h : c .size-from .result < l .n = euclid-less (l .inv) (c .before .before .before .before .before .before .loop-test .taken) (c .before .before .before .before .before .if1 .left) _ (c .before .before .cross-in .ensures .crossed) (c .size-from .result) (c .size-from .ensures) (c .before .before .before .before .before .before .before .before .before .before .before .before .pre .prime) in
+    let at5 = c .before .before .before .before .before in
+    let at6 = at5 .before in
+    let at7 = at6 .before in
+    let at12 = at7 .before .before .before .before .before in
+    let l = at7 .loop in
+    let h : c .size-from .result < l .n = euclid-less (l .inv) (at6 .loop-test .taken) (at5 .if1 .left) _ (c .before .before .cross-in .ensures .crossed)
+    (c .size-from .result) (c .size-from .ensures) (at12 .pre .prime) in
     omega arith
 
 loop-again-2 : tie.Need-loop-again-2 Inv-loop μ-loop
-loop-again-2 c = euclid-turn (c .before .before .before .before .before .before .before .loop .inv) (c .before .before .before .before .before .before .loop-test .taken) (c .before .before .before .before .before .if1 .left) _ (c .before .before .cross-in .ensures .crossed) (c .size-from .result) (c .size-from .ensures)
+loop-again-2 c =
+    let at5 = c .before .before .before .before .before in
+    let at6 = at5 .before in
+    let at7 = at6 .before in
+    euclid-turn (at7 .loop .inv) (at6 .loop-test .taken) (at5 .if1 .left) _ (c .before .before .cross-in .ensures .crossed) (c .size-from .result) (c .size-from .ensures)
 
 returns : tie.Need-returns Inv-loop μ-loop
 returns c = euclid-end _ _ _ _ _ _ _ (c .before .loop .inv) (c .loop-test .left)

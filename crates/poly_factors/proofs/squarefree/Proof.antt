@@ -25,16 +25,30 @@ size-requires-3 : tie.Need-size-requires-3
 size-requires-3 c κs = search needs
 
 returns : tie.Need-returns
-returns c = square-yes _ _ _ _ (c .before .before .before .before .before .derivative .ensures) (common-self _ _ _ _ (c .before .before .before .before .before .before .pre .hx) (c .before .before .before .size .ensures) (c .before .before .if1 .taken)) (c .before .size2 .ensures) (c .if2 .taken)
+returns c =
+    let at5 = c .before .before .before .before .before in
+    let at6 = at5 .before in
+    square-yes _ _ _ _ (at5 .derivative .ensures) (common-self _ _ _ _ (at6 .pre .hx) (c .before .before .before .size .ensures) (c .before .before .if1 .taken))
+    (c .before .size2 .ensures) (c .if2 .taken)
 
 returns-2 : tie.Need-returns-2
-returns-2 c = square-no _ _ _ _ (c .before .before .before .before .before .derivative .ensures) (common-self _ _ _ _ (c .before .before .before .before .before .before .pre .hx) (c .before .before .before .size .ensures) (c .before .before .if1 .taken)) _ (c .before .size2 .ensures) (c .if2 .left)
+returns-2 c =
+    let at5 = c .before .before .before .before .before in
+    let at6 = at5 .before in
+    square-no _ _ _ _ (at5 .derivative .ensures) (common-self _ _ _ _ (at6 .pre .hx) (c .before .before .before .size .ensures) (c .before .before .if1 .taken)) _
+    (c .before .size2 .ensures) (c .if2 .left)
 
 returns-3 : tie.Need-returns-3
-returns-3 c = square-yes _ _ _ _ (c .before .before .before .before .before .before .before .before .before .derivative .ensures) (common-of (c .before .before .before .before .before .prepare .ensures) (c .before .before .before .gcd .ensures)) (c .before .size3 .ensures) (c .if3 .taken)
+returns-3 c =
+    let at5 = c .before .before .before .before .before in
+    let at9 = at5 .before .before .before .before in
+    square-yes _ _ _ _ (at9 .derivative .ensures) (common-of (at5 .prepare .ensures) (c .before .before .before .gcd .ensures)) (c .before .size3 .ensures) (c .if3 .taken)
 
 returns-4 : tie.Need-returns-4
-returns-4 c = square-no _ _ _ _ (c .before .before .before .before .before .before .before .before .before .derivative .ensures) (common-of (c .before .before .before .before .before .prepare .ensures) (c .before .before .before .gcd .ensures)) _ (c .before .size3 .ensures) (c .if3 .left)
+returns-4 c =
+    let at5 = c .before .before .before .before .before in
+    let at9 = at5 .before .before .before .before in
+    square-no _ _ _ _ (at9 .derivative .ensures) (common-of (at5 .prepare .ensures) (c .before .before .before .gcd .ensures)) _ (c .before .size3 .ensures) (c .if3 .left)
 
 pub squarefree-spec : {M : Type 1} → statement M
 squarefree-spec =

@@ -19,11 +19,13 @@ reduce-once-requires c κs = search needs
 
 returns : tie.Need-returns
 returns c =
-    let a = c .before .before .args in
-    let b : a .v < a .p = c .before .before .pre .below in
+    let at2 = c .before .before in
+    let a = at2 .args in
+    let b : a .v < a .p = at2 .pre .below in
     let e : c .reduce-once .result ≡ (a .p - a .v) % a .p = c .reduce-once .ensures in
     let l : (a .p - a .v) % a .p < a .p = mod-lt _ (omega arith) in
-    subst (λ s. Signed (a .p) s (a .v) (c .reduce-once .result)) (sym (c .before .if1 .taken)) (record { below = omega arith; law = λ pr. let ρ = reading (a .p) pr in ap (ρ .cast) e ∙ ρ .cast-mod (a .p - a .v) ∙ cast-sub ρ (a .v) (omega arith) })
+    subst (λ s. Signed (a .p) s (a .v) (c .reduce-once .result)) (sym (c .before .if1 .taken))
+    (record { below = omega arith; law = λ pr. let ρ = reading (a .p) pr in ap (ρ .cast) e ∙ ρ .cast-mod (a .p - a .v) ∙ cast-sub ρ (a .v) (omega arith) })
 
 returns-2 : tie.Need-returns-2
 returns-2 c =

@@ -31,15 +31,18 @@ add-m c = let l : c .size2 .result + c .before .before .before .args .k ≤ 32 =
 
 cross-in-requires : tie.Need-cross-in-requires
 cross-in-requires c κs =
-    let s = c .before .before .before .before .before .before in
-    let z = c .before .before .before .before .size in
+    let at4 = c .before .before .before .before in
+    let at5 = at4 .before in
+    let s = at5 .before in
+    let z = at4 .size in
     let w = c .before .before .before .size2 in
     let l : w .result + s .args .k ≤ 32 = s .pre .room _ (w .ensures) in
     let f : z .result ≤ length (s .args .x .now) = z .ensures .fits in
     let e : length (s .args .x .now) ≡ 32 = s .pre .hx .size in
-    let q = c .before .before .before .before .before .prepare .ensures in
+    let q = at5 .prepare .ensures in
     let i = ask (q .is) (s .pre) in
-    ⊎-elim (λ u. cross-by _ i (q .prepared) (z .ensures) (w .ensures) (omega arith) (omega arith) (omega arith)) (λ u. cross-by _ i (q .prepared) (z .ensures) (w .ensures) (omega arith) (omega arith) (omega arith)) (c .before .before .if1 .came)
+    ⊎-elim (λ u. cross-by _ i (q .prepared) (z .ensures) (w .ensures) (omega arith) (omega arith) (omega arith))
+    (λ u. cross-by _ i (q .prepared) (z .ensures) (w .ensures) (omega arith) (omega arith) (omega arith)) (c .before .before .if1 .came)
 
 returns : tie.Need-returns
 returns c = back (c .before .before .before .before .before .before .prepare .ensures .is) (c .cross-in .ensures .crossed)

@@ -30,13 +30,22 @@ element-copy-out-reduce : tie.Need-element-copy-out-reduce Inv-loop μ-loop
 element-copy-out-reduce c = search needs
 
 mul-reduce-2 : tie.Need-mul-reduce-2 Inv-loop μ-loop
-mul-reduce-2 c = omega (arith, cross-low (c .before .before .before .before .before .pre) (c .before .before .before .loop .i) _ _ (c .before .before .before .loop .inv .1 .rest _ (omega arith)) (c .before .shifted .ensures))
+mul-reduce-2 c =
+    let at3 = c .before .before .before in
+    let at5 = at3 .before .before in
+    omega (arith, cross-low (at5 .pre) (at3 .loop .i) _ _ (at3 .loop .inv .1 .rest _ (omega arith)) (c .before .shifted .ensures))
 
 mul-reduce-3 : tie.Need-mul-reduce-3 Inv-loop μ-loop
-mul-reduce-3 c = omega (arith, cross-low (c .before .before .before .before .before .pre) (c .before .before .before .loop .i) _ _ (c .before .before .before .loop .inv .1 .rest _ (omega arith)) (c .before .shifted .ensures))
+mul-reduce-3 c =
+    let at3 = c .before .before .before in
+    let at5 = at3 .before .before in
+    omega (arith, cross-low (at5 .pre) (at3 .loop .i) _ _ (at3 .loop .inv .1 .rest _ (omega arith)) (c .before .shifted .ensures))
 
 add-reduce : tie.Need-add-reduce Inv-loop μ-loop
-add-reduce c = omega (arith, cross-low (c .before .before .before .before .before .pre) (c .before .before .before .loop .i) _ _ (c .before .before .before .loop .inv .1 .rest _ (omega arith)) (c .before .shifted .ensures))
+add-reduce c =
+    let at3 = c .before .before .before in
+    let at5 = at3 .before .before in
+    omega (arith, cross-low (at5 .pre) (at3 .loop .i) _ _ (at3 .loop .inv .1 .rest _ (omega arith)) (c .before .shifted .ensures))
 
 reduce-requires : tie.Need-reduce-requires Inv-loop μ-loop
 reduce-requires c κs = search needs
@@ -55,10 +64,14 @@ loop-less c = omega arith
 
 loop-again : tie.Need-loop-again Inv-loop μ-loop
 loop-again c =
-    let s = c .before .before .before .before .before .before in
-    let l = c .before .before .before .before .loop in
-    let n : s .args .n ≤ 32 = s .pre .fits in
-    (omega arith, swept-more 32 _ _ _ (l .i) _ (l .inv .1) (omega arith) (c .reduce .ensures ∙ ap₂ (λ a z. (s .args .s * a + (s .args .q .p - s .args .c) * z) % s .args .q .p) (l .inv .1 .rest (l .i) (omega arith)) (c .before .before .shifted .ensures)))
+    let at4 = c .before .before .before .before in
+    let s = at4 .before .before in
+    let l = at4 .loop in
+    let n : s .args .n ≤ 32 = s .pre .fits in (
+      omega arith,
+      swept-more 32 _ _ _ (l .i) _ (l .inv .1) (omega arith) (c .reduce .ensures ∙ ap₂
+          (λ a z. (s .args .s * a + (s .args .q .p - s .args .c) * z) % s .args .q .p) (l .inv .1 .rest (l .i) (omega arith)) (c .before .before .shifted .ensures)),
+    )
 
 returns : tie.Need-returns Inv-loop μ-loop
 returns c = crossed (c .before .before .before .pre) (omega arith) (c .before .loop .inv .1)

@@ -16,7 +16,13 @@ abbrev μ-loop : tie.MeasureT-loop
 μ-loop p x y from to k s₀ i₀ s i = to - i
 
 loop-holds : tie.Need-loop-holds Inv-loop μ-loop
-loop-holds c = (omega arith, omega arith, omega arith, ap (λ a. a % c .args .p) (let q : sumTo (termAt (c .args .x .now) (c .args .y .now) (c .args .k)) (c .args .from) + 0 ≡ sumTo (termAt (c .args .x .now) (c .args .y .now) (c .args .k)) (c .args .from) = omega arith in q))
+loop-holds c = (
+  omega arith,
+  omega arith,
+  omega arith,
+  ap (λ a. a % c .args .p) (let q : sumTo (termAt (c .args .x .now) (c .args .y .now) (c .args .k)) (c .args .from) + 0 ≡
+      sumTo (termAt (c .args .x .now) (c .args .y .now) (c .args .k)) (c .args .from) = omega arith in q),
+)
 
 mul-add-product : tie.Need-mul-add-product Inv-loop μ-loop
 mul-add-product c = search needs
@@ -47,12 +53,15 @@ loop-less c = search needs
 
 loop-again : tie.Need-loop-again Inv-loop μ-loop
 loop-again c =
-    let s = c .before .before .before .before .before .args in
-    let l = c .before .before .before .before .loop in (
+    let at4 = c .before .before .before .before in
+    let at5 = at4 .before in
+    let s = at5 .args in
+    let l = at4 .loop in (
       omega arith,
       omega arith,
       c .add-product .ensures .low,
-      part-more (s .p) (termAt (s .x .now) (s .y .now) (s .k)) (s .from) (l .i) (l .s) (getD (s .x .now) (l .i) 0 * getD (s .y .now) (s .k - l .i) 0) _ (l .inv .3) (c .add-product .ensures .law) (term-is (s .x .now) (s .y .now) (s .k) (l .i) (omega arith)),
+      part-more (s .p) (termAt (s .x .now) (s .y .now) (s .k)) (s .from) (l .i) (l .s) (getD (s .x .now) (l .i) 0 * getD (s .y .now) (s .k - l .i) 0) _ (l .inv .3)
+          (c .add-product .ensures .law) (term-is (s .x .now) (s .y .now) (s .k) (l .i) (omega arith)),
     )
 
 returns : tie.Need-returns Inv-loop μ-loop

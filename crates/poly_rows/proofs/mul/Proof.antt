@@ -44,16 +44,37 @@ add-loop : tie.Need-add-loop Inv-loop μ-loop
 add-loop c = omega arith
 
 add-loop-2 : tie.Need-add-loop-2 Inv-loop μ-loop
-add-loop-2 c = let r : c .before .before .size .result + c .before .size2 .result ≤ 33 = c .before .before .before .before .pre .room _ _ (c .before .before .size .ensures) (c .before .size2 .ensures) in omega arith
+add-loop-2 c =
+    let at2 = c .before .before in
+    let at4 = at2 .before .before in
+    let r : at2 .size .result + c .before .size2 .result ≤ 33 = at4 .pre .room _ _ (at2 .size .ensures) (c .before .size2 .ensures) in
+    omega arith
 
 product-coefficient-requires : tie.Need-product-coefficient-requires Inv-loop μ-loop
-product-coefficient-requires c κs = let s = c .before .before .before .before .before in let e = c .before .before .before .before .prepare .ensures in record { modulus = e .prepared; hx = carry (e .is) (s .pre .hx); hy = carry (e .is) (s .pre .hy); sx = c .before .before .before .size .ensures; sy = c .before .before .size2 .ensures; inside = c .loop-test .taken }
+product-coefficient-requires c κs =
+    let at4 = c .before .before .before .before in
+    let s = at4 .before in
+    let e = at4 .prepare .ensures in
+    record {
+      modulus = e .prepared;
+      hx = carry (e .is) (s .pre .hx);
+      hy = carry (e .is) (s .pre .hy);
+      sx = c .before .before .before .size .ensures;
+      sy = c .before
+          .before .size2 .ensures;
+      inside = c .loop-test .taken;
+    }
 
 mul-r : tie.Need-mul-r Inv-loop μ-loop
 mul-r c = search needs
 
 array-write-r : tie.Need-array-write-r Inv-loop μ-loop
-array-write-r c = let r : c .before .before .before .before .size .result + c .before .before .before .size2 .result ≤ 33 = c .before .before .before .before .before .before .pre .room _ _ (c .before .before .before .before .size .ensures) (c .before .before .before .size2 .ensures) in omega arith
+array-write-r c =
+    let at3 = c .before .before .before in
+    let at4 = at3 .before in
+    let at6 = at4 .before .before in
+    let r : at4 .size .result + at3 .size2 .result ≤ 33 = at6 .pre .room _ _ (at4 .size .ensures) (at3 .size2 .ensures) in
+    omega arith
 
 add-k : tie.Need-add-k Inv-loop μ-loop
 add-k c = search needs
@@ -63,7 +84,10 @@ loop-less c = omega arith
 
 loop-again : tie.Need-loop-again Inv-loop μ-loop
 loop-again c =
-    let r : c .before .before .before .before .size .result + c .before .before .before .size2 .result ≤ 33 = c .before .before .before .before .before .before .pre .room _ _ (c .before .before .before .before .size .ensures) (c .before .before .before .size2 .ensures) in
+    let at3 = c .before .before .before in
+    let at4 = at3 .before in
+    let at6 = at4 .before .before in
+    let r : at4 .size .result + at3 .size2 .result ≤ 33 = at6 .pre .room _ _ (at4 .size .ensures) (at3 .size2 .ensures) in
     let l = c .before .before .loop in
     (omega arith, begun-more 32 _ _ (l .k) _ (l .inv .1) (omega arith) (c .product-coefficient .ensures))
 

@@ -39,16 +39,18 @@ reduce-requires c κs = c .before .before .before .pre .modulus
 
 returns : tie.Need-returns
 returns c =
-    let s = c .before .before .before .before in
+    let at2 = c .before .before in
+    let at3 = at2 .before in
+    let s = at3 .before in
     let a = s .args in
-    let from = c .before .before .before .if1 .from in
-    let to = c .before .before .if2 .to in
+    let from = at3 .if1 .from in
+    let to = at2 .if2 .to in
     let fx : a .n ≤ length (a .x .now) = s .pre .sx .fits in
     let lx : length (a .x .now) ≡ 32 = s .pre .hx .size in
     let fy : a .m ≤ length (a .y .now) = s .pre .sy .fits in
     let ly : length (a .y .now) ≡ 32 = s .pre .hy .size in
-    let lo : (from ≤ a .k + 1 - a .m) × (a .k + 1 ≤ from + a .m) = ⊎-elim (λ u. (omega arith, omega arith)) (λ u. (omega arith, omega arith)) (c .before .before .before .if1 .came) in
-    let hi : (to ≤ a .n) × (to ≤ a .k + 1) × (min (a .k + 1) (a .n) ≤ to) = ⊎-elim (λ u. (omega arith, omega arith, omega arith)) (λ u. (omega arith, omega arith, omega arith)) (c .before .before .if2 .came) in
+    let lo : (from ≤ a .k + 1 - a .m) × (a .k + 1 ≤ from + a .m) = ⊎-elim (λ u. (omega arith, omega arith)) (λ u. (omega arith, omega arith)) (at3 .if1 .came) in
+    let hi : (to ≤ a .n) × (to ≤ a .k + 1) × (min (a .k + 1) (a .n) ≤ to) = ⊎-elim (λ u. (omega arith, omega arith, omega arith)) (λ u. (omega arith, omega arith, omega arith)) (at2 .if2 .came) in
     c .reduce .ensures ∙ placed (a .q .p) (a .x .now) (a .n) (a .y .now) (a .m) (a .k) from to _ (s .pre .sy) (omega arith) (omega arith) (omega arith) (c .before .terms .ensures .law)
 
 pub product-coefficient-spec : {M : Type 1} → statement M

@@ -41,7 +41,8 @@ sub-top c = search needs
 
 loop-holds : tie.Need-loop-holds Inv-loop μ-loop
 loop-holds c =
-    let s = c .before .before .before .before in
+    let at3 = c .before .before .before in
+    let s = at3 .before in
     let z = c .before .before .size in
     let w = c .before .size2 in
     let top = c .if1 .top in
@@ -50,13 +51,18 @@ loop-holds c =
     let fy : w .result ≤ length (s .args .b .now) = w .ensures .fits in
     let ly : length (s .args .b .now) ≡ 32 = s .pre .hb .size in
     let t : (z .result + 1 ≤ top + w .result) × (top + w .result ≤ 33) = ⊎-elim (λ u. (omega arith, omega arith)) (λ u. (omega arith, omega arith)) (c .if1 .came) in
-    dividing-start (c .before .before .before .prepare .result .p) (s .args .a .now) (s .args .b .now) (s .args .il) (z .result) (w .result) top (ask (c .before .before .before .prepare .ensures .is) (s .pre)) (z .ensures) (w .ensures) (t .0) (t .1)
+    dividing-start (at3 .prepare .result .p) (s .args .a .now) (s .args .b .now) (s .args .il) (z .result) (w .result) top (ask (at3 .prepare .ensures .is) (s .pre))
+    (z .ensures) (w .ensures) (t .0) (t .1)
 
 sub-k : tie.Need-sub-k Inv-loop μ-loop
 sub-k c = search needs
 
 quotient-coefficient-requires : tie.Need-quotient-coefficient-requires Inv-loop μ-loop
-quotient-coefficient-requires c κs = let e = c .before .before .before .before .before .before .before .prepare .ensures in dividing-digit (ask (e .is) (c .before .before .before .before .before .before .before .before .pre)) (c .before .before .before .loop .inv) (c .before .before .loop-test .taken) (e .prepared)
+quotient-coefficient-requires c κs =
+    let at7 = c .before .before .before .before .before .before .before in
+    let at8 = at7 .before in
+    let e = at7 .prepare .ensures in
+    dividing-digit (ask (e .is) (at8 .pre)) (c .before .before .before .loop .inv) (c .before .before .loop-test .taken) (e .prepared)
 
 mul-q : tie.Need-mul-q Inv-loop μ-loop
 mul-q c = search needs
@@ -73,10 +79,18 @@ loop-less : tie.Need-loop-less Inv-loop μ-loop
 loop-less c = search needs
 
 loop-again : tie.Need-loop-again Inv-loop μ-loop
-loop-again c = dividing-turn (ask (c .before .before .before .before .before .before .before .before .prepare .ensures .is) (c .before .before .before .before .before .before .before .before .before .pre)) (c .before .before .before .before .loop .inv) (c .before .before .before .loop-test .taken) _ (c .quotient-coefficient .ensures)
+loop-again c =
+    let at4 = c .before .before .before .before in
+    let at8 = at4 .before .before .before .before in
+    let at9 = at8 .before in
+    dividing-turn (ask (at8 .prepare .ensures .is) (at9 .pre)) (at4 .loop .inv) (c .before .before .before .loop-test .taken) _ (c .quotient-coefficient .ensures)
 
 returns : tie.Need-returns Inv-loop μ-loop
-returns c = let e = c .before .before .before .before .before .prepare .ensures in back (e .is) (dividing-end _ _ _ _ _ _ _ _ (ask (e .is) (c .before .before .before .before .before .before .pre)) (c .before .loop .inv) (c .loop-test .left))
+returns c =
+    let at5 = c .before .before .before .before .before in
+    let at6 = at5 .before in
+    let e = at5 .prepare .ensures in
+    back (e .is) (dividing-end _ _ _ _ _ _ _ _ (ask (e .is) (at6 .pre)) (c .before .loop .inv) (c .loop-test .left))
 
 pub quotient-spec : {M : Type 1} → statement M
 quotient-spec =

@@ -72,17 +72,20 @@ reduce-requires-2 c κs = c .before .before .before .before .before .pre .modulu
 
 returns : tie.Need-returns
 returns c =
-    let s = c .before .before .before .before .before .before in
+    let at4 = c .before .before .before .before in
+    let at5 = at4 .before in
+    let s = at5 .before in
     let a = s .args in
     let at = a .k + (a .m - 1) in
     let fits : a .top + a .m ≤ 33 = s .pre .fits in
     let pos : 0 < a .m = s .pre .pos in
     let low : a .k < a .top = s .pre .at in
-    let to = c .before .before .before .before .before .if1 .to in
-    let hi : (to ≤ 32) × (to ≤ at + 1) × (min (at + 1) (a .top) ≤ to) = ⊎-elim (λ u. (omega arith, omega arith, omega arith)) (λ u. (omega arith, omega arith, omega arith)) (c .before .before .before .before .before .if1 .came) in
+    let to = at5 .if1 .to in
+    let hi : (to ≤ 32) × (to ≤ at + 1) × (min (at + 1) (a .top) ≤ to) = ⊎-elim (λ u. (omega arith, omega arith, omega arith)) (λ u. (omega arith, omega arith, omega arith)) (at5 .if1 .came) in
     c .reduce2 .ensures
     ∙ ap (λ v. ((getD (a .a .now) at 0 + (a .s .p - v)) * a .il) % a .s .p)
-    (c .before .before .before .reduce .ensures ∙ digit-sum (a .s) (a .a .now) (a .q .now) (a .b .now) (a .m) (a .il) (a .top) (a .k) to _ (s .pre) (omega arith) (omega arith) (c .before .before .before .before .terms .ensures .law))
+    (c .before .before .before .reduce .ensures ∙ digit-sum (a .s) (a .a .now) (a .q .now) (a .b .now) (a .m) (a .il) (a .top) (a .k) to _ (s .pre) (omega arith)
+    (omega arith) (at4 .terms .ensures .law))
 
 pub quotient-coefficient-spec : {M : Type 1} → statement M
 quotient-coefficient-spec =

@@ -11,7 +11,9 @@ add-t28 : tie.Need-add-t28
 add-t28 c = omega (arith, n-small (c .before .before .before .before .before .before .before .before .pre .inp) (c .parted .ensures .loaded))
 
 sub-t29 : tie.Need-sub-t29
-sub-t29 c = omega (arith, cut-fits (c .before .before .before .before .before .before .before .before .before .pre .inp) (c .before .parted .ensures .loaded) (c .before .parted .ensures .divided .are))
+sub-t29 c =
+    let at9 = c .before .before .before .before .before .before .before .before .before in
+    omega (arith, cut-fits (at9 .pre .inp) (c .before .parted .ensures .loaded) (c .before .parted .ensures .divided .are))
 
 reduced-basis-requires : tie.Need-reduced-basis-requires
 reduced-basis-requires c κs =

@@ -15,7 +15,11 @@ prepare-requires : tie.Need-prepare-requires
 prepare-requires c κs = field-modulus (c .pre)
 
 advance-in-requires : tie.Need-advance-in-requires
-advance-in-requires c κs = let e = c .before .before .before .before .before .before .before .prepare .ensures in record { inp = advance-by e (c .before .before .before .before .before .before .before .before .pre); modulus = own e; blank-x = record { a = refl; b = refl; c = refl }; blank-y = record { a = refl; b = refl; c = refl }; blank-d = refl }
+advance-in-requires c κs =
+    let at7 = c .before .before .before .before .before .before .before in
+    let at8 = at7 .before in
+    let e = at7 .prepare .ensures in
+    record { inp = advance-by e (at8 .pre); modulus = own e; blank-x = record { a = refl; b = refl; c = refl }; blank-y = record { a = refl; b = refl; c = refl }; blank-d = refl }
 
 returns : tie.Need-returns
 returns c = advanced-by (c .before .before .before .before .before .before .before .before .prepare .ensures) (c .advance-in .ensures)

@@ -9,8 +9,19 @@ use Rattle.step_next.proofs.parted.Statement.{statement}
 use Rattle.step_next.proofs.parted.Tie as tie
 
 -- the seven rows
-seven-loaded : (c : tie.After-load7) → SevenLoaded (c .before .before .before .before .before .before .before .args .b .now) (seven (c .before .before .before .before .before .before .load .result) (c .before .before .before .before .before .load2 .result) (c .before .before .before .before .load3 .result) (c .before .before .before .load4 .result) (c .before .before .load5 .result) (c .before .load6 .result) (c .load7 .result))
-seven-loaded c = record { m0 = c .before .before .before .before .before .before .load .ensures; m1 = c .before .before .before .before .before .load2 .ensures; m2 = c .before .before .before .before .load3 .ensures; n0 = c .before .before .before .load4 .ensures; n1 = c .before .before .load5 .ensures; n2 = c .before .load6 .ensures; u = c .load7 .ensures }
+seven-loaded : (c : tie.After-load7)
+    → SevenLoaded (c .before .before .before .before .before .before .before .args .b .now)
+    (seven (c .before .before .before .before .before .before .load .result) (c .before .before .before .before .before .load2 .result) (c .before .before .before .before .load3 .result)
+    (c .before .before .before .load4 .result) (c .before .before .load5 .result) (c .before .load6 .result) (c .load7 .result))
+seven-loaded c = record {
+  m0 = c .before .before .before .before .before .before .load .ensures;
+  m1 = c .before .before .before .before .before .load2 .ensures;
+  m2 = c .before .before .before .before .load3 .ensures;
+  n0 = c .before .before .before .load4 .ensures;
+  n1 = c .before .before .load5 .ensures;
+  n2 = c .before .load6 .ensures;
+  u = c .load7 .ensures;
+}
 
 load-requires : tie.Need-load-requires
 load-requires c κs = search needs
@@ -40,19 +51,29 @@ element-copy-out-l : tie.Need-element-copy-out-l
 element-copy-out-l c = omega (arith, n-small (c .before .before .before .before .before .before .before .pre .on .inp) (seven-loaded c))
 
 add-divided : tie.Need-add-divided
-add-divided c = omega (arith, n-small (c .before .before .before .before .before .before .before .before .pre .on .inp) (seven-loaded (c .before)), degrees-small (c .before .before .before .before .before .before .before .before .pre .on .inp) (seven-loaded (c .before)))
+add-divided c =
+    let at8 = c .before .before .before .before .before .before .before .before in
+    omega (arith, n-small (at8 .pre .on .inp) (seven-loaded (c .before)), degrees-small (at8 .pre .on .inp) (seven-loaded (c .before)))
 
 mul-divided : tie.Need-mul-divided
-mul-divided c = omega (arith, n-small (c .before .before .before .before .before .before .before .before .pre .on .inp) (seven-loaded (c .before)), degrees-small (c .before .before .before .before .before .before .before .before .pre .on .inp) (seven-loaded (c .before)))
+mul-divided c =
+    let at8 = c .before .before .before .before .before .before .before .before in
+    omega (arith, n-small (at8 .pre .on .inp) (seven-loaded (c .before)), degrees-small (at8 .pre .on .inp) (seven-loaded (c .before)))
 
 add-divided-2 : tie.Need-add-divided-2
-add-divided-2 c = omega (arith, n-small (c .before .before .before .before .before .before .before .before .pre .on .inp) (seven-loaded (c .before)), degrees-small (c .before .before .before .before .before .before .before .before .pre .on .inp) (seven-loaded (c .before)))
+add-divided-2 c =
+    let at8 = c .before .before .before .before .before .before .before .before in
+    omega (arith, n-small (at8 .pre .on .inp) (seven-loaded (c .before)), degrees-small (at8 .pre .on .inp) (seven-loaded (c .before)))
 
 mul-divided-2 : tie.Need-mul-divided-2
-mul-divided-2 c = omega (arith, n-small (c .before .before .before .before .before .before .before .before .pre .on .inp) (seven-loaded (c .before)), degrees-small (c .before .before .before .before .before .before .before .before .pre .on .inp) (seven-loaded (c .before)))
+mul-divided-2 c =
+    let at8 = c .before .before .before .before .before .before .before .before in
+    omega (arith, n-small (at8 .pre .on .inp) (seven-loaded (c .before)), degrees-small (at8 .pre .on .inp) (seven-loaded (c .before)))
 
 add-divided-3 : tie.Need-add-divided-3
-add-divided-3 c = omega (arith, n-small (c .before .before .before .before .before .before .before .before .pre .on .inp) (seven-loaded (c .before)), degrees-small (c .before .before .before .before .before .before .before .before .pre .on .inp) (seven-loaded (c .before)))
+add-divided-3 c =
+    let at8 = c .before .before .before .before .before .before .before .before in
+    omega (arith, n-small (at8 .pre .on .inp) (seven-loaded (c .before)), degrees-small (at8 .pre .on .inp) (seven-loaded (c .before)))
 
 sub-divided : tie.Need-sub-divided
 sub-divided c = omega (arith, dr-low (c .before .before .before .before .before .before .before .before .pre .on .inp) (seven-loaded (c .before)))
@@ -65,15 +86,32 @@ sub-divided-3 c = lead-low (c .before .before .before .before .before .before .b
 
 divided-requires : tie.Need-divided-requires
 divided-requires c κs =
-    let s = c .before .before .before .before .before .before .before .before .before .before .before .before .before .before .before .before .before .before .before .before .before .before .before .pre in
-    let l = seven-loaded (c .before .before .before .before .before .before .before .before .before .before .before .before .before .before .before .before) in
-    record { inp = divided-in (s .on .inp) l; modulus = s .on .modulus .prepared; sg = g-size (s .on .inp) l; sh = h-size (s .on .inp) l; sgh = gh-size (s .on .inp) l; blank-x = s .on .blank-x; blank-y = s .on .blank-y; blank-d = s .on .blank-d }
+    let at16 = c .before .before .before .before .before .before .before .before .before .before .before .before .before .before .before .before in
+    let at23 = at16 .before .before .before .before .before .before .before in
+    let s = at23 .pre in
+    let l = seven-loaded (at16) in
+    record {
+      inp = divided-in (s .on .inp) l;
+      modulus = s .on .modulus .prepared;
+      sg = g-size (s .on .inp) l;
+      sh = h-size (s .on .inp) l;
+      sgh = gh-size (s .on .inp)
+          l;
+      blank-x = s .on .blank-x;
+      blank-y = s .on .blank-y;
+      blank-d = s .on .blank-d;
+    }
 
 sub-t26 : tie.Need-sub-t26
-sub-t26 c = shorter (c .before .before .before .before .before .before .before .before .before .before .before .before .before .before .before .before .before .before .before .before .before .before .before .before .before .pre .on .inp) (seven-loaded (c .before .before .before .before .before .before .before .before .before .before .before .before .before .before .before .before .before .before)) _ _ (c .before .divided .ensures .was-m0) (c .before .divided .ensures .was-u)
+sub-t26 c =
+    let at18 = c .before .before .before .before .before .before .before .before .before .before .before .before .before .before .before .before .before .before in
+    let at25 = at18 .before .before .before .before .before .before .before in
+    shorter (at25 .pre .on .inp) (seven-loaded (at18)) _ _ (c .before .divided .ensures .was-m0) (c .before .divided .ensures .was-u)
 
 returns : tie.Need-returns
-returns c = record { b = _; loaded = seven-loaded (c .before .before .before .before .before .before .before .before .before .before .before .before .before .before .before .before .before .before); lm = _; lu = _; divided = c .before .divided .ensures; degree = refl }
+returns c =
+    let at18 = c .before .before .before .before .before .before .before .before .before .before .before .before .before .before .before .before .before .before in
+    record { b = _; loaded = seven-loaded (at18); lm = _; lu = _; divided = c .before .divided .ensures; degree = refl }
 
 pub parted-spec : {M : Type 1} → statement M
 parted-spec =
