@@ -35,7 +35,7 @@ use Rattle.basis_field.proofs.Ground.{frameOf, frame-is, fine, r-reads, w-reads
 use Rattle.basis_field.proofs.Lists.{field-holds, g-row, h-row, gh-row, holds-of}
 use Rattle.book_bytes.specs.Decides.{Decides}
 use Rattle.book_bytes.proofs.Tests.{answer-no, settled}
-use Rattle.basis_lattice.specs.Closed.{Closed, Given, Room, longest, UnderIn, Under}
+use Rattle.basis_closed.specs.Closed.{Closed, Given, Room, longest, UnderIn, Under}
 use Rattle.basis_shape.specs.Lengths.{Below, Narrow, NarrowIn}
 use Rattle.basis_accept.specs.Tests.{ShapedIn, Shaped, Numbers, AloneIn, Alone}
 use Rattle.basis_accept.specs.Answer.{Seventeen, PassIn, Passes, Accepts}

@@ -1,16 +1,16 @@
 // Refusal 9: all tests of a record. Each is two-sided. specs/Tests.antt has what they decide; proofs/ has that lengths of polynomial parts decide
-// the sizes (Shapes). Crate basis_shape has the tests of numbers and lengths, crate basis_lattice those of membership.
+// the sizes (Shapes). Crate basis_shape has the tests of numbers and lengths, crate basis_closed those of closure.
+use basis_closed::under;
 use basis_record::load;
-use basis_lattice::under;
-use poly_factors::gcd;
-use poly_rows::cross_in;
-use poly_rows::rapid_of;
-use poly_rows::size;
 use basis_reduce::Bounds;
 use basis_reduce::part;
 use basis_shape::below;
 use basis_shape::narrow;
 use basis_shape::shape;
+use poly_factors::gcd;
+use poly_rows::cross_in;
+use poly_rows::rapid_of;
+use poly_rows::size;
 ghost use Rattle.basis_record.specs.Seven.{seven};
 ghost use Rattle.basis_field.specs.Known.{Known};
 ghost use Rattle.basis_reduce.specs.Given.{given};

@@ -36,19 +36,35 @@ measured k h0 h1 h2 k0 k1 k2 hu (suc (suc (suc (suc (suc (suc i)))))) = hu
 module _ {p mul lim : ℕ} {va : List ℕ} {na : ℕ} {vb : List ℕ} {nb : ℕ} {vc : List ℕ} {nc : ℕ} {b : Seven} {l : Lengths} {e : List ℕ} {ie : ℕ} (h : ElementIn p mul lim va na vb nb vc nc b l e ie) where
   pub s-asks : {s : List ℕ} → s ≡ replicate 32 0 → DetBy p mul lim vb nb (b .n2) (l .n2) vc nc (b .n1) (l .n1) s
   s-asks z = record {
-    modulus = h .modulus; ready = h .ready;
-    hx = h .hb; hy = h .rows 5; hz = h .hc; hv = h .rows 4;
-    sx = h .sb; sy = h .sizes 5; sz = h .sc; sv = h .sizes 4;
-    left = h .b-n2 _ _ (h .sb) (h .sizes 5); right = h .c-n1 _ _ (h .sc) (h .sizes 4);
+    modulus = h .modulus;
+    ready = h .ready;
+    hx = h .hb;
+    hy = h .rows 5;
+    hz = h .hc;
+    hv = h .rows 4;
+    sx = h .sb;
+    sy = h .sizes 5;
+    sz = h .sc;
+    sv = h .sizes 4;
+    left = h .b-n2 _ _ (h .sb) (h .sizes 5);
+    right = h .c-n1 _ _ (h .sc) (h .sizes 4);
     blank = z;
   }
 
   pub t-asks : {t : List ℕ} → t ≡ replicate 32 0 → DetBy p mul lim vc nc (b .m1) (l .m1) vb nb (b .m2) (l .m2) t
   t-asks z = record {
-    modulus = h .modulus; ready = h .ready;
-    hx = h .hc; hy = h .rows 1; hz = h .hb; hv = h .rows 2;
-    sx = h .sc; sy = h .sizes 1; sz = h .sb; sv = h .sizes 2;
-    left = h .c-m1 _ _ (h .sc) (h .sizes 1); right = h .b-m2 _ _ (h .sb) (h .sizes 2);
+    modulus = h .modulus;
+    ready = h .ready;
+    hx = h .hc;
+    hy = h .rows 1;
+    hz = h .hb;
+    hv = h .rows 2;
+    sx = h .sc;
+    sy = h .sizes 1;
+    sz = h .sb;
+    sv = h .sizes 2;
+    left = h .c-m1 _ _ (h .sc) (h .sizes 1);
+    right = h .b-m2 _ _ (h .sb) (h .sizes 2);
     blank = z;
   }
 

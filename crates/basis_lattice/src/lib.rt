@@ -1,21 +1,15 @@
-// The lattice of a basis: coordinates of an element as quotients, whether it lies in the lattice, and whether the lattice is closed under
-// products with r and w (refusal 9). Rows are lent, their lengths are known.
+// The lattice of a basis: the coordinates of an element as quotients, and whether it lies in the lattice. Rows are lent, their lengths known.
 use poly_lent::both_in;
 use poly_lent::det_in;
 use poly_lent::divide_in;
 use poly_lent::less_in;
 use poly_lent::quotient_in;
-use poly_lent::times_in;
 use poly_rows::Rapid;
-use poly_rows::rapid_of;
-use poly_rows::size;
 use poly_rows::size_from;
-use num_residue::inverse;
 ghost use mathlib.Core.Path.{_≡_};
 ghost use Rattle.basis_record.specs.Seven.{seven, three};
 ghost use Rattle.basis_lattice.specs.Coordinates.{LengthsIn, Found, OuterIn, OuterOut, CoordsIn, Coordinates};
 ghost use Rattle.basis_lattice.specs.Lattice.{InsideIn, Inside, MemberIn, Member};
-ghost use Rattle.basis_lattice.specs.Closed.{KeepsIn, Keeps, UnderIn, Under};
 
 // The lengths of the seven rows of a basis, and of e = M1 N2 - M2 N1.
 pub struct Lengths {
@@ -145,7 +139,25 @@ pub fn coordinates(
 {
     let mut s: [u64; 32] = [0; 32];
     let mut t: [u64; 32] = [0; 32];
-    let o = outer(p, q, vb, nb, vc, nc, m1, m2, n1, n2, l, e, ie, &mut s, &mut t, b, c);
+    let o = outer(
+        p,
+        q,
+        vb,
+        nb,
+        vc,
+        nc,
+        m1,
+        m2,
+        n1,
+        n2,
+        l,
+        e,
+        ie,
+        &mut s,
+        &mut t,
+        b,
+        c,
+    );
     let lb = o.b;
     let lc = o.c;
     let n = both_in(p, q, true, b, lb, m0, l.m0, true, c, lc, n0, l.n0, va, na);
@@ -189,7 +201,7 @@ fn inside(
 }
 
 // Whether va + vb r + vc w lies in the lattice: its coordinates are exact. va is used up.
-fn member(
+pub fn member(
     p: u64,
     q: Rapid,
     va: &mut [u64; 32],
@@ -217,7 +229,23 @@ fn member(
     let mut b: [u64; 32] = [0; 32];
     let mut c: [u64; 32] = [0; 32];
     let o = outer(
-        p, q, vb, nb, vc, nc, m1, m2, n1, n2, l, e, ie, &mut s, &mut t, &mut b, &mut c,
+        p,
+        q,
+        vb,
+        nb,
+        vc,
+        nc,
+        m1,
+        m2,
+        n1,
+        n2,
+        l,
+        e,
+        ie,
+        &mut s,
+        &mut t,
+        &mut b,
+        &mut c,
     );
     let lb = o.b;
     let lc = o.c;
@@ -229,101 +257,20 @@ fn member(
     if y != 0 {
         return false;
     }
-    inside(p, q, va, na, &mut b, lb, &mut c, lc, m0, l.m0, n0, l.n0, u, l.u)
-}
-
-// Whether r v and w v lie in the lattice, for v = va + vb r + vc w.
-fn keeps(
-    p: u64,
-    q: Rapid,
-    g: &[u64; 32],
-    lg: usize,
-    h: &[u64; 32],
-    lh: usize,
-    gh: &[u64; 32],
-    lgh: usize,
-    va: &[u64; 32],
-    na: usize,
-    vb: &[u64; 32],
-    nb: usize,
-    vc: &[u64; 32],
-    nc: usize,
-    m0: &[u64; 32],
-    m1: &[u64; 32],
-    m2: &[u64; 32],
-    n0: &[u64; 32],
-    n1: &[u64; 32],
-    n2: &[u64; 32],
-    u: &[u64; 32],
-    l: Lengths,
-    e: &[u64; 32],
-    ie: u64,
-) -> bool
-    requires { ⌜ KeepsIn p (q .m) (q .lim) (now g) lg (now h) lh (now gh) lgh (now va) na (now vb) nb (now vc) nc (seven (now m0) (now m1) (now m2) (now n0) (now n1) (now n2) (now u)) l (now e) ie ⌝ }
-    ensures { λ o. ⌜ Keeps p (now (g .entry)) (now (h .entry)) (now (gh .entry)) (now (va .entry)) (now (vb .entry)) (now (vc .entry)) (seven (now (m0 .entry)) (now (m1 .entry)) (now (m2 .entry)) (now (n0 .entry)) (now (n1 .entry)) (now (n2 .entry)) (now (u .entry))) o ⌝ }
-{
-    let mut ra: [u64; 32] = [0; 32];
-    let mut rc: [u64; 32] = [0; 32];
-    let ka = times_in(p, q, vc, nc, gh, lgh, &mut ra);
-    let kc = times_in(p, q, vb, nb, h, lh, &mut rc);
-    let by_r = member(
-        p, q, &mut ra, ka, va, na, &rc, kc, m0, m1, m2, n0, n1, n2, u, l, e, ie,
-    );
-    let mut wa: [u64; 32] = [0; 32];
-    let mut wb: [u64; 32] = [0; 32];
-    let ja = times_in(p, q, vb, nb, gh, lgh, &mut wa);
-    let jb = times_in(p, q, vc, nc, g, lg, &mut wb);
-    let by_w = member(
-        p, q, &mut wa, ja, &wb, jb, va, na, m0, m1, m2, n0, n1, n2, u, l, e, ie,
-    );
-    if by_r { by_w } else { false }
-}
-
-// Whether the lattice has rank 3 and is closed under products with r and w: U, M and N are enough.
-pub fn under(
-    p: u64,
-    g: &[u64; 32],
-    h: &[u64; 32],
-    gh: &[u64; 32],
-    m0: &[u64; 32],
-    m1: &[u64; 32],
-    m2: &[u64; 32],
-    n0: &[u64; 32],
-    n1: &[u64; 32],
-    n2: &[u64; 32],
-    u: &[u64; 32],
-) -> bool
-    requires { ⌜ UnderIn p (now g) (now h) (now gh) (seven (now m0) (now m1) (now m2) (now n0) (now n1) (now n2) (now u)) ⌝ }
-    ensures { λ o. ⌜ Under p (now (g .entry)) (now (h .entry)) (now (gh .entry)) (seven (now (m0 .entry)) (now (m1 .entry)) (now (m2 .entry)) (now (n0 .entry)) (now (n1 .entry)) (now (n2 .entry)) (now (u .entry))) o ⌝ }
-{
-    let q = rapid_of(p);
-    let mut e: [u64; 32] = [0; 32];
-    let l = lengths_of(p, q, 17, m0, m1, m2, n0, n1, n2, u, &mut e);
-    let k = l.e;
-    if k == 0 {
-        return false;
-    }
-    let ie = inverse(p, e[k - 1]);
-    let lg = size(g);
-    let lh = size(h);
-    let lk = size(gh);
-    let z: [u64; 32] = [0; 32];
-    let one = keeps(
-        p, q, g, lg, h, lh, gh, lk, u, l.u, &z, 0, &z, 0, m0, m1, m2, n0, n1, n2, u, l, &e, ie,
-    );
-    if one {
-        let of_m = keeps(
-            p, q, g, lg, h, lh, gh, lk, m0, l.m0, m1, l.m1, m2, l.m2, m0, m1, m2, n0, n1, n2, u, l, &e, ie,
-        );
-        if of_m {
-            let of_n = keeps(
-                p, q, g, lg, h, lh, gh, lk, n0, l.n0, n1, l.n1, n2, l.n2, m0, m1, m2, n0, n1, n2, u, l, &e, ie,
-            );
-            if of_n { true } else { false }
-        } else {
-            false
-        }
-    } else {
-        false
-    }
+    inside(
+        p,
+        q,
+        va,
+        na,
+        &mut b,
+        lb,
+        &mut c,
+        lc,
+        m0,
+        l.m0,
+        n0,
+        l.n0,
+        u,
+        l.u,
+    )
 }

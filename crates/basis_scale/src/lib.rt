@@ -1,9 +1,4 @@
 // The basis record: seven rows of 17 coefficients, M0, M1, M2, N0, N1, N2, U. It starts as zeros and is filled row by row.
-use poly_rows::Rapid;
-use poly_rows::cross_in;
-use poly_rows::rapid_of;
-use poly_rows::scale_in;
-use poly_rows::size_from;
 use basis_record::stored;
 use basis_reduce::Bounds;
 use basis_reduce::lead_of;
@@ -12,6 +7,11 @@ use num_residue::inverse;
 use poly_lent::both_in;
 use poly_lent::mix_in;
 use poly_lent::quotient_in;
+use poly_rows::Rapid;
+use poly_rows::cross_in;
+use poly_rows::rapid_of;
+use poly_rows::scale_in;
+use poly_rows::size_from;
 ghost use Prim.Native.Nat.{_+_, _*_, _-_, _%_, _<_, _≤_};
 ghost use Rattle.basis_reduce.specs.Given.{given};
 ghost use Rattle.basis_reduce.specs.Clear.{pair, ends};

@@ -1,8 +1,10 @@
 -- Crates basis_lattice and poly_content.
 --   lengths-of-one     the lengths of seven rows, and e
 --   coordinates-one    the coordinates of an element that has some, and their lengths
+--   member-one         an element lies in the lattice or does not
 --   taken-off-one      four polynomials without their common factor: settled up to one constant
 use mathlib.Core.Path.{_≡_, sym, ap, _∙_, subst}
+use mathlib.Core.Bool.{Bool}
 use mathlib.Core.List.{List, [], _∷_}
 use Prim.Native.Nat.{ℕ}
 use Prim.Native.Nat as N
@@ -17,8 +19,10 @@ use Rattle.math_rows.specs.Made.{reading}
 use Rattle.math_rows.specs.Row.{Size}
 use Rattle.poly_rows.specs.Polynomial.{polynomial}
 use Rattle.poly_content.specs.Common.{Four, Without}
+use Rattle.book_bytes.proofs.Tests.{settled}
 use Rattle.basis_record.specs.Seven.{Seven, Three}
 use Rattle.basis_lattice.specs.Coordinates.{Found, CoordsIn, Coordinates}
+use Rattle.basis_lattice.specs.Lattice.{Member, MemberAt}
 use Rattle.basis_lattice.specs.declared.Lengths.{Lengths}
 use Rattle.basis_lattice.specs.declared.Spans.{Spans}
 use Rattle.demands_inner.proofs.Rows.{by-row}
@@ -41,6 +45,9 @@ coordinates-one {p} i h k =
     let (b, lb) = both (by-row ρ (h .spans .hb) (k .spans .hb) hb kb) (h .spans .sb) (k .spans .sb) in
     let (c, lc) = both (by-row ρ (h .spans .hc) (k .spans .hc) hc kc) (h .spans .sc) (k .spans .sc) in
     ((λ i. record { a = a i; b = b i; c = c i }), (λ i. record { a = la i; b = lb i; c = lc i }))
+
+pub member-one : {p : ℕ} (pr : Prime p) {va vb vc : List ℕ} {b : Seven} {e : List ℕ} (o o′ : Bool) → Member p va vb vc b e o → Member p va vb vc b e o′ → o ≡ o′
+member-one pr {va} {vb} {vc} {b} {e} o o′ h k = settled o o′ (MemberAt pr va vb vc b e) (h pr) (k pr)
 
 -- ---- without the common factor
 pub record Multiples {p : ℕ} (pr : Prime p) (o o′ : Four) : Type 0 where

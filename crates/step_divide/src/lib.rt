@@ -176,8 +176,48 @@ pub fn divided(
 {
     let mut e: [u64; 32] = [0; 32];
     let l = lengths_of(p, q, cap, m0, m1, m2, n0, n1, n2, u, &mut e);
-    let x = turned_r(p, q, h, lh, gh, cap, m0, m1, m2, n0, n1, n2, u, l, &e, ie, xa, xb, xc);
-    let y = turned_w(p, q, g, lg, gh, cap, m0, m1, m2, n0, n1, n2, u, l, &e, ie, ya, yb, yc);
+    let x = turned_r(
+        p,
+        q,
+        h,
+        lh,
+        gh,
+        cap,
+        m0,
+        m1,
+        m2,
+        n0,
+        n1,
+        n2,
+        u,
+        l,
+        &e,
+        ie,
+        xa,
+        xb,
+        xc,
+    );
+    let y = turned_w(
+        p,
+        q,
+        g,
+        lg,
+        gh,
+        cap,
+        m0,
+        m1,
+        m2,
+        n0,
+        n1,
+        n2,
+        u,
+        l,
+        &e,
+        ie,
+        ya,
+        yb,
+        yc,
+    );
     negate(p, xa, x.a);
     negate(p, yc, y.c);
     let o = taken_off(p, q, xa, x.a, xc, x.c, ya, y.a, yc, y.c, d);

@@ -1,10 +1,10 @@
 // The step: from the record of a reduced ideal to that of the ideal divided by m, with the degree of m.
 use basis_record::load;
+use basis_reduce::Bounds;
 use basis_scale::reduced_basis;
-use step_divide::divided;
 use poly_rows::Rapid;
 use poly_rows::rapid_of;
-use basis_reduce::Bounds;
+use step_divide::divided;
 ghost use Rattle.basis_record.specs.Seven.{three};
 ghost use Rattle.step_divide.specs.Generated.{generators};
 ghost use Rattle.step_next.specs.Steps.{AdvanceIn, Advanced};

@@ -10,7 +10,7 @@ use Rattle.basis_accept.proofs.passes.Lts as lts
 use Rattle.basis_accept.proofs.alone.Reads as alone-reads
 use Rattle.basis_shape.proofs.narrow.Reads as narrow-reads
 use Rattle.basis_accept.proofs.shaped.Reads as shaped-reads
-use Rattle.basis_lattice.proofs.under.Reads as under-reads
+use Rattle.basis_closed.proofs.under.Reads as under-reads
 
 add-narrow : tie.Need-add-narrow
 add-narrow c = let l = sum-low (c .before .before .before .before .pre) in record { fits = omega (arith, l) }

@@ -36,10 +36,10 @@ use Rattle.basis_record.specs.Record.{setting, polyOf}
 use Rattle.book_bytes.proofs.Tests.{answer-no, settled}
 use Rattle.basis_record.specs.Seven.{Seven, rowsOf, Holds}
 use Rattle.basis_record.proofs.Sevens.{every}
 use Rattle.basis_lattice.specs.Coordinates.{LengthsIn, Found}
-use Rattle.basis_lattice.specs.Closed.{UnderIn, Under, KeepsIn, Keeps, Kept, Closed, element}
+use Rattle.basis_closed.specs.Closed.{UnderIn, Under, KeepsIn, Keeps, Kept, Closed, element}
 use Rattle.basis_lattice.specs.declared.Lengths.{Lengths}
 use Rattle.basis_lattice.proofs.Members.{carried}
 
 abbrev zeros : List ℕ
 zeros = replicate 32 0

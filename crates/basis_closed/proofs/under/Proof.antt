@@ -1,13 +1,13 @@
--- `basis_lattice::under` meets its contract: the rank, then U, M and N.
+-- `basis_closed::under` meets its contract: the rank, then U, M and N.
 use mathlib.Core.Path.{refl, subst}
 use mathlib.Core.Bool.{true, false}
 use native.Mathlib.Omega.{arith}
 use borrow.Author.Needs.{needs}
 use Rattle.poly_rows.proofs.Leaf.{zeros-size}
-use Rattle.basis_lattice.proofs.Closing.{lengths-in, no-rank, e-nonzero, zeros-short, keep, no-U, no-M, of-N}
-use Rattle.basis_lattice.specs.Closed.{Under}
-use Rattle.basis_lattice.proofs.under.Statement.{statement}
-use Rattle.basis_lattice.proofs.under.Tie as tie
+use Rattle.basis_closed.proofs.Closing.{lengths-in, no-rank, e-nonzero, zeros-short, keep, no-U, no-M, of-N}
+use Rattle.basis_closed.specs.Closed.{Under}
+use Rattle.basis_closed.proofs.under.Statement.{statement}
+use Rattle.basis_closed.proofs.under.Tie as tie
 
 rapid-of-requires : tie.Need-rapid-of-requires
 rapid-of-requires c κs = c .pre .given .modulus

@@ -24,11 +24,11 @@ use Rattle.basis_record.specs.Record.{setting}
 use Rattle.book_bytes.specs.Decides.{Decides}
 use Rattle.book_bytes.proofs.Tests.{answer-no}
 use Rattle.basis_record.specs.Seven.{Seven, rowsOf, Holds}
 use Rattle.basis_lattice.specs.Lattice.{MemberIn, Member}
-use Rattle.basis_lattice.specs.Closed.{KeepsIn, Keeps, element}
+use Rattle.basis_closed.specs.Closed.{KeepsIn, Keeps, element}
 use Rattle.basis_lattice.specs.declared.Lengths.{Lengths}
 use Rattle.basis_lattice.proofs.Elements.{quot-of, coords-from, times-g-is, times-h-is, times-gh-is}
 use Rattle.basis_lattice.proofs.Members.{carried}
 
 pub product-short : {p : ℕ} (pr : Prime p) (n m : ℕ) {x y z : List ℕ} → Short p x (suc n) → Short p y m → Product p x y z → Short p z (n + m)
 product-short {p} pr n m hx hy hz = let ρ = reading p pr in row-short ρ (n + m) (hz .is-row) (d.lt-eq (ρ .𝓥) (lt-mul-sharp (ρ .𝓥) (short-lt ρ hx) (short-lt ρ hy)) (sym (hz .law pr)))

@@ -1,8 +1,8 @@
--- `basis_lattice::keeps` meets its contract: r v and w v.
+-- `basis_closed::keeps` meets its contract: r v and w v.
 use mathlib.Core.Path.{refl}
-use Rattle.basis_lattice.proofs.Products.{by-gh, by-13, r-in, w-in, keeps-no, keeps-yes}
-use Rattle.basis_lattice.proofs.keeps.Statement.{statement}
-use Rattle.basis_lattice.proofs.keeps.Tie as tie
+use Rattle.basis_closed.proofs.Products.{by-gh, by-13, r-in, w-in, keeps-no, keeps-yes}
+use Rattle.basis_closed.proofs.keeps.Statement.{statement}
+use Rattle.basis_closed.proofs.keeps.Tie as tie
 
 times-in-requires : tie.Need-times-in-requires
 times-in-requires c κs =
