@@ -7,7 +7,7 @@
 use mathlib.Core.Path.{_≡_, refl, sym, ap, _∙_, subst}
 use mathlib.Core.Bool.{Bool, true, false}
 use mathlib.Core.List.{List}
-use Prim.Native.Nat.{ℕ, suc, _+_, _*_, _-_, _<_, _≤_}
+use Prim.Native.Nat.{ℕ, zero, suc, _+_, _*_, _-_, _<_, _≤_}
 use native.Mathlib.Omega.{arith}
 use lib.ListN.{length, getD}
 use Rattle.math_valued.specs.Val.{Valued}
@@ -26,18 +26,19 @@ use Rattle.basis_record.specs.Record.{setting, basisOf, IsRecord}
 use Rattle.field_series.specs.Answer.{Prefix}
 use Rattle.field_series.specs.declared.Cubic.{Cubic}
 use Rattle.basis_parts.specs.Frame.{Frame, frame, Fine, Short}
-use Rattle.step_divide.specs.Rows.{Seven, seven, AreRows, rowsOf}
-use Rattle.step_divide.proofs.Products.{Sizes, sizes, monic-inverts}
-use Rattle.basis_scale.specs.Store.{Loaded, SevenLoaded}
-use Rattle.basis_scale.proofs.Place.{row-short}
+use Rattle.poly_rows.proofs.Lengths.{row-short, monic-inverts}
+use Rattle.basis_record.specs.Seven.{Seven, seven, rowAt, AreRows, rowsOf}
+use Rattle.basis_record.specs.Store.{Loaded, SevenLoaded}
+use Rattle.basis_record.proofs.Sevens.{every, each-of-seven}
+use Rattle.basis_record.proofs.Loads.{rows-path, rows-good}
+use Rattle.step_divide.proofs.Products.{Sizes, sizes}
 use Rattle.basis_scale.proofs.Start.{meaning}
-use Rattle.basis_scale.proofs.Loads.{rows-path, rows-good}
 use Rattle.basis_field.specs.Known.{Known}
 use Rattle.basis_field.proofs.Ground.{frameOf, frame-is, frame-by, fine, r-reads, w-reads, modulus, dr-is, dw-is, room}
 use Rattle.basis_field.proofs.Lists.{field-holds, g-row, h-row, gh-row, holds-of}
 use Rattle.book_bytes.specs.Decides.{Decides}
 use Rattle.book_bytes.proofs.Tests.{answer-no, settled}
-use Rattle.basis_lattice.specs.Closed.{Closed, Given, Room, UnderIn, Under}
+use Rattle.basis_closed.specs.Closed.{Closed, Given, Room, longest, UnderIn, Under}
 use Rattle.basis_shape.specs.Lengths.{Below, Narrow, NarrowIn}
 use Rattle.basis_accept.specs.Tests.{ShapedIn, Shaped, Numbers, AloneIn, Alone}
 use Rattle.basis_accept.specs.Answer.{Seventeen, PassIn, Passes, Accepts}
@@ -141,14 +142,24 @@ module _ {p : ℕ} {G H : List ℕ} (A : Accepted p G H) (c : Cubic) (h : Prefix
         let er : setting A .dr ≡ c .field .dr = dr-is A c h in
         let ew : setting A .dw ≡ c .field .dw = dw-is A c h in
         record {
-          h1 = λ i l. row-short ρ (suc (setting A .dw)) (rows .m1) (z .m1) .above i (omega arith);
-          h2 = λ i l. row-short ρ (suc (setting A .dr)) (rows .m2) (z .m2) .above i (omega arith);
-          k1 = λ i l. row-short ρ (setting A .dw) (rows .n1) (z .n1) .above i (omega arith);
-          k2 = λ i l. row-short ρ (setting A .dr) (rows .n2) (z .n2) .above i (omega arith);
+          h1 = λ i l. row-short ρ (suc (setting A .dw)) (rows 1) (z .rows 1) .above i (omega arith);
+          h2 = λ i l. row-short ρ (suc (setting A .dr)) (rows 2) (z .rows 2) .above i (omega arith);
+          k1 = λ i l. row-short ρ (setting A .dw) (rows 4) (z .rows 4) .above i (omega arith);
+          k2 = λ i l. row-short ρ (setting A .dr) (rows 5) (z .rows 5) .above i (omega arith);
         }
 
 pub are-rows : {p : ℕ} {b : Seven} → Seventeen p b → AreRows p b
-are-rows s = record { m0 = s .m0 .is-row; m1 = s .m1 .is-row; m2 = s .m2 .is-row; n0 = s .n0 .is-row; n1 = s .n1 .is-row; n2 = s .n2 .is-row; u = s .u .is-row }
+are-rows s i = s .each i .is-row
+
+-- four rows of 10, the others of 17
+each-row : {p : ℕ} {b : Seven} → Seventeen p b → Short p (b .m1) 10 → Short p (b .m2) 10 → Short p (b .n1) 10 → Short p (b .n2) 10 → (i : ℕ) → Short p (rowAt b i) (longest i)
+each-row z h1 h2 k1 k2 zero = z .each 0
+each-row z h1 h2 k1 k2 (suc zero) = h1
+each-row z h1 h2 k1 k2 (suc (suc zero)) = h2
+each-row z h1 h2 k1 k2 (suc (suc (suc zero))) = z .each 3
+each-row z h1 h2 k1 k2 (suc (suc (suc (suc zero)))) = k1
+each-row z h1 h2 k1 k2 (suc (suc (suc (suc (suc zero))))) = k2
+each-row z h1 h2 k1 k2 (suc (suc (suc (suc (suc (suc i)))))) = z .each 6
 
 -- ---- what is prepared of p in place of p
 module _ (c : Cubic) {q : Modulus} (e : PreparedOf (c .field .p) q) {b : Seven} where
@@ -157,6 +168,9 @@ module _ (c : Cubic) {q : Modulus} (e : PreparedOf (c .field .p) q) {b : Seven} 
 
   pub shaped-from : {o : Bool} → Shaped (frame q (c .r) (c .w) (c .field .dr) (c .field .dw)) b o → Shaped (frameOf c) b o
   shaped-from {o} s = subst (λ F. Shaped F b o) (sym (frame-by c e)) s
+
+  pub under-from : {o : Bool} → Under (q .p) (c .field .g) (c .field .h) (c .field .gh) b o → Under (c .field .p) (c .field .g) (c .field .h) (c .field .gh) b o
+  under-from {o} s = subst (λ p. Under p (c .field .g) (c .field .h) (c .field .gh) b o) (e .is) s
 
   pub alone-from : {o : Bool} → Alone (q .p) b o → Alone (c .field .p) b o
   alone-from {o} s = subst (λ p. Alone p b o) (e .is) s
@@ -170,7 +184,7 @@ module _ {c : Cubic} {b : Seven} (i : PassIn c b) where
   rows-at A h = subst (λ q. Seventeen q b) (p-is A c h) (i .rows)
 
   pub narrow-in : NarrowIn (b .m1) (b .m2) (b .n1) (b .n2)
-  narrow-in = record { h1 = i .rows .m1 .is-row .size; h2 = i .rows .m2 .is-row .size; k1 = i .rows .n1 .is-row .size; k2 = i .rows .n2 .is-row .size }
+  narrow-in = record { h1 = i .rows .each 1 .is-row .size; h2 = i .rows .each 2 .is-row .size; k1 = i .rows .each 4 .is-row .size; k2 = i .rows .each 5 .is-row .size }
 
   pub not-narrow : {o : Bool} → o ≡ false → Decides o (Narrow (c .field .dw + 1) (c .field .dr + 1) (b .m1) (b .m2) (b .n1) (b .n2)) → Passes c b false
   not-narrow e n p G H A h = answer-no (λ good. n .no! e (narrow-of A c h b (are-rows (rows-at A h)) good))
@@ -209,10 +223,10 @@ module _ {c : Cubic} {b : Seven} (i : PassIn c b) where
           low-r = omega arith;
           low-w = omega arith;
           rows = are-rows (i .rows);
-          h1 = record { is-row = i .rows .m1 .is-row; above = λ j w. slim .h1 j (omega arith) };
-          h2 = record { is-row = i .rows .m2 .is-row; above = λ j w. slim .h2 j (omega arith) };
-          k1 = record { is-row = i .rows .n1 .is-row; above = λ j w. slim .k1 j (omega arith) };
-          k2 = record { is-row = i .rows .n2 .is-row; above = λ j w. slim .k2 j (omega arith) };
+          h1 = record { is-row = i .rows .each 1 .is-row; above = λ j w. slim .h1 j (omega arith) };
+          h2 = record { is-row = i .rows .each 2 .is-row; above = λ j w. slim .h2 j (omega arith) };
+          k1 = record { is-row = i .rows .each 4 .is-row; above = λ j w. slim .k1 j (omega arith) };
+          k2 = record { is-row = i .rows .each 5 .is-row; above = λ j w. slim .k2 j (omega arith) };
         }
 
     module _ {o₂ : Bool} (e₂ : o₂ ≡ true) (s : Shaped (frameOf c) b o₂) where
@@ -222,20 +236,20 @@ module _ {c : Cubic} {b : Seven} (i : PassIn c b) where
           let z : Seventeen (i .known .p) b = rows-at A₀ (i .known .prefix) in
           let m = shaped-at A₀ c (i .known .prefix) b s .yes! e₂ in
           let v = reading (i .known .p) (A₀ .prime) .𝓥 in
+          let ten : (k : ℕ) → ((j : ℕ) → 10 ≤ j → getD (rowAt b k) j 0 ≡ 0) → Short (i .known .p) (rowAt b k) 10 = λ k h. record { is-row = z .each k .is-row; above = h } in
           record {
-            m0 = z .m0;
-            m1 = record { is-row = z .m1 .is-row; above = λ j w. slim .h1 j (omega (arith, lw)) };
-            m2 = record { is-row = z .m2 .is-row; above = λ j w. slim .h2 j (omega (arith, lr)) };
-            n0 = z .n0;
-            n1 = record { is-row = z .n1 .is-row; above = λ j w. slim .k1 j (omega (arith, lw)) };
-            n2 = record { is-row = z .n2 .is-row; above = λ j w. slim .k2 j (omega (arith, lr)) };
-            u = z .u;
-            by-u = monic-inverts (A₀ .prime) (z .u .is-row) (m .u, 0, v .one≢zero, m .U-lead);
+            rows = each-row z
+                (ten 1 (λ j w. slim .h1 j (omega (arith, lw))))
+                (ten 2 (λ j w. slim .h2 j (omega (arith, lr))))
+                (ten 4 (λ j w. slim .k1 j (omega (arith, lw))))
+                (ten 5 (λ j w. slim .k2 j (omega (arith, lr))));
+            by-u = monic-inverts (A₀ .prime) (z .each 6 .is-row) (m .u, 0, v .one≢zero, m .U-lead);
           }
 
-      pub under-in : UnderIn (c .field .p) (c .field .g) (c .field .h) (c .field .gh) b
-      under-in = subst (λ q. UnderIn q (c .field .g) (c .field .h) (c .field .gh) b) (sym (p-is A₀ c (i .known .prefix)))
-          (record { given = given-of A₀ c (i .known .prefix); room = room-of })
+      pub under-in : {q : Modulus} → PreparedOf (c .field .p) q → UnderIn q (c .field .g) (c .field .h) (c .field .gh) b
+      under-in {q} e =
+          let u : i .known .p ≡ q .p = sym (p-is A₀ c (i .known .prefix)) ∙ sym (e .is) in
+          record { given = subst (λ p. Given p (c .field .g) (c .field .h) (c .field .gh)) u (given-of A₀ c (i .known .prefix)); modulus = e .prepared; room = subst (λ p. Room p b) u room-of }
 
       module _ {o₃ : Bool} (e₃ : o₃ ≡ true) (a : Alone (c .field .p) b o₃) where
         pub passes-as : (o₄ : Bool) → Under (c .field .p) (c .field .g) (c .field .h) (c .field .gh) b o₄ → Passes c b o₄
@@ -251,7 +265,7 @@ short-of : (q : ℕ) {B : List ℕ} → Below q B → {j : ℕ} {r : List ℕ} �
 short-of q e k = record { is-row = k .is-row q e; above = k .above }
 
 pub loaded-of : {B m0 m1 m2 n0 n1 n2 u : List ℕ} → Loaded B 0 m0 → Loaded B 1 m1 → Loaded B 2 m2 → Loaded B 3 n0 → Loaded B 4 n1 → Loaded B 5 n2 → Loaded B 6 u → SevenLoaded B (seven m0 m1 m2 n0 n1 n2 u)
-loaded-of h0 h1 h2 k0 k1 k2 hu = record { m0 = h0; m1 = h1; m2 = h2; n0 = k0; n1 = k1; n2 = k2; u = hu }
+loaded-of {B} h0 h1 h2 k0 k1 k2 hu = record { each = each-of-seven (Loaded B) h0 h1 h2 k0 k1 k2 hu }
 
 module _ {c : Cubic} {B : List ℕ} where
   pub not-below : {o : Bool} → o ≡ false → Decides o (Below (c .field .p) B) → Accepts c B false
@@ -261,16 +275,11 @@ module _ {c : Cubic} {B : List ℕ} where
     pub pass-in : Known c → PassIn c b
     pass-in k = record {
       known = k;
-      rows = record {
-        m0 = short-of (c .field .p) (n .yes! e) (l .m0);
-        m1 = short-of (c .field .p) (n .yes! e) (l .m1);
-        m2 = short-of (c .field .p) (n .yes! e) (l .m2);
-        n0 = short-of (c .field .p) (n .yes! e) (l .n0);
-        n1 = short-of (c .field .p) (n .yes! e) (l .n1);
-        n2 = short-of (c .field .p) (n .yes! e) (l .n2);
-        u = short-of (c .field .p) (n .yes! e) (l .u);
-      };
+      rows = record { each = every {b = b} (λ r. Short (c .field .p) r 17) (at 0 (omega arith)) (at 1 (omega arith)) (at 2 (omega arith)) (at 3 (omega arith)) (at 4 (omega arith)) (at 5 (omega arith)) (at 6 (omega arith)) };
     }
+      where
+        at : (k : ℕ) → k < 7 → Short (c .field .p) (rowAt b k) 17
+        at k w = short-of (c .field .p) (n .yes! e) (l .each k w)
 
     pub accepts-as : length B ≡ 119 → (o₂ : Bool) → Passes c b o₂ → Accepts c B o₂
     accepts-as z o₂ s p G H A h = record {

@@ -24,8 +24,8 @@ use Rattle.math_ideals.specs.Basis.{NoFactor}
 use Rattle.math_ideals.proofs.Tests.{AllSeven, no-factor-gcd}
 use Rattle.field_open.specs.Refusal.{Accepted}
 use Rattle.basis_record.specs.Record.{setting, polyOf}
-use Rattle.step_divide.specs.Rows.{Seven, rowsOf}
-use Rattle.step_divide.proofs.Leaves.{size-unit}
+use Rattle.basis_record.specs.Seven.{Seven, rowsOf}
+use Rattle.poly_factors.proofs.Factors.{size-unit}
 use Rattle.book_bytes.specs.Decides.{Decides}
 use Rattle.book_bytes.proofs.Tests.{answer-yes, answer-no}
 use Rattle.basis_accept.specs.Tests.{Alone}
@@ -66,7 +66,7 @@ module _ {p : ℕ} {b : Seven} {g₁ g₂ g₃ g₄ g₅ g : List ℕ} {n : ℕ}
     same = no-factor-gcd (setting A) (rowsOf A b) (polyOf A g) all most
 
   pub alone-yes : n ≡ 1 → Alone p b true
-  alone-yes e G H A = answer-yes (same A .1 (size-unit (A .prime) g (h₆ .is-row) (subst (Size g) e s)))
+  alone-yes e G H A = answer-yes (same A .1 (size-unit p (A .prime) g (h₆ .is-row) (subst (Size g) e s)))
 
   pub alone-no : n ≢ 1 → Alone p b false
   alone-no ne G H A = answer-no (λ f. ne (unit-size (A .prime) g n (h₆ .is-row) s (same A .0 f)))

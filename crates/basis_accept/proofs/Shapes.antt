@@ -15,16 +15,16 @@ use Rattle.math_fp.specs.Fp.{Prime}
 use Rattle.math_valued.specs.Val.{Valued}
 use Rattle.math_valued.specs.Degree.{Has, Lt}
 use Rattle.math_valued.proofs.Degree as d
-use Rattle.num_mod.proofs.Prepared.{bare}
 use Rattle.math_rows.specs.Reading.{Reading}
 use Rattle.math_rows.specs.Made.{reading}
 use Rattle.math_rows.specs.Row.{Row, Size, row, tpow, Floor}
 use Rattle.math_rows.proofs.Rows.{size-lead-at}
 use Rattle.math_rows.proofs.Floors.{sized, floor-lt, floor-top, floor-has, floor-le, floor-lead}
 use Rattle.math_rows.proofs.Unique.{cast-inj}
-use Rattle.poly_rows.specs.Leaf.{CrossIn, Crossed}
+use Rattle.poly_rows.specs.Leaf.{CrossBy, Crossed}
+use Rattle.poly_rows.proofs.Leaf.{cross-by}
 use Rattle.book_bytes.specs.Decides.{Decides}
-use Rattle.step_divide.specs.Rows.{Seven}
+use Rattle.basis_record.specs.Seven.{Seven}
 use Rattle.basis_parts.specs.Frame.{Frame, Meaning, Short, rd, Ser, rowμ, pt, X, Y, Ltμ, Hasμ}
 use Rattle.basis_parts.specs.Leaves.{PartIn, Parted}
 use Rattle.basis_scale.specs.Based.{Z}
@@ -40,15 +40,12 @@ module _ {F : Frame} {top : ℕ} {b : Seven} (i : ShapedIn F top b) where
   part-n = record { fine = i .fine; hb = i .k1; hc = i .k2; fits = i .fits; low-r = i .low-r; low-w = i .low-w }
 
   -- 2a − x
-  pub twice-in : {a x : List ℕ} → Row (F .m .p) a → Row (F .m .p) x → CrossIn (F .m .p) 2 a 1 0 x
-  twice-in ha hx = let t : 2 < F .m .p = i .two in record {
-    modulus = bare (i .fine .modulus);
-    hs = t;
-    hx = ha;
-    hc = omega arith;
-    hy = hx;
-    room = λ m s. let l : m ≤ 32 = subst (λ k. m ≤ k) (hx .size) (s .fits) in omega arith;
-  }
+  pub twice-in : {a x : List ℕ} → Row (F .m .p) a → Row (F .m .p) x → CrossBy (F .m) 2 a 1 0 x 32
+  twice-in {a = a} {x = x} ha hx =
+      let t : 2 < F .m .p = i .two in
+      let (n, sa) = sized a in
+      let (m, sx) = sized x in
+      cross-by 32 (i .fine .modulus) t (omega arith) ha hx sa sx (subst (λ k. n ≤ k) (ha .size) (sa .fits)) (let l : m ≤ 32 = subst (λ k. m ≤ k) (hx .size) (sx .fits) in omega arith) (omega arith)
 
 -- ---- sizes
 module _ {F : Frame} (μ : Meaning F) {top : ℕ} {b : Seven} {mx my nx ny zm zn : List ℕ} (i : ShapedIn F top b)
@@ -136,7 +133,7 @@ module _ {F : Frame} (μ : Meaning F) {top : ℕ} {b : Seven} {mx my nx ny zm zn
       let (lm, sm) = sized my in
       let (a₁, sa) = sized zm in
       let (b₁, sb) = sized zn in
-      let (eu, cu) = at-lead (rowμ μ (b .u)) (b .u) lu (n .u) 1 (i .rows .u) (floor-self (b .u)) su (d.lead-eq 𝓥 (n .U-lead) refl (sym (ρ .cast-one))) one≢ (omega arith) in
+      let (eu, cu) = at-lead (rowμ μ (b .u)) (b .u) lu (n .u) 1 (i .rows 6) (floor-self (b .u)) su (d.lead-eq 𝓥 (n .U-lead) refl (sym (ρ .cast-one))) one≢ (omega arith) in
       let (ex, cx) = at-lead (X μ (pt μ (b .m1) (b .m2))) mx lx (n .x) 2 (pmx .short .is-row) (pmx .law μ) sx (d.lead-eq 𝓥 (n .X-M) refl (sym cast-two)) two≢ t in
       let (ey, cy) = at-lead (Y μ (pt μ (b .n1) (b .n2))) ny ly (n .y) 1 (pny .short .is-row) (pny .law μ) sy (d.lead-eq 𝓥 (n .Y-N) refl (sym (ρ .cast-one))) one≢ (omega arith) in
       let ux : n .u < n .x = n .u<x in

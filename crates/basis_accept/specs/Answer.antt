@@ -13,17 +13,11 @@ use Rattle.field_series.specs.Answer.{Prefix}
 use Rattle.field_series.specs.declared.Cubic.{Cubic}
 use Rattle.basis_field.specs.Known.{Known}
 use Rattle.book_bytes.specs.Decides.{Decides}
-use Rattle.step_divide.specs.Rows.{Seven, rowsOf}
-use Rattle.basis_parts.specs.Frame.{Short}
+use Rattle.basis_record.specs.Seven.{Seven, rowAt, rowsOf}
+use Rattle.poly_rows.specs.Leaf.{Short}
 
 pub record Seventeen (p : ℕ) (b : Seven) : Type 0 where
-  pub m0 : Short p (b .m0) 17
-  pub m1 : Short p (b .m1) 17
-  pub m2 : Short p (b .m2) 17
-  pub n0 : Short p (b .n0) 17
-  pub n1 : Short p (b .n1) 17
-  pub n2 : Short p (b .n2) 17
-  pub u : Short p (b .u) 17
+  pub each : (i : ℕ) → Short p (rowAt b i) 17
 
 pub record PassIn (c : Cubic) (b : Seven) : Type 0 where
   pub known : Known c

@@ -17,7 +17,7 @@ use Rattle.math_ideals.specs.Basis.{NoFactor}
 use Rattle.field_open.specs.Refusal.{Accepted}
 use Rattle.basis_record.specs.Record.{setting}
 use Rattle.book_bytes.specs.Decides.{Decides}
-use Rattle.step_divide.specs.Rows.{Seven, AreRows, rowsOf}
+use Rattle.basis_record.specs.Seven.{Seven, AreRows, rowsOf}
 use Rattle.basis_parts.specs.Frame.{Frame, Fine, Meaning, Short, rd, rowμ, pt, X, Y, Ltμ, Hasμ}
 use Rattle.basis_scale.specs.Based.{Z}
 

@@ -1,18 +1,18 @@
 // Refusal 9: all tests of a record. Each is two-sided. specs/Tests.antt has what they decide; proofs/ has that lengths of polynomial parts decide
-// the sizes (Shapes). Crate shape has the tests of numbers and lengths, crate basis_lattice those of membership.
-use basis_lattice::under;
+// the sizes (Shapes). Crate basis_shape has the tests of numbers and lengths, crate basis_closed those of closure.
+use basis_closed::under;
 use basis_parts::Bounds;
 use basis_parts::part;
-use basis_scale::load;
+use basis_record::load;
 use basis_shape::below;
 use basis_shape::narrow;
 use basis_shape::shape;
 use num_mod::Modulus;
 use num_mod::prepare;
 use poly_factors::gcd;
-use poly_rows::cross;
+use poly_rows::cross_in;
 use poly_rows::size;
-ghost use Rattle.step_divide.specs.Rows.{seven};
+ghost use Rattle.basis_record.specs.Seven.{seven};
 ghost use Rattle.basis_field.specs.Known.{Known};
 ghost use Rattle.basis_parts.specs.Given.{given};
 ghost use Rattle.basis_accept.specs.Answer.{PassIn, Passes, Accepts};
@@ -34,13 +34,15 @@ fn shaped(
     requires { ⌜ ShapedIn (given f (now r) (now w)) (f .top) (seven (now m0) (now m1) (now m2) (now n0) (now n1) (now n2) (now u)) ⌝ }
     ensures { λ o. ⌜ Shaped (given f (now (r .entry)) (now (w .entry))) (seven (now (m0 .entry)) (now (m1 .entry)) (now (m2 .entry)) (now (n0 .entry)) (now (n1 .entry)) (now (n2 .entry)) (now (u .entry))) o ⌝ }
 {
-    let p = f.m.p;
     let mx = part(f, false, m1, m2, r, w);
     let my = part(f, true, m1, m2, r, w);
     let nx = part(f, false, n1, n2, r, w);
     let ny = part(f, true, n1, n2, r, w);
-    let zm = cross(p, 2, m0, 1, 0, &mx);
-    let zn = cross(p, 2, n0, 1, 0, &nx);
+    let q = f.m;
+    let mut zm = *m0;
+    let mut zn = *n0;
+    cross_in(q, 2, &mut zm, 1, 0, &mx, 32);
+    cross_in(q, 2, &mut zn, 1, 0, &nx, 32);
     shape(u, &mx, &my, &nx, &ny, &zm, &zn)
 }
 
@@ -102,7 +104,7 @@ fn passes(
                 let g = f.g;
                 let h = f.h;
                 let gh = f.gh;
-                under(p, &g, &h, &gh, m0, m1, m2, n0, n1, n2, u)
+                under(q, &g, &h, &gh, m0, m1, m2, n0, n1, n2, u)
             } else {
                 false
             }

@@ -19,7 +19,7 @@ use Rattle.field_open.specs.Opening.{pad}
 use Rattle.field_open.specs.Opening as F
 use Rattle.field_series.specs.Answer.{Prefix}
 use Rattle.field_series.specs.declared.Cubic.{Cubic}
-use Rattle.step_divide.specs.Rows.{Holds}
+use Rattle.basis_record.specs.Seven.{Holds}
 
 module _ {p d : ℕ} {l : List ℕ} (s : Degree p l d) where
   past : (i : ℕ) → length l ≤ i → getD l i 0 ≡ 0

@@ -1,16 +1,15 @@
 -- Membership by exact divisions.
 --   rest-none, rest-some   a division is exact exactly where its rest has no coefficient
---   room-of                a rest by U times a row of 17 fits
+--   inside-both            a rest by U times a row of 17 fits
 --   inside-yes, inside-no  U divides a − (b m + c n) exactly where the last rest is 0
---   member-yes, member-no, member-first, member-second   and the three divisions
+--   member-first, member-second, member-of, member-in   and the three divisions
 use mathlib.Core.Path.{_≡_, sym, ap, ap₂, _∙_, subst}
 use mathlib.Core.Logic.{_≢_}
-use mathlib.Core.Bool.{Bool}
+use mathlib.Core.Bool.{Bool, true}
 use mathlib.Core.List.{List, [], _∷_}
-use Prim.Native.Nat.{ℕ, zero, suc, _+_, _*_, _%_, _<_, _≤_}
+use Prim.Native.Nat.{ℕ, suc, _+_, _*_, _<_, _≤_}
 use native.Mathlib.Omega.{arith}
-use native.Mathlib.Nat.{mod-eq-of-lt}
-use lib.ListN.{getD}
+use Rattle.num_mod.specs.declared.Modulus.{Modulus}
 use Rattle.math_ring.specs.Ring.{Ops}
 use Rattle.math_ring.proofs.Solve.{var, hyp, one, zer, minus, _:+_, _:*_, solve, solve-by}
 use Rattle.math_fp.specs.Fp.{Prime}
@@ -19,22 +18,25 @@ use Rattle.math_valued.specs.Degree.{Has}
 use Rattle.math_valued.proofs.Degree as d
 use Rattle.math_rows.specs.Reading.{Reading}
 use Rattle.math_rows.specs.Made.{reading}
-use Rattle.math_rows.specs.Row.{Row, Size, row}
-use Rattle.math_rows.proofs.Rows.{row-poly, size-le, size-has}
-use Rattle.math_rows.proofs.Floors.{sized, zero-row}
+use Rattle.math_rows.specs.Row.{Size, row}
+use Rattle.math_rows.proofs.Rows.{row-poly, size-le}
+use Rattle.math_rows.proofs.Floors.{zero-row}
 use Rattle.math_rows.proofs.Quotient.{division-unique}
-use Rattle.num_mod.specs.Residue.{IsModulus}
-use Rattle.poly_rows.specs.Leaf.{MulIn, Product, Summed, Difference}
-use Rattle.poly_rows.specs.Division.{DivIn, Divided}
+use Rattle.poly_rows.specs.Leaf.{Short}
+use Rattle.poly_rows.specs.Division.{Inverts, Divided}
+use Rattle.poly_rows.proofs.Division.{divided}
+use Rattle.poly_rows.proofs.Lengths.{size-below, size-of, inverts-has}
+use Rattle.poly_lent.specs.Sized.{BothIn, BothOut, LessOut, DivideOut}
+use Rattle.poly_lent.proofs.Mixing.{size-cut}
 use Rattle.book_bytes.specs.Decides.{Decides}
-use Rattle.step_divide.specs.Rows.{Seven}
-use Rattle.step_divide.specs.Quotients.{Inverts, Det}
-use Rattle.basis_parts.specs.Frame.{Short}
-use Rattle.basis_scale.proofs.Place.{size-below}
-use Rattle.basis_lattice.specs.Lattice.{InsideIn, InsideAt, MemberIn, MemberAt}
+use Rattle.basis_record.specs.Seven.{Seven}
+use Rattle.basis_lattice.specs.Coordinates.{ElementIn, OuterOut}
+use Rattle.basis_lattice.specs.Lattice.{InsideIn, InsideAt, MemberAt}
+use Rattle.basis_lattice.specs.declared.Lengths.{Lengths}
+use Rattle.basis_lattice.specs.declared.OuterSpans.{OuterSpans}
 
-pub by-inverse : {p il : ℕ} {a b : List ℕ} → IsModulus p → Row p a → Row p b → Inverts p b il → DivIn p a b il
-by-inverse m ha hb h = record { modulus = m; ha = ha; hb = hb; hi = h .below; inv = h .law }
+abbrev of : ℕ → ℕ → ℕ → Modulus
+of p mul lim = record { p = p; m = mul; lim = lim }
 
 module _ {p : ℕ} (pr : Prime p) where
   abbrev ρ : Reading p
@@ -47,21 +49,6 @@ module _ {p : ℕ} (pr : Prime p) where
   infixl 60 _⊕_
   infixl 70 _⊗_
   infix 80 ⊖_
-  -- what has an inverse leading coefficient has a degree
-  pub inverts-has : {b : List ℕ} {il : ℕ} → Row p b → Inverts p b il → (n : ℕ) × Has 𝓥 (row ρ b) n
-  inverts-has {b} {il} hb h = go (sized b)
-    where
-      go : (n : ℕ) × Size b n → (n : ℕ) × Has 𝓥 (row ρ b) n
-      go (zero, s) =
-          let e : (il * getD b 0 0) % p ≡ 1 = h .law 0 s in
-          let z : getD b 0 0 ≡ 0 = s .above 0 (omega arith) in
-          let o : il * getD b 0 0 ≡ 0 = ap (λ x. il * x) z ∙ (let q : il * 0 ≡ 0 = omega arith in q) in
-          let f : 0 % p ≡ 1 = ap (λ x. x % p) (sym o) ∙ e in
-          let l : 1 < p = pr .big in
-          let g : 0 % p ≡ 0 = mod-eq-of-lt (omega arith) in
-          absurd (omega (arith, f, g))
-      go (suc n, s) = (n, size-has ρ hb s)
-
   module _ {a b q r : List ℕ} {m : ℕ} (h : Divided p a b q r) (s : Size r m) where
     pub rest-none : m ≡ 0 → row ρ a ≡ row ρ b ⊗ row ρ q
     rest-none e = h .law pr ∙ ap (λ z. row ρ q ⊗ row ρ b ⊕ z) (zero-row ρ r (subst (Size r) e s)) ∙ solve L (var 0 :* var 1 :+ zer) (var 1 :* var 0) tt (row ρ q ∷ row ρ b ∷ [])
@@ -73,34 +60,42 @@ module _ {p : ℕ} (pr : Prime p) where
         (omega arith, eq)
 
   -- a rest by u times a row of 17
-  pub room-of : {b q r m u : List ℕ} → IsModulus p → Divided p b u q r → Short p u 17 → Inverts p u 1 → Short p m 17 → MulIn p r m
-  room-of {b} {q} {r} {m} {u} md h hu by hm = record {
-    modulus = md;
-    hx = h .r-row;
-    hy = hm .is-row;
-    room = λ i j si sj.
-        let (n, hn) = inverts-has (hu .is-row) by in
-        let l : i ≤ n = size-le ρ n (h .r-row) si (h .low pr n hn) in
-        let k : n < 17 = small n hn in
-        let t : j ≤ 17 = size-below hm sj in
-        omega arith;
-  }
+  rest-room : {b q r m u : List ℕ} {i j : ℕ} → Divided p b u q r → Short p u 17 → Inverts p u 1 → Short p m 17 → Size r i → Size m j → i + j ≤ 33
+  rest-room {b} {q} {r} {m} {u} {i} {j} h hu by hm si sj =
+      let (n, hn) = inverts-has pr (hu .is-row) by in
+      let l : i ≤ n = size-le ρ n (h .r-row) si (h .low pr n hn) in
+      let k : n < 17 = small n hn in
+      let t : j ≤ 17 = size-below hm sj in
+      omega arith
     where
       small : (n : ℕ) → Has 𝓥 (row ρ u) n → n < 17
-      small n hn = go (sized u)
-        where
-          go : (k : ℕ) × Size u k → n < 17
-          go (zero, s) = absurd (d.has-not-zero 𝓥 (d.has-eq 𝓥 hn (zero-row ρ u s)))
-          go (suc k, s) =
-              let e : k ≡ n = d.same 𝓥 (size-has ρ (hu .is-row) s) hn in
-              let l : suc k ≤ 17 = size-below hu s in
-              omega arith
+      small n hn = let k : suc n ≤ 17 = size-below hu (size-of ρ (hu .is-row) hn) in omega arith
 
-  module _ {a b c m n u q₁ r₁ q₂ r₂ x y z h q r : List ℕ} {l : ℕ} (i : InsideIn p a b c m n u) (db : Divided p b u q₁ r₁) (dc : Divided p c u q₂ r₂)
-      (hx : Product p r₁ m x) (hy : Product p r₂ n y) (hz : Summed p x y z) (hh : Difference p a z h) (dh : Divided p h u q r) (s : Size r l) where
+  module _ {mul lim : ℕ} {a : List ℕ} {na : ℕ} {b : List ℕ} {nb : ℕ} {c : List ℕ} {nc : ℕ} {m : List ℕ} {lm : ℕ} {n : List ℕ} {ln : ℕ} {u : List ℕ} {lu : ℕ}
+      (i : InsideIn (of p mul lim) a na b nb c nc m lm n ln u lu) {q₁ r₁ q₂ r₂ : List ℕ} {j₁ k₁ j₂ k₂ : ℕ} (db : DivideOut p b u q₁ r₁ j₁ k₁) (dc : DivideOut p c u q₂ r₂ j₂ k₂) where
+    pub inside-both : BothIn (of p mul lim) r₁ k₁ m lm r₂ k₂ n ln a na
+    inside-both = record {
+      modulus = i .modulus;
+      hx = db .divided .r-row;
+      hy = i .hm .is-row;
+      hz = dc .divided .r-row;
+      hv = i .hn .is-row;
+      cx = size-cut (db .divided .r-row) (db .sr);
+      cy = size-cut (i .hm .is-row) (i .sm);
+      cz = size-cut (dc .divided .r-row) (dc .sr);
+      cv = size-cut (i .hn .is-row) (i .sn);
+      left = rest-room (db .divided) (i .hu) (i .by-u) (i .hm) (db .sr) (i .sm);
+      right = rest-room (dc .divided) (i .hu) (i .by-u) (i .hn) (dc .sr) (i .sn);
+      hr = i .ha;
+      cr = size-cut (i .ha) (i .sa);
+    }
+
+  module _ {mul lim : ℕ} {a : List ℕ} {na : ℕ} {b : List ℕ} {nb : ℕ} {c : List ℕ} {nc : ℕ} {m : List ℕ} {lm : ℕ} {n : List ℕ} {ln : ℕ} {u : List ℕ} {lu : ℕ}
+      (i : InsideIn (of p mul lim) a na b nb c nc m lm n ln u lu) {q₁ r₁ q₂ r₂ h q r : List ℕ} {k l : ℕ} (db : Divided p b u q₁ r₁) (dc : Divided p c u q₂ r₂)
+      (hh : BothOut p true r₁ m true r₂ n a h k) (dh : Divided p h u q r) (s : Size r l) where
     -- h = a − (r₁ m + r₂ n)
     h-is : row ρ h ≡ row ρ a ⊕ ⊖ (row ρ r₁ ⊗ row ρ m ⊕ row ρ r₂ ⊗ row ρ n)
-    h-is = hh .law pr ∙ ap (λ t. row ρ a ⊕ ⊖ t) (hz .law pr ∙ ap₂ _⊕_ (hx .law pr) (hy .law pr))
+    h-is = hh .law pr ∙ solve L (var 0 :+ minus (var 1 :* var 2) :+ minus (var 3 :* var 4)) (var 0 :+ minus (var 1 :* var 2 :+ var 3 :* var 4)) tt (row ρ a ∷ row ρ r₁ ∷ row ρ m ∷ row ρ r₂ ∷ row ρ n ∷ [])
 
     pub inside-yes : l ≡ 0 → InsideAt pr a b c m n u
     inside-yes e = record {
@@ -114,7 +109,7 @@ module _ {p : ℕ} (pr : Prime p) where
 
     pub inside-no : l ≢ 0 → InsideAt pr a b c m n u → ⊥
     inside-no ne t =
-        let (k, hk) = inverts-has (i .hu .is-row) (i .by-u) in
+        let (k, hk) = inverts-has pr (i .hu .is-row) (i .by-u) in
         ne (rest-some dh s k hk (t .α ⊕ (row ρ q₁ ⊗ row ρ m ⊕ row ρ q₂ ⊗ row ρ n))
         (𝓥 .closed .add _ _ (t .α-poly) (𝓥 .closed .add _ _ (𝓥 .closed .mul _ _ (row-poly ρ q₁) (row-poly ρ m)) (𝓥 .closed .mul _ _ (row-poly ρ q₂) (row-poly ρ n))))
         (h-is ∙ solve-by L (var 0 :+ minus (var 9 :* var 3 :+ var 10 :* var 4)) (var 5 :* (var 6 :+ (var 7 :* var 3 :+ var 8 :* var 4)))
@@ -122,25 +117,31 @@ module _ {p : ℕ} (pr : Prime p) where
         (row ρ a ∷ row ρ b ∷ row ρ c ∷ row ρ m ∷ row ρ n ∷ row ρ u ∷ t .α ∷ row ρ q₁ ∷ row ρ q₂ ∷ row ρ r₁ ∷ row ρ r₂ ∷ [])
         (db .law pr, (dc .law pr, (t .U-α, tt)))) .0)
 
-  module _ {va vb vc e s t q₁ r₁ q₂ r₂ : List ℕ} {b : Seven} {ie k : ℕ} (i : MemberIn p va vb vc b e ie) (ds : Det p vb (b .n2) vc (b .n1) s) (dt : Det p vc (b .m1) vb (b .m2) t)
-      (x : Divided p s e q₁ r₁) (y : Divided p t e q₂ r₂) (sk : Size r₁ k) where
+  module _ {mul lim : ℕ} {va : List ℕ} {na : ℕ} {vb : List ℕ} {nb : ℕ} {vc : List ℕ} {nc : ℕ} {b : Seven} {l : Lengths} {e : List ℕ} {ie : ℕ} (i : ElementIn (of p mul lim) va na vb nb vc nc b l e ie)
+      {s t q₁ q₂ : List ℕ} {o : OuterSpans} (h : OuterOut p vb vc (b .m1) (b .m2) (b .n1) (b .n2) e s t q₁ q₂ o) {r₁ : List ℕ} {k : ℕ} (x : LessOut p q₁ e s r₁ k) where
     he : (n : ℕ) × Has 𝓥 (row ρ e) n
-    he = inverts-has (i .he) (i .by-e)
+    he = inverts-has pr (i .he) (i .by-e)
+
+    by-β : Divided p s e q₁ r₁
+    by-β = divided p s e q₁ r₁ (h .β-is .quotient) (x .is-row) (x .law)
 
     first : MemberAt pr va vb vc b e → (k ≡ 0) × ((m : MemberAt pr va vb vc b e) → row ρ q₁ ≡ m .β)
-    first m = (rest-some x sk (he .0) (he .1) (m .β) (m .quotients .β-poly) (ds .law pr ∙ m .quotients .e-β) .0, λ o. rest-some x sk (he .0) (he .1) (o .β) (o .quotients .β-poly) (ds .law pr ∙ o .quotients .e-β) .1)
+    first m = (rest-some by-β (x .size) (he .0) (he .1) (m .β) (m .quotients .β-poly) (h .s-is .law pr ∙ m .quotients .e-β) .0, λ o. rest-some by-β (x .size) (he .0) (he .1) (o .β) (o .quotients .β-poly) (h .s-is .law pr ∙ o .quotients .e-β) .1)
 
     pub member-first : k ≢ 0 → MemberAt pr va vb vc b e → ⊥
     member-first ne m = ne (first m .0)
 
-    module _ {l : ℕ} (sl : Size r₂ l) where
-      second : (m : MemberAt pr va vb vc b e) → (l ≡ 0) × (row ρ q₂ ≡ m .γ)
-      second m = rest-some y sl (he .0) (he .1) (m .γ) (m .quotients .γ-poly) (dt .law pr ∙ m .quotients .e-γ)
+    module _ {r₂ : List ℕ} {j : ℕ} (y : LessOut p q₂ e t r₂ j) where
+      by-γ : Divided p t e q₂ r₂
+      by-γ = divided p t e q₂ r₂ (h .γ-is .quotient) (y .is-row) (y .law)
 
-      pub member-second : l ≢ 0 → MemberAt pr va vb vc b e → ⊥
+      second : (m : MemberAt pr va vb vc b e) → (j ≡ 0) × (row ρ q₂ ≡ m .γ)
+      second m = rest-some by-γ (y .size) (he .0) (he .1) (m .γ) (m .quotients .γ-poly) (h .t-is .law pr ∙ m .quotients .e-γ)
+
+      pub member-second : j ≢ 0 → MemberAt pr va vb vc b e → ⊥
       member-second ne m = ne (second m .0)
 
-      pub member-of : k ≡ 0 → l ≡ 0 → InsideAt pr va q₁ q₂ (b .m0) (b .n0) (b .u) → MemberAt pr va vb vc b e
+      pub member-of : k ≡ 0 → j ≡ 0 → InsideAt pr va q₁ q₂ (b .m0) (b .n0) (b .u) → MemberAt pr va vb vc b e
       member-of ek el n = record {
         α = n .α;
         β = row ρ q₁;
@@ -149,8 +150,8 @@ module _ {p : ℕ} (pr : Prime p) where
           α-poly = n .α-poly;
           β-poly = row-poly ρ q₁;
           γ-poly = row-poly ρ q₂;
-          e-β = sym (ds .law pr) ∙ rest-none x sk ek;
-          e-γ = sym (dt .law pr) ∙ rest-none y sl el;
+          e-β = sym (h .s-is .law pr) ∙ rest-none by-β (x .size) ek;
+          e-γ = sym (h .t-is .law pr) ∙ rest-none by-γ (y .size) el;
           U-α = n .U-α;
         };
       }

@@ -1,2 +1,2 @@
+pub mod Coordinates
 pub mod Lattice
-pub mod Closed

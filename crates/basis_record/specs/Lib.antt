@@ -1,1 +1,3 @@
 pub mod Record
+pub mod Seven
+pub mod Store

@@ -38,8 +38,8 @@ use Rattle.basis_scale.specs.Levels.{Monic}
 use Rattle.basis_scale.specs.Place.{off, ElementIn, PlacedAt, FillIn, Filled}
 use Rattle.basis_scale.specs.Scales.{ScalesIn, Scaling}
 use Rattle.basis_scale.specs.Based.{BasisIn, BasedAt, Based, Z, at, Mpt, Npt}
-use Rattle.basis_scale.proofs.Store.{stored-part, stored-other, stored-each, part-same}
-use Rattle.basis_scale.proofs.Place.{size-below, scaled-size}
+use Rattle.basis_record.proofs.Store.{stored-part, stored-other, stored-each, part-same}
+use Rattle.poly_rows.proofs.Lengths.{size-below, scaled-size}
 use Rattle.basis_scale.proofs.Two.{const-two, half}
 
 positive : (v : ℕ) → v ≢ 0 → 0 < v

@@ -26,7 +26,7 @@ use Rattle.poly_lent.specs.Sized.{Mixed}
 use Rattle.basis_parts.specs.Frame.{Short}
 use Rattle.basis_scale.specs.Levels.{LevelIn, Leveled, Monic}
 use Rattle.basis_scale.proofs.Two.{half}
-use Rattle.basis_scale.proofs.Place.{row-short}
+use Rattle.poly_rows.proofs.Lengths.{row-short}
 
 module _ {M : Modulus} {u : List ℕ} {lu : ℕ} {k : List ℕ} {n : ℕ} {x : List ℕ} {top : ℕ} (i : LevelIn M u lu k n x top) where
   pub level-divide : DivIn (M .p) k u 1

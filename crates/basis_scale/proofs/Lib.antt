@@ -1,5 +1,3 @@
-pub mod Store
-pub mod Loads
 pub mod Two
 pub mod Place
 pub mod Levels

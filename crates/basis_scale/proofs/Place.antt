@@ -1,14 +1,11 @@
 -- What `placed` and `filled` ask of their callees, and what they make.
---   row-short, size-below    a bound of the degree, or of the row, bounds the length
-use mathlib.Core.Path.{_≡_, refl, sym, ap, ap₂, _∙_, subst}
-use mathlib.Core.Logic.{_≢_, _⊎_, inl, inr}
+use mathlib.Core.Path.{_≡_, refl, sym, ap, ap₂, _∙_}
+use mathlib.Core.Logic.{_⊎_, inl, inr}
 use mathlib.Core.Bool.{false}
 use mathlib.Core.List.{List, [], _∷_}
 use Prim.Native.Nat.{ℕ, _+_, _*_, _-_, _<_, _≤_}
 use native.Mathlib.Omega.{arith}
-use native.Mathlib.Decide.{decLt}
 use lib.ListN.{length, getD, replicate}
-use Rattle.math_ring.specs.Ring.{Ops, CRing}
 use Rattle.math_ring.proofs.Solve.{var, minus, _:+_, solve}
 use Rattle.math_fp.specs.Fp.{Prime}
 use Rattle.math_valued.specs.Val.{Valued}
@@ -18,11 +15,9 @@ use Rattle.math_valued.proofs.Compare.{has-scale}
 use Rattle.num_mod.specs.declared.Modulus.{Modulus}
 use Rattle.math_rows.specs.Reading.{Reading}
 use Rattle.math_rows.specs.Made.{reading}
-use Rattle.math_rows.specs.Row.{Row, Size, row}
-use Rattle.math_rows.proofs.Rows.{size-le, size-lt, size-has-at}
-use Rattle.math_rows.proofs.Floors.{sized}
-use Rattle.math_rows.proofs.Turn.{lt-scale}
+use Rattle.math_rows.specs.Row.{Size, row}
 use Rattle.poly_rows.specs.Leaf.{Cut, ScaleBy, ScaleOut}
+use Rattle.poly_rows.proofs.Lengths.{size-below, short-up, short-cut, scaled-short}
 use Rattle.poly_lent.specs.Sized.{BothIn, BothOut}
 use Rattle.poly_lent.proofs.Mixing.{size-cut}
 use Rattle.basis_record.specs.Record.{part}
@@ -30,42 +25,9 @@ use Rattle.basis_parts.specs.Frame.{Short}
 use Rattle.basis_parts.proofs.Laid.{zeros-at}
 use Rattle.basis_scale.specs.Store.{StoreIn, Stored}
 use Rattle.basis_scale.specs.Levels.{LevelIn, Leveled}
-use Rattle.basis_scale.specs.Place.{ElementIn, PlaceIn, PlacedAt, Placed, FillIn, Filled}
+use Rattle.basis_scale.specs.Place.{PlaceIn, Placed, FillIn}
 use Rattle.basis_scale.specs.declared.Factors.{Factors}
-use Rattle.basis_scale.proofs.Store.{stored-part, stored-other, stored-blank, stored-each}
-
-pub size-below : {p : ℕ} {l : List ℕ} {m n : ℕ} → Short p l n → Size l m → m ≤ n
-size-below {p} {l} {m} {n} h s = go (decLt n m)
-  where
-    go : Dec (n < m) → m ≤ n
-    go (yes w) = absurd (s .top (omega arith) (h .above (m - 1) (omega arith)))
-    go (no w) = omega arith
-
-pub short-lt : {p : ℕ} (ρ : Reading p) {l : List ℕ} {n : ℕ} → Short p l n → Lt (ρ .𝓥) (row ρ l) n
-short-lt ρ {l} {n} h = let (m, s) = sized l in lt-up (ρ .𝓥) n (size-lt ρ s) (size-below h s)
-
-pub row-short : {p : ℕ} (ρ : Reading p) {l : List ℕ} (n : ℕ) → Row p l → Lt (ρ .𝓥) (row ρ l) n → Short p l n
-row-short ρ {l} n h g = let (m, s) = sized l in let b : m ≤ n = size-le ρ n h s g in record { is-row = h; above = λ i w. s .above i (omega arith) }
-
-pub short-up : {p : ℕ} {l : List ℕ} {m n : ℕ} → Short p l m → m ≤ n → Short p l n
-short-up h u = record { is-row = h .is-row; above = λ i w. h .above i (omega arith) }
-
-pub short-cut : {p : ℕ} {l : List ℕ} {n : ℕ} → Short p l n → n ≤ 32 → Cut l n
-short-cut h u = record { size = h .is-row .size; fits = u; above = h .above }
-
--- a row times a number ends where the row does
-pub scaled-short : {p c : ℕ} (ρ : Reading p) {x z : List ℕ} {n : ℕ} → Short p x n → Row p z → row ρ z ≡ ρ .𝓥 .L .ops .mul (ρ .𝓥 .const (ρ .cast c)) (row ρ x) → Short p z n
-scaled-short {p} {c} ρ {x} {z} {n} h hz e = row-short ρ n hz (lt-eq (ρ .𝓥) (lt-scale ρ (ρ .cast c) (short-lt ρ h)) (sym e))
-
--- and by a number that is not 0 it has the same length
-pub scaled-size : {p c : ℕ} (ρ : Reading p) {x z : List ℕ} {n : ℕ} → ρ .cast c ≢ ρ .𝓥 .K .ops .𝟎 → Row p x → Row p z → row ρ z ≡ ρ .𝓥 .L .ops .mul (ρ .𝓥 .const (ρ .cast c)) (row ρ x) → Size x n → Size z n
-scaled-size {p} {c} ρ {x} {z} {n} hc hx hz e s = let (m, w) = sized z in subst (λ k. Size z k) (go n m s w) w
-  where
-    go : (n m : ℕ) → Size x n → Size z m → m ≡ n
-    go n m s w = let hi : m ≤ n = size-le ρ n hz w (lt-eq (ρ .𝓥) (lt-scale ρ (ρ .cast c) (size-lt ρ s)) (sym e)) in elim (decLt m n) [
-      | no l ↦ omega arith
-      | yes l ↦ let h = has-eq (ρ .𝓥) (has-scale (ρ .𝓥) (ρ .cast c, hc, ρ .𝓥 .const-lead (ρ .cast c)) (size-has-at ρ n hx s (omega arith))) (sym e) in absurd (omega (arith, above (ρ .𝓥) h (size-lt ρ w)))
-    ]
+use Rattle.basis_record.proofs.Store.{stored-part, stored-other, stored-blank, stored-each}
 
 module _ {M : Modulus} {i top s : ℕ} {b c x x1 : List ℕ} {n1 : ℕ} {y1 : List ℕ} {n2 : ℕ} {u : List ℕ} {lu : ℕ} {B : List ℕ} (g : PlaceIn M i top s b c x x1 n1 y1 n2 u lu B) where
   pub place-scale : {l : List ℕ} {n : ℕ} → Short (M .p) l n → n ≤ top → ScaleBy M s l top

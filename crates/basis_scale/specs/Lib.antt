@@ -1,4 +1,3 @@
-pub mod Store
 pub mod Levels
 pub mod Place
 pub mod Scales

@@ -23,7 +23,7 @@ use Rattle.num_mod.specs.declared.Modulus.{Modulus}
 use Rattle.basis_record.specs.Record.{part}
 use Rattle.basis_parts.specs.Frame.{Short}
 use Rattle.basis_scale.specs.Levels.{Monic}
-use Rattle.basis_scale.specs.Store.{Stored}
+use Rattle.basis_record.specs.Store.{Stored}
 use Rattle.basis_scale.specs.declared.Factors.{Factors}
 
 -- a + b x + c y

@@ -1,6 +1,7 @@
 // The basis record: seven rows of 17 coefficients, M0, M1, M2, N0, N1, N2, U. It starts as zeros and is filled row by row.
 use basis_parts::Bounds;
 use basis_parts::lead_of;
+use basis_record::stored;
 use basis_reduce::reduced;
 use num_mod::Modulus;
 use num_mod::inverse;
@@ -10,7 +11,6 @@ use poly_lent::quotient_in;
 use poly_rows::cross_in;
 use poly_rows::scale_in;
 use poly_rows::size_from;
-ghost use mathlib.Core.Path.{_≡_};
 ghost use Prim.Native.Nat.{_+_, _*_, _-_, _%_, _<_, _≤_};
 ghost use Rattle.basis_parts.specs.Given.{given};
 ghost use Rattle.basis_reduce.specs.Clear.{pair, ends};
@@ -19,42 +19,6 @@ ghost use Rattle.basis_scale.specs.First.{OrderIn, units, unit, nothing}
 ghost use Rattle.basis_scale.specs.Levels.{LevelIn, Leveled};
 ghost use Rattle.basis_scale.specs.Place.{PlaceIn, Placed, FillIn, Filled};
 ghost use Rattle.basis_scale.specs.Scales.{ScalesIn, Scaling};
-ghost use Rattle.basis_scale.specs.Store.{StoreIn, Stored, LoadIn, Loaded};
-
-fn wide(x: u16) -> u64
-    ensures { λ r. ⌜ r ≡ x ⌝ }
-{
-    x as u64
-}
-
-// Row i of the record from a, which ends before n; the record is 0 from that row on.
-fn stored(rows: &mut [u16; 119], i: usize, a: &[u64; 32], n: usize)
-    requires { ⌜ StoreIn (now rows) i (now a) n ⌝ }
-    ensures { λ _. ⌜ Stored (now (rows .entry)) i (now (a .entry)) (now (rows .exit)) ⌝ }
-{
-    let at = 17 * i;
-    let mut j: usize = 0;
-    while j < n {
-        rows[at + j] = a[j] as u16;
-        j += 1;
-    }
-}
-
-// Row i of the record, as a row of 32
-pub fn load(rows: &[u16; 119], i: usize) -> [u64; 32]
-    requires { ⌜ LoadIn (now rows) i ⌝ }
-    ensures { λ r. ⌜ Loaded (now (rows .entry)) i r ⌝ }
-{
-    let at = 17 * i;
-    let mut r: [u64; 32] = [0; 32];
-    let mut j: usize = 0;
-    while j < 17 {
-        let v = wide(rows[at + j]);
-        r[j] = v;
-        j += 1;
-    }
-    r
-}
 
 // Row 0 of an element over the denominator u, which leads with 1: half of x - (k mod u), in place of x
 fn level(

@@ -1,12 +1,13 @@
 -- Crate basis.
---   load-one                       a row taken out of the record
+--   load-one, stored-one           a row taken out of the record, and put into it
 --   reduced-basis-one, order-one   the whole record of a reduction
 use mathlib.Core.Path.{_≡_, refl, sym, ap, ap₂, _∙_, subst}
 use mathlib.Core.Logic.{_≢_, _⊎_, inl, inr}
 use mathlib.Core.List.{List, [], _∷_}
-use Prim.Native.Nat.{ℕ, zero, suc, _+_, _*_, _/_, _%_, _<_, _≤_}
+use Prim.Native.Nat.{ℕ, zero, suc, _+_, _*_, _-_, _/_, _%_, _<_, _≤_}
 use native.Mathlib.Nat.{mod-lt, mod-add-div}
 use native.Mathlib.Omega.{arith}
+use native.Mathlib.Decide.{decLt}
 use lib.ListN.{length, getD}
 use lib.Seq.{ext-getD}
 use Rattle.math_ring.proofs.Laws as rg
@@ -30,7 +31,7 @@ use Rattle.basis_record.specs.Record.{part}
 use Rattle.basis_record.proofs.Unique.{part-below}
 use Rattle.basis_parts.specs.Frame.{Frame, Meaning, rd, rowμ, X, Y, Ltμ}
 use Rattle.basis_reduce.specs.Clear.{Pair}
-use Rattle.basis_scale.specs.Store.{Loaded}
+use Rattle.basis_record.specs.Store.{Stored, Loaded}
 use Rattle.basis_scale.specs.First.{nothing, unit, units, OrderIn}
 use Rattle.basis_scale.specs.Based.{BasisIn, BasedAt, Based, Z, at, Mpt, Npt}
 use Rattle.demands_inner.proofs.Rows.{by-row}
@@ -45,6 +46,16 @@ pub load-one : {B : List ℕ} {i : ℕ} {r s : List ℕ} → ((k : ℕ) → getD
 load-one {B} below h k =
     let l : (j : ℕ) → getD B j 0 < 65537 = (λ j. let u : getD B j 0 < 65536 = below j in omega arith) in
     by-row (reading 65537 big) (h .is-row 65537 l) (k .is-row 65537 l) (h .law 65537 big) (k .law 65537 big)
+
+pub stored-one : {B : List ℕ} {i : ℕ} {a B′ B″ : List ℕ} → Stored B i a B′ → Stored B i a B″ → B′ ≡ B″
+stored-one {B} {i} {a} {B′} {B″} h k = ext-getD 0 B′ B″ (h .size ∙ sym (k .size)) (λ j _. at-place j (decLt j (17 * i)) (decLt j (17 * i + 17)))
+  where
+    at-place : (j : ℕ) → Dec (j < 17 * i) → Dec (j < 17 * i + 17) → getD B′ j 0 ≡ getD B″ j 0
+    at-place j (yes l) d = h .there j (inl l) ∙ sym (k .there j (inl l))
+    at-place j (no l) (no m) = h .there j (inr (omega arith)) ∙ sym (k .there j (inr (omega arith)))
+    at-place j (no l) (yes m) =
+        let q : 17 * i + (j - 17 * i) ≡ j = omega arith in
+        ap (λ n. getD B′ n 0) (sym q) ∙ h .here (j - 17 * i) (omega arith) ∙ sym (k .here (j - 17 * i) (omega arith)) ∙ ap (λ n. getD B″ n 0) q
 
 -- ---- row 0
 module _ {p : ℕ} (ρ : Reading p) where

@@ -1,5 +1,4 @@
--- Crate generators.
---   det-one           two determinants are one
+-- Crate step_divide.
 --   divided-one       the generators: x, y and the degree cut are settled, the pairs and their denominator up to one constant
 --   divided-lengths   and the lengths of x, y and of the denominator
 use mathlib.Core.Path.{_≡_, sym, ap, _∙_, subst}
@@ -23,16 +22,12 @@ use Rattle.math_ideals.specs.Setting.{Setting, P}
 use Rattle.math_ideals.specs.Ideal.{Basis, Ideal}
 use Rattle.math_chain.proofs.Parts.{Parts, Cut, x0, x2, y0, y2, base, parts-unique, cut-greatest}
 use Rattle.basis_record.specs.Record.{setting}
-use Rattle.step_divide.specs.Rows.{Seven, rowsOf}
-use Rattle.step_divide.specs.Quotients.{Det}
+use Rattle.basis_record.specs.Seven.{Seven, rowsOf}
 use Rattle.step_divide.specs.Generated.{Generators, GeneratorsIn, AreGenerators, Divided}
 use Rattle.step_divide.specs.declared.Cuts.{Cuts}
 use Rattle.demands_inner.specs.UpTo.{Alike}
 use Rattle.demands_inner.proofs.Rows.{by-row}
 use Rattle.demands_inner.proofs.Poly.{size-one}
-
-pub det-one : {p : ℕ} (pr : Prime p) {x y z v r s : List ℕ} → Det p x y z v r → Det p x y z v s → r ≡ s
-det-one {p} pr h k = by-row (reading p pr) (h .is-row) (k .is-row) (h .law pr) (k .law pr)
 
 -- ---- what is cut from the four coordinates is settled up to a constant
 record Same (S : Setting) (B B′ : Basis S) (m n : ℕ) : Type 0 where

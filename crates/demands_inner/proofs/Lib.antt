@@ -3,6 +3,7 @@ pub mod Poly
 pub mod Sized
 pub mod Pairs
 pub mod Reduction
+pub mod Lattice
 pub mod Generators
 pub mod Bases
 pub mod Tests

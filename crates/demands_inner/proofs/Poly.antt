@@ -22,14 +22,13 @@ use Rattle.math_rows.proofs.Floors.{sized}
 use Rattle.math_rows.proofs.Quotient.{division-unique}
 use Rattle.math_rows.proofs.Unique.{row-unique}
 use Rattle.num_prime.specs.Table.{PrimeTest}
-use Rattle.poly_rows.specs.Leaf.{Summed, Difference, Opposite, ScaleOut, Crossed, CrossOut, Product, Listed}
-use Rattle.poly_rows.specs.Coefficients.{More}
-use Rattle.poly_rows.specs.Division.{DivIn, Quotient, Divided}
+use Rattle.poly_rows.specs.Leaf.{Opposite, ScaleOut, Crossed, CrossOut, Product, Listed}
+use Rattle.num_mod.specs.Prepared.{Added}
+use Rattle.poly_rows.specs.Division.{DivIn, Quotient}
 use Rattle.poly_rows.specs.Polynomial.{polynomial}
 use Rattle.poly_factors.specs.Factors.{Over, OverBoth, Common, SquareTest, CoprimeTest}
-use Rattle.poly_rows.specs.declared.QuotRem.{QuotRem}
 use Rattle.poly_rows.proofs.Leaf as leaf
-use Rattle.poly_rows.proofs.Division.{div-pos, divided-unique}
+use Rattle.poly_rows.proofs.Division.{div-pos}
 use Rattle.demands_inner.proofs.Rows.{by-row}
 
 pub is-prime-one : {p : ℕ} (r s : Bool) → PrimeTest p r → PrimeTest p s → r ≡ s
@@ -46,21 +45,15 @@ pub from-list-one : {l r s : List ℕ} → Listed l r → Listed l s → r ≡ s
 from-list-one {l} {r} {s} h k = ext-getD 0 r s (h .size ∙ sym (k .size)) (λ i _. h .each i ∙ sym (k .each i))
 
 -- one class mod p
-pub more-one : {p s x y r r′ : ℕ} → More p s x y r → More p s x y r′ → r % p ≡ r′ % p
-more-one h k = h .law ∙ sym (k .law)
+pub add-product-one : {p s x y r r′ : ℕ} → Added p s x y r → Added p s x y r′ → r % p ≡ r′ % p
+add-product-one h k = h .law ∙ sym (k .law)
 
 -- ---- for a prime
 module _ {p : ℕ} (pr : Prime p) where
-  pub add-one : {x y r s : List ℕ} → Summed p x y r → Summed p x y s → r ≡ s
-  add-one h k = by-row (reading p pr) (h .is-row) (k .is-row) (h .law pr) (k .law pr)
-
-  pub sub-one : {x y r s : List ℕ} → Difference p x y r → Difference p x y s → r ≡ s
-  sub-one h k = by-row (reading p pr) (h .is-row) (k .is-row) (h .law pr) (k .law pr)
-
   pub minus-one : {x r s : List ℕ} → Opposite p x r → Opposite p x s → r ≡ s
   minus-one h k = by-row (reading p pr) (h .is-row) (k .is-row) (h .law pr) (k .law pr)
 
-  pub cross-one : {a : ℕ} {x : List ℕ} {c k : ℕ} {y r s : List ℕ} → Crossed p a x c k y r → Crossed p a x c k y s → r ≡ s
+  cross-one : {a : ℕ} {x : List ℕ} {c k : ℕ} {y r s : List ℕ} → Crossed p a x c k y r → Crossed p a x c k y s → r ≡ s
   cross-one h k = by-row (reading p pr) (h .is-row) (k .is-row) (h .law pr) (k .law pr)
 
   pub scale-in-one : {c : ℕ} {x : List ℕ} {n : ℕ} {r s : List ℕ} → ScaleOut p c x n r → ScaleOut p c x n s → r ≡ s
@@ -86,11 +79,6 @@ module _ {p : ℕ} (pr : Prime p) where
       let d = size-has-at ρ m (h .hb) s (div-pos p a b il m h s) in
       let (x, y) = division-unique ρ (row ρ a) (row ρ b) (row ρ q) (left a b q) (row ρ q′) (left a b q′) (m - 1) d (row-poly ρ q) (row-poly ρ q′) (back a b q) (back a b q′) (g .law pr (m - 1) d) (f .law pr (m - 1) d) in
       row-unique ρ (g .is-row) (f .is-row) x
-
-  pub divide-one : {a b : List ℕ} {il : ℕ} (d d′ : QuotRem) → DivIn p a b il → Divided p a b (d .q) (d .r) → Divided p a b (d′ .q) (d′ .r) → d ≡ d′
-  divide-one {a} {b} {il} d d′ h g f =
-      let (x, y) = divided-unique p pr a b il (d .q) (d .r) (d′ .q) (d′ .r) h g f in
-      λ i. record { q = x i; r = y i }
 
 -- ---- tests
 pub squarefree-one : {p : ℕ} {x : List ℕ} (r s : Bool) → Over p x → SquareTest p x r → SquareTest p x s → r ≡ s

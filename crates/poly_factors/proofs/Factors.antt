@@ -16,7 +16,6 @@ use Rattle.math_valued.proofs.Polynomial.{P-path, const-unit}
 use Rattle.math_valued.proofs.Coprime.{coprime-unit, common-nonconst, zero-square, zero-common, zero-divides}
 use Rattle.num_mod.specs.Prepared.{Prepared, PreparedOf}
 use Rattle.num_mod.specs.declared.Modulus.{Modulus}
-use Rattle.num_mod.proofs.Prepared.{bare}
 use Rattle.math_rows.specs.Made.{reading, derivation}
 use Rattle.math_rows.specs.Row.{tab, Row, Size, row}
 use Rattle.math_rows.proofs.Tab.{Begun, begun-end, tab-row}
@@ -29,7 +28,7 @@ use Rattle.math_turns.proofs.Euclid.{Span, span-start, span-swap, span-turn, sp
 use Rattle.poly_rows.specs.Leaf.{Cut, Given, CrossBy, Crossed}
 use Rattle.poly_rows.specs.Polynomial.{polynomial}
 use Rattle.poly_factors.specs.Factors.{Derived, CommonIn, Common, SquareTest, CoprimeTest}
-use Rattle.poly_rows.proofs.Leaf.{size-one, cross-by}
+use Rattle.poly_rows.proofs.Leaf.{cross-by}
 
 -- ---- the derivative
 pub derived : (p : ℕ) (x : List ℕ) (n i : ℕ) (r : List ℕ) → Given p x → Size x n → n ≤ i + 1 → Begun 32 (λ j. ((j + 1) * getD x (j + 1) 0) % p) r i → Derived p x r
@@ -84,15 +83,8 @@ module _ {p : ℕ} {a b x y : List ℕ} {n m : ℕ} (i : Euclid p a b x y n m) (
 pub euclid-room : {q : Modulus} {a b x y : List ℕ} {n m : ℕ} → Euclid (q .p) a b x y n m → 0 < m → m ≤ n → Prepared q → CrossBy q (getD y (m - 1) 0) x (getD x (n - 1) 0) (n - m) y n
 euclid-room {q} {x = x} {n = n} {m = m} i pos le h =
     let r = room i pos le in
-    cross-by n
-    (record {
-      modulus = bare h;
-      hs = i .hy .each (m - 1);
-      hx = i .hx;
-      hc = (let l : getD x (n - 1) 0 < q .p = i .hx .each (n - 1) in omega arith);
-      hy = i .hy;
-      room = λ k s. let e : k ≡ m = size-one s (i .sy) in omega (arith, r .0, r .1);
-    }) h (i .sx) (i .sy) (omega arith) (r .0) (r .1)
+    let l : getD x (n - 1) 0 < q .p = i .hx .each (n - 1) in
+    cross-by n h (i .hy .each (m - 1)) (omega arith) (i .hx) (i .hy) (i .sx) (i .sy) (omega arith) (r .0) (r .1)
 
 pub euclid-end : (p : ℕ) (a b x y : List ℕ) (n m : ℕ) → Euclid p a b x y n m → m ≤ 0 → Common p a b x
 euclid-end p a b x y n m i z = record {
@@ -122,15 +114,16 @@ common-of {x = x} {y = y} {r = r} e h = subst (λ k. Common k x y r) (e .is) h
 
 -- ---- the tests
 module _ (p : ℕ) (pr : Prime p) (g : List ℕ) (hg : Row p g) where
-  unit-one : Size g 1 → IsUnit (reading p pr .𝓥) (polynomial p pr g)
-  unit-one s = const-unit (reading p pr .𝓥) (polynomial p pr g) (size-has (reading p pr) hg s)
+  -- a row of length 1 is a unit
+  pub size-unit : Size g 1 → IsUnit (reading p pr .𝓥) (polynomial p pr g)
+  size-unit s = const-unit (reading p pr .𝓥) (polynomial p pr g) (size-has (reading p pr) hg s)
 
   more-two : (n : ℕ) → Size g (suc (suc n)) → Nonconstant (reading p pr .𝓥) (polynomial p pr g)
   more-two n s = (n, size-has (reading p pr) hg s)
 
 module _ (p : ℕ) (x y g : List ℕ) (c : Common p x y g) where
   pub coprime-yes : {n : ℕ} → Size g n → n ≡ 1 → CoprimeTest p x y true
-  coprime-yes s e pr = coprime-unit (reading p pr .𝓥) (c .law pr) (unit-one p pr g (c .is-row) (subst (λ j. Size g j) e s))
+  coprime-yes s e pr = coprime-unit (reading p pr .𝓥) (c .law pr) (size-unit p pr g (c .is-row) (subst (λ j. Size g j) e s))
 
   pub coprime-no : (n : ℕ) → Size g n → n ≢ 1 → CoprimeTest p x y false
   coprime-no zero s f pr =
@@ -147,7 +140,7 @@ module _ (p : ℕ) (x d g : List ℕ) (h : Derived p x d) (c : Common p x d g) w
       subst (λ u. IsGcd 𝓥 (polynomial p pr x) u (polynomial p pr g)) (P-path 𝓥 {a = polynomial p pr d} {b = ∂ (reading p pr) (derivation p pr) (polynomial p pr x)} (h .law pr)) (c .law pr)
 
   pub square-yes : {n : ℕ} → Size g n → n ≡ 1 → SquareTest p x true
-  square-yes s e pr = squarefree-unit (reading p pr) (derivation p pr) (polynomial p pr x) (polynomial p pr g) (with-derivative pr) (unit-one p pr g (c .is-row) (subst (λ j. Size g j) e s))
+  square-yes s e pr = squarefree-unit (reading p pr) (derivation p pr) (polynomial p pr x) (polynomial p pr g) (with-derivative pr) (size-unit p pr g (c .is-row) (subst (λ j. Size g j) e s))
 
   pub square-no : (n : ℕ) → Size g n → n ≢ 1 → SquareTest p x false
   square-no zero s f pr = let 𝓥 = reading p pr .𝓥 in zero-square 𝓥 (polynomial p pr x) (zero-divides 𝓥 (polynomial p pr g) (polynomial p pr x) (zero-row (reading p pr) g s) (c .law pr .left))

@@ -5,6 +5,8 @@
 --   times_in       TimesOut: x y (`Product` of crate poly_rows) and its length
 --   det_in         DetOut: x y − z v and its length
 --   quotient_in    QuotientOut: the quotient and its length (`Quotient` and `Exact` of crate poly_rows)
+--   less_in        LessOut: r − x y and its length
+--   divide_in      DivideOut: quotient and remainder (`Divided` of crate poly_rows) and their lengths
 use mathlib.Core.Path.{_≡_}
 use mathlib.Core.Bool.{Bool, true, false}
 use mathlib.Core.List.{List}
@@ -20,7 +22,7 @@ use Rattle.math_rows.specs.Row.{Row, Size, row}
 use Rattle.poly_rows.specs.Leaf.{Cut, Product}
 use Rattle.num_mod.specs.Prepared.{Prepared}
 use Rattle.num_mod.specs.declared.Modulus.{Modulus}
-use Rattle.poly_rows.specs.Division.{DivIn, Quotient, Exact}
+use Rattle.poly_rows.specs.Division.{DivIn, Quotient, Exact, Divided}
 
 abbrev pub signOf : {A : Type 0} → Ops A → Bool → A → A
 signOf o true z = o .neg z
@@ -106,3 +108,14 @@ pub record QuotientOut (p : ℕ) (a b o : List ℕ) (l : ℕ) : Type 0 where
   pub quotient : Quotient p a b o
   pub exact : Exact p a b o
   pub size : Size o l
+
+pub record LessOut (p : ℕ) (x y r o : List ℕ) (l : ℕ) : Type 0 where
+  pub is-row : Row p o
+  pub law : (pr : Prime p) → let ρ = reading p pr in let k = ρ .𝓥 .L .ops in
+      row ρ o ≡ k .add (row ρ r) (k .neg (k .mul (row ρ x) (row ρ y)))
+  pub size : Size o l
+
+pub record DivideOut (p : ℕ) (a b q r : List ℕ) (l k : ℕ) : Type 0 where
+  pub divided : Divided p a b q r
+  pub sq : Size q l
+  pub sr : Size r k

@@ -5,10 +5,11 @@ use num_mod::add_product;
 use num_mod::reduce;
 use num_mod::reduce_once;
 use poly_rows::quotient_coefficient;
+use poly_rows::size;
 use poly_rows::size_from;
 ghost use mathlib.Core.Path.{_≡_};
 ghost use Rattle.poly_lent.specs.Sums.{SignIn, Signed, LayIn, Laid, GatherIn, Gathered, SettleIn, Settled, ReachIn, Reach};
-ghost use Rattle.poly_lent.specs.Sized.{MixIn, Mixed, BothIn, BothOut, TimesBy, TimesOut, DetBy, DetOut, QuotientBy, QuotientOut};
+ghost use Rattle.poly_lent.specs.Sized.{MixIn, Mixed, BothIn, BothOut, TimesBy, TimesOut, DetBy, DetOut, QuotientBy, QuotientOut, LessOut, DivideOut};
 
 // v, or - v mod p
 fn signed(p: u64, minus: bool, v: u64) -> u64
@@ -176,4 +177,44 @@ pub fn quotient_in(
         r[k] = v;
     }
     size_from(r, top)
+}
+
+// r - x y in place of r, and its length; n and m are the lengths of x and y.
+pub fn less_in(
+    q: Modulus,
+    x: &[u64; 32],
+    n: usize,
+    y: &[u64; 32],
+    m: usize,
+    r: &mut [u64; 32],
+) -> usize
+    requires { ⌜ MixIn q (now x) n (now y) m (now r) ⌝ }
+    ensures { λ l. ⌜ LessOut (q .p) (now (x .entry)) (now (y .entry)) (now (r .entry)) (now (r .exit)) l ⌝ }
+{
+    mix_in(q, true, x, n, y, m, r);
+    size(r)
+}
+
+// The lengths of a quotient and of a remainder.
+pub struct Halves {
+    pub q: usize,
+    pub r: usize,
+}
+
+// The quotient of a by b into the zero row r, and the remainder in place of a, with their lengths.
+pub fn divide_in(
+    q: Modulus,
+    a: &mut [u64; 32],
+    n: usize,
+    b: &[u64; 32],
+    m: usize,
+    il: u64,
+    r: &mut [u64; 32],
+) -> Halves
+    requires { ⌜ QuotientBy q (now a) n (now b) m il (now r) ⌝ }
+    ensures { λ o. ⌜ DivideOut (q .p) (now (a .entry)) (now (b .entry)) (now (r .exit)) (now (a .exit)) (o .q) (o .r) ⌝ }
+{
+    let l = quotient_in(q, a, n, b, m, il, r);
+    let k = less_in(q, r, l, b, m, a);
+    Halves { q: l, r: k }
 }

@@ -21,7 +21,6 @@ use Rattle.math_rows.proofs.Floors.{sized}
 use Rattle.math_rows.proofs.Product.{sum-none, sum-skip}
 use Rattle.math_rows.proofs.Quotient.{Agree, agree-more, agree-end, exact-law, division-unique}
 use Rattle.math_rows.proofs.Unique.{row-unique}
-use Rattle.poly_rows.specs.Leaf.{Product, Difference}
 use Rattle.num_mod.specs.Prepared.{Prepared}
 use Rattle.num_mod.specs.declared.Modulus.{Modulus}
 use Rattle.poly_rows.specs.Division.{DivIn, Quotient, Exact, Divided, DigitIn, Digit}
@@ -134,18 +133,18 @@ exact-made p a b il q h g = record {
       exact-law R (row R a) (row R q) (row R b) (m - 1) d (g .law pr (m - 1) d) (row-poly R q) w hw e;
 }
 
-pub divided : (p : ℕ) (a b q s r : List ℕ) → Quotient p a b q → Product p q b s → Difference p a s r → Divided p a b q r
-divided p a b q s r g f d = record {
+-- what is left over where q b is taken off
+pub divided : (p : ℕ) (a b q r : List ℕ) → Quotient p a b q → Row p r
+    → ((pr : Prime p) → let ρ = reading p pr in let o = ρ .𝓥 .L .ops in row ρ r ≡ o .add (row ρ a) (o .neg (o .mul (row ρ q) (row ρ b)))) → Divided p a b q r
+divided p a b q r g h d = record {
   q-row = g .is-row;
-  r-row = d .is-row;
-  law = λ pr. let R = reading p pr in let L = R .𝓥 .L in
-      solve L (var 0) (var 1 :+ (var 0 :+ minus (var 1))) tt (row R a ∷ row R s ∷ [])
-      ∙ ap (λ x. L .ops .add (row R s) x) (sym (d .law pr)) ∙ ap (λ x. L .ops .add x (row R r)) (f .law pr);
-  low = λ pr n hn. let R = reading p pr in let L = R .𝓥 .L in
-      lt-eq (R .𝓥) (g .law pr n hn) (ap (λ x. L .ops .add (row R a) (L .ops .neg x)) (sym (f .law pr)) ∙ sym (d .law pr));
+  r-row = h;
+  law = λ pr. let R = reading p pr in let L = R .𝓥 .L in let s = L .ops .mul (row R q) (row R b) in
+      solve L (var 0) (var 1 :+ (var 0 :+ minus (var 1))) tt (row R a ∷ s ∷ []) ∙ ap (λ x. L .ops .add s x) (sym (d pr));
+  low = λ pr n hn. lt-eq (reading p pr .𝓥) (g .law pr n hn) (sym (d pr));
 }
 
--- two answers of `divide` are one
+-- there is one such pair
 pub divided-unique : (p : ℕ) (pr : Prime p) (a b : List ℕ) (il : ℕ) (q r q′ r′ : List ℕ) → DivIn p a b il → Divided p a b q r → Divided p a b q′ r′ → (q ≡ q′) × (r ≡ r′)
 divided-unique p pr a b il q r q′ r′ h d e =
     let R = reading p pr in

@@ -12,9 +12,9 @@ use Rattle.num_mod.proofs.Quick.{small-mul}
 use Rattle.math_rows.specs.Made.{reading}
 use Rattle.math_rows.specs.Row.{tab, Row, Size, row, coefs, shiftAt}
 use Rattle.math_rows.proofs.Tab.{zeros-at, tab-row, crossAt, cross-row, Filled, filled-start, filled-more, Begun, begun-end, shift-high, shift-small}
-use Rattle.math_rows.proofs.Rows.{add-law, sub-law, scale-law, cross-law, row-32, row-upto, psum-ext}
+use Rattle.math_rows.proofs.Rows.{sub-law, scale-law, cross-law, row-32, row-upto, psum-ext}
 use Rattle.math_rows.proofs.Floors.{zero-row, sized}
-use Rattle.poly_rows.specs.Leaf.{Both, Summed, Difference, Opposite, Short, ScaleBy, ScaleOut, CrossIn, CrossBy, CrossOut, Listed}
+use Rattle.poly_rows.specs.Leaf.{Given, Opposite, Short, ScaleBy, ScaleOut, CrossBy, CrossOut, Listed}
 use Rattle.num_mod.specs.Prepared.{Prepared}
 use Rattle.num_mod.specs.declared.Modulus.{Modulus}
 
@@ -28,24 +28,17 @@ zeros-size = record { fits = omega arith; above = λ i l. zeros-at 32 i; top = �
 mod-row : (p : ℕ) (f : ℕ → ℕ) {r : List ℕ} → 1 < p → r ≡ tab 32 (λ i. f i % p) → Row p r
 mod-row p f b e = subst (λ u. Row p u) (sym e) (tab-row p (λ i. f i % p) (omega arith) (λ i. mod-lt (f i) (omega arith)))
 
-pub summed : (p : ℕ) (x y r : List ℕ) → Both p x y → r ≡ tab 32 (λ i. (getD x i 0 + getD y i 0) % p) → Summed p x y r
-summed p x y r h e = record {
-  is-row = mod-row p (λ i. getD x i 0 + getD y i 0) (h .modulus .big) e;
-  law = λ pr. ap (row (reading p pr)) e ∙ add-law (reading p pr) x y (h .hx .size) (h .hy .size);
+pub opposite : (p : ℕ) (x r : List ℕ) → Given p x → r ≡ tab 32 (λ i. (p - getD x i 0) % p) → Opposite p x r
+opposite p x r h e = record {
+  is-row = mod-row p (λ i. p - getD x i 0) (h .modulus .big) e;
+  law = λ pr. let ρ = reading p pr in let R = ρ .𝓥 .L in
+      ap (row ρ) (e ∙ (λ t. tab 32 (λ i. from-zero i t % p)))
+      ∙ sub-law ρ (replicate 32 0) x refl (h .hx)
+      ∙ ap (λ a. R .ops .add a (R .ops .neg (row ρ x))) (zero-row ρ (replicate 32 0) zeros-size) ∙ laws.zero-add′ R (R .ops .neg (row ρ x));
 }
-
-pub difference : (p : ℕ) (x y r : List ℕ) → Both p x y → r ≡ tab 32 (λ i. (getD x i 0 + (p - getD y i 0)) % p) → Difference p x y r
-difference p x y r h e = record {
-  is-row = mod-row p (λ i. getD x i 0 + (p - getD y i 0)) (h .modulus .big) e;
-  law = λ pr. ap (row (reading p pr)) e ∙ sub-law (reading p pr) x y (h .hx .size) (h .hy);
-}
-
-pub opposite : (p : ℕ) (x r : List ℕ) → Difference p (replicate 32 0) x r → Opposite p x r
-opposite p x r h = record {
-  is-row = h .is-row;
-  law = λ pr. let R = reading p pr .𝓥 .L in
-      h .law pr ∙ ap (λ a. R .ops .add a (R .ops .neg (row (reading p pr) x))) (zero-row (reading p pr) (replicate 32 0) zeros-size) ∙ laws.zero-add′ R (R .ops .neg (row (reading p pr) x));
-}
+  where
+    from-zero : (i : ℕ) → p - getD x i 0 ≡ getD (replicate 32 0) i 0 + (p - getD x i 0)
+    from-zero i = let q : _≡_ {A = ℕ} (getD (replicate 32 0) i 0) 0 = zeros-at 32 i in omega arith
 
 -- ---- a loop that turns a row in place, from the front: the rest is as it was
 pub record Swept (n : ℕ) (f : ℕ → ℕ) (r₀ r : List ℕ) (i : ℕ) : Type 0 where
@@ -104,18 +97,18 @@ crossed {q} {s} {x} {c} {k} {y} {n} {i} {r} h l w =
     none j u =
         ap₂ (λ a z. (s * a + (q .p - c) * z) % q .p) (h .hx .above j u) (h .above j u) ∙ ap (λ z. z % q .p) (let o : s * 0 + (q .p - c) * 0 ≡ 0 = omega (arith, mul-zero s, mul-zero (q .p - c)) in o) ∙ zero-mod (q .p)
 
--- ---- what the functions that hand out a row of their own ask of those
+-- ---- what `cross_in` asks, by lengths
 size-short : {p : ℕ} {x : List ℕ} {n : ℕ} (m : ℕ) → Row p x → Size x n → n ≤ m → Short p x m
 size-short m h s l = record { is-row = h; above = λ i u. s .above i (omega arith) }
 
-pub cross-by : {q : Modulus} {s : ℕ} {x : List ℕ} {c k : ℕ} {y : List ℕ} {n m : ℕ} (top : ℕ) → CrossIn (q .p) s x c k y → Prepared q → Size x n → Size y m → n ≤ top → m + k ≤ top → top ≤ 32
-    → CrossBy q s x c k y top
-cross-by {k = k} {y = y} {n = n} {m = m} top h q sx sy u v w = record {
-  modulus = q;
-  hs = h .hs;
-  hx = size-short top (h .hx) sx u;
-  hc = h .hc;
-  hy = h .hy;
+pub cross-by : {q : Modulus} {s : ℕ} {x : List ℕ} {c k : ℕ} {y : List ℕ} {n m : ℕ} (top : ℕ) → Prepared q → s < q .p → c ≤ q .p → Row (q .p) x → Row (q .p) y → Size x n → Size y m
+    → n ≤ top → m + k ≤ top → top ≤ 32 → CrossBy q s x c k y top
+cross-by {k = k} {y = y} {n = n} {m = m} top h hs hc hx hy sx sy u v w = record {
+  modulus = h;
+  hs = hs;
+  hx = size-short top hx sx u;
+  hc = hc;
+  hy = hy;
   fits = w;
   low = omega arith;
   above = λ i l. shift-high y k i (omega arith) ∙ sy .above (i - k) (omega arith);

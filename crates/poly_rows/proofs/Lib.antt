@@ -1,3 +1,4 @@
 pub mod Leaf
 pub mod Coefficients
 pub mod Division
+pub mod Lengths

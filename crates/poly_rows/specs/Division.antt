@@ -1,7 +1,9 @@
 -- Division of rows. il is the inverse of the leading coefficient of b, so that b is not 0.
---   quotient   Quotient: q, with a − q b of lower degree than b
+--   Inverts    il is that inverse
+--   Quotient   q, with a − q b of lower degree than b
 --   Exact      the polynomial w with b w = a, if there is one: a quotient is it (`exact-made` in proofs/Division.antt)
---   divide     Divided: a = q b + r, with r of lower degree than b; there is one such pair: `divided-unique` in proofs/Division.antt
+--   Divided    a = q b + r, with r of lower degree than b; there is one such pair: `divided-unique` in proofs/Division.antt
+--   digit      Digit: one coefficient of a quotient
 use mathlib.Core.Path.{_≡_}
 use mathlib.Core.List.{List}
 use Prim.Native.Nat.{ℕ, _+_, _-_, _*_, _%_, _<_, _≤_}
@@ -14,6 +16,10 @@ use Rattle.math_rows.specs.Row.{Row, Size, row}
 use Rattle.math_rows.specs.Sum.{sumTo, termAt}
 use Rattle.num_mod.specs.Prepared.{Prepared}
 use Rattle.num_mod.specs.declared.Modulus.{Modulus}
+
+pub record Inverts (p : ℕ) (b : List ℕ) (il : ℕ) : Type 0 where
+  pub below : il < p
+  pub law : (n : ℕ) → Size b n → (il * getD b (n - 1) 0) % p ≡ 1
 
 pub record DivIn (p : ℕ) (a b : List ℕ) (il : ℕ) : Type 0 where
   pub modulus : IsModulus p

@@ -1,11 +1,10 @@
 -- What the functions on rows ask and hand out. A row of 32 numbers below p stands for the polynomial `row` (crate math_rows); the laws
 -- hold for every prime p, the rows are rows for every modulus.
 --   size, size_from   the trimmed length: `Size` of crate math_rows
---   add, sub, minus   Summed, Difference, Opposite: x + y, x − y, − x
---   cross             Crossed: s x − c t^k y
+--   minus             Opposite: − x
 --   scale_in          ScaleOut: c x in place of x, which is Short: 0 from n on, before and after
 --   cross_in          CrossOut: s x − c t^k y in place of x, Short too
---   mul               Product: x y
+--   mul               Product: x y, where the product Fits into a row
 --   from_list         Listed: the polynomial of a list
 use mathlib.Core.Path.{_≡_}
 use mathlib.Core.List.{List}
@@ -35,19 +34,6 @@ pub record Given (p : ℕ) (x : List ℕ) : Type 0 where
   pub modulus : IsModulus p
   pub hx : Row p x
 
-pub record Both (p : ℕ) (x y : List ℕ) : Type 0 where
-  pub modulus : IsModulus p
-  pub hx : Row p x
-  pub hy : Row p y
-
-pub record Summed (p : ℕ) (x y r : List ℕ) : Type 0 where
-  pub is-row : Row p r
-  pub law : (pr : Prime p) → let ρ = reading p pr in row ρ r ≡ ρ .𝓥 .L .ops .add (row ρ x) (row ρ y)
-
-pub record Difference (p : ℕ) (x y r : List ℕ) : Type 0 where
-  pub is-row : Row p r
-  pub law : (pr : Prime p) → let ρ = reading p pr in row ρ r ≡ ρ .𝓥 .L .ops .add (row ρ x) (ρ .𝓥 .L .ops .neg (row ρ y))
-
 pub record Opposite (p : ℕ) (x r : List ℕ) : Type 0 where
   pub is-row : Row p r
   pub law : (pr : Prime p) → let ρ = reading p pr in row ρ r ≡ ρ .𝓥 .L .ops .neg (row ρ x)
@@ -67,14 +53,6 @@ pub record ScaleOut (p c : ℕ) (x : List ℕ) (n : ℕ) (r : List ℕ) : Type 0
   pub scaled : Scaled p c x r
 
 -- ---- s x − c t^k y
-pub record CrossIn (p s : ℕ) (x : List ℕ) (c k : ℕ) (y : List ℕ) : Type 0 where
-  pub modulus : IsModulus p
-  pub hs : s < p
-  pub hx : Row p x
-  pub hc : c ≤ p
-  pub hy : Row p y
-  pub room : (m : ℕ) → Size y m → m + k ≤ 32
-
 pub record Crossed (p s : ℕ) (x : List ℕ) (c k : ℕ) (y r : List ℕ) : Type 0 where
   pub is-row : Row p r
   pub law : (pr : Prime p) → let ρ = reading p pr in row ρ r ≡ comb ρ (ρ .cast s) (ρ .cast c) k (row ρ x) (row ρ y)
@@ -94,11 +72,14 @@ pub record CrossOut (p s : ℕ) (x : List ℕ) (c k : ℕ) (y : List ℕ) (n : �
   pub crossed : Crossed p s x c k y r
 
 -- ---- products
+abbrev pub Fits : List ℕ → List ℕ → Type 0
+Fits x y = (n m : ℕ) → Size x n → Size y m → n + m ≤ 33
+
 pub record MulIn (p : ℕ) (x y : List ℕ) : Type 0 where
   pub modulus : IsModulus p
   pub hx : Row p x
   pub hy : Row p y
-  pub room : (n m : ℕ) → Size x n → Size y m → n + m ≤ 33
+  pub room : Fits x y
 
 pub record Product (p : ℕ) (x y r : List ℕ) : Type 0 where
   pub is-row : Row p r

@@ -10,10 +10,10 @@ ghost use mathlib.Core.Path.{_≡_};
 ghost use Prim.Native.Nat.{_+_, _*_, _-_, _%_, _<_, _≤_};
 ghost use lib.ListN.{length};
 ghost use Rattle.math_rows.specs.Row.{Size, shiftAt};
-ghost use Rattle.poly_rows.specs.Leaf.{Cut, Given, Both, Summed, Difference, Opposite, ScaleBy, ScaleOut};
-ghost use Rattle.poly_rows.specs.Leaf.{CrossIn, Crossed, CrossBy, CrossOut, MulIn, Product, Listed};
+ghost use Rattle.poly_rows.specs.Leaf.{Cut, Given, Opposite, ScaleBy, ScaleOut};
+ghost use Rattle.poly_rows.specs.Leaf.{CrossBy, CrossOut, MulIn, Product, Listed};
 ghost use Rattle.poly_rows.specs.Coefficients.{PartIn, Part, PlaceIn};
-ghost use Rattle.poly_rows.specs.Division.{DivIn, Quotient, Divided, DigitIn, Digit};
+ghost use Rattle.poly_rows.specs.Division.{DigitIn, Digit};
 ghost use Rattle.math_rows.specs.Sum.{sumTo, termAt};
 
 type Row = [u64; 32];
@@ -41,39 +41,18 @@ pub fn size(x: &Row) -> usize
     size_from(x, 32)
 }
 
-pub fn add(p: u64, x: &Row, y: &Row) -> Row
-    requires { ⌜ Both p (now x) (now y) ⌝ }
-    ensures { λ r. ⌜ Summed p (now (x .entry)) (now (y .entry)) r ⌝ }
-{
-    let mut r: Row = [0; 32];
-    let mut i: usize = 0;
-    while i < 32 {
-        r[i] = reduce_once(p, x[i] + y[i]);
-        i += 1;
-    }
-    r
-}
-
-pub fn sub(p: u64, x: &Row, y: &Row) -> Row
-    requires { ⌜ Both p (now x) (now y) ⌝ }
-    ensures { λ r. ⌜ Difference p (now (x .entry)) (now (y .entry)) r ⌝ }
-{
-    let mut r: Row = [0; 32];
-    let mut i: usize = 0;
-    while i < 32 {
-        r[i] = reduce_once(p, x[i] + (p - y[i]));
-        i += 1;
-    }
-    r
-}
-
-// 0 - x
+// - x
 pub fn minus(p: u64, x: &Row) -> Row
     requires { ⌜ Given p (now x) ⌝ }
     ensures { λ r. ⌜ Opposite p (now (x .entry)) r ⌝ }
 {
-    let z: Row = [0; 32];
-    sub(p, &z, x)
+    let mut r: Row = [0; 32];
+    let mut i: usize = 0;
+    while i < 32 {
+        r[i] = reduce_once(p, p - x[i]);
+        i += 1;
+    }
+    r
 }
 
 // c x in place of x, which ends before n.
@@ -110,20 +89,6 @@ pub fn cross_in(q: Modulus, s: u64, x: &mut Row, c: u64, k: usize, y: &Row, n: u
         x[i] = a;
         i += 1;
     }
-}
-
-// The same as a row of its own, where t^k y fits.
-pub fn cross(p: u64, s: u64, x: &Row, c: u64, k: usize, y: &Row) -> Row
-    requires { ⌜ CrossIn p s (now x) c k (now y) ⌝ }
-    ensures { λ r. ⌜ Crossed p s (now (x .entry)) c k (now (y .entry)) r ⌝ }
-{
-    let q = prepare(p);
-    let n = size(x);
-    let m = size(y) + k;
-    let top = if n < m { m } else { n };
-    let mut r = *x;
-    cross_in(q, s, &mut r, c, k, y, top);
-    r
 }
 
 // The terms from .. to - 1 of coefficient k of x y, up to a multiple of p.
@@ -219,39 +184,4 @@ pub fn quotient_coefficient(
     let u = terms(s.p, q, b, k + 1, to, at);
     let v = reduce(s, u);
     reduce(s, (a[at] + (s.p - v)) * il)
-}
-
-// The quotient of a by b from the top, one coefficient a turn; il is the inverse of b's leading coefficient.
-fn quotient(p: u64, a: &Row, b: &Row, il: u64) -> Row
-    requires { ⌜ DivIn p (now a) (now b) il ⌝ }
-    ensures { λ q. ⌜ Quotient p (now (a .entry)) (now (b .entry)) q ⌝ }
-{
-    let s = prepare(p);
-    let n = size(a);
-    let m = size(b);
-    let top = if n < m { 0 } else { n + 1 - m };
-    let mut q: Row = [0; 32];
-    let mut k = top;
-    while k > 0 {
-        k -= 1;
-        let v = quotient_coefficient(s, a, &q, b, m, il, top, k);
-        q[k] = v;
-    }
-    q
-}
-
-// a = q b + r
-pub struct QuotRem {
-    pub q: Row,
-    pub r: Row,
-}
-
-pub fn divide(p: u64, a: &Row, b: &Row, il: u64) -> QuotRem
-    requires { ⌜ DivIn p (now a) (now b) il ⌝ }
-    ensures { λ d. ⌜ Divided p (now (a .entry)) (now (b .entry)) (d .q) (d .r) ⌝ }
-{
-    let q = quotient(p, a, b, il);
-    let s = mul(p, &q, b);
-    let r = sub(p, a, &s);
-    QuotRem { q, r }
 }

@@ -2,19 +2,19 @@
 --   narrow   an element whose X is at most deg X(M) + j, and whose Y, Z lie below deg U + j, has coordinates of degrees below j, at most j,
 --            below j
 --   r-narrow w-narrow   so it is for r M with j = deg r, and for w M with j = deg w
-use mathlib.Core.Path.{_≡_, refl, sym, ap, _∙_}
+use mathlib.Core.Path.{_≡_, sym, ap, _∙_}
 use mathlib.Core.List.{List, [], _∷_}
-use Prim.Native.Nat.{ℕ, suc, _≤_, _<_, _+_ as _+ⁿ_}
+use Prim.Native.Nat.{ℕ, suc, _≤_, _+_ as _+ⁿ_}
 use native.Mathlib.Omega.{arith}
 use Rattle.math_ring.specs.Ring.{Ops}
-use Rattle.math_ring.proofs.Solve.{Expr, var, hyp, one, zer, minus, _:+_, _:*_, solve, solve-by}
+use Rattle.math_ring.proofs.Solve.{Expr, var, hyp, one, minus, _:+_, _:*_, solve, solve-by}
 use Rattle.math_valued.specs.Val.{Valued}
 use Rattle.math_valued.specs.Degree.{Has, Lt}
 use Rattle.math_valued.proofs.Degree as d
 use Rattle.math_valued.proofs.Compare.{lt-scale, lt-unscale, lt-mul-sharp}
 use Rattle.math_ideals.specs.Setting.{Setting, P}
 use Rattle.math_ideals.specs.Element.{O, X, Y, Z}
-use Rattle.math_ideals.specs.Ideal.{Basis, lin, det}
+use Rattle.math_ideals.specs.Ideal.{Basis, lin}
 use Rattle.math_ideals.specs.Basis.{Good}
 use Rattle.math_ideals.proofs.Sizes.{X-lin, Y-lin, Z-lin}
 use Rattle.math_ideals.proofs.Values.{w-w}

@@ -1,5 +1,5 @@
 -- What `divided` asks of its calls, and what it hands out.
---   measured, turn-in  the rows, measured
+--   turn-in            the rows, measured
 --   x-in, turned-r     r m: its coordinates are asked for, and come back
 --   y-in, turned-w     w m
 --   take-in, divided   the four that lose their common factor, and the generators
@@ -8,10 +8,9 @@ use mathlib.Core.List.{List, [], _∷_}
 use Prim.Native.Nat.{ℕ, suc, _+_, _≤_}
 use native.Mathlib.Omega.{arith}
 use lib.ListN.{replicate}
-use Rattle.math_ring.specs.Ring.{Ops, CRing}
+use Rattle.math_ring.specs.Ring.{CRing}
 use Rattle.math_ring.proofs.Solve.{var, minus, one, hyp, _:+_, _:*_, solve, solve-by}
 use Rattle.math_fp.specs.Fp.{Prime}
-use Rattle.math_valued.specs.Val.{Valued}
 use Rattle.math_valued.specs.Degree.{Lt}
 use Rattle.math_valued.specs.Polynomial.{polys, Poly, Divides}
 use Rattle.math_valued.proofs.Degree as d
@@ -31,17 +30,18 @@ use Rattle.math_chain.proofs.Parts.{Parts, parts, Cut, base, base-d}
 use Rattle.math_chain.proofs.Room.{d-not-zero}
 use Rattle.field_open.specs.Refusal.{Accepted}
 use Rattle.basis_record.specs.Record.{setting, polyOf}
-use Rattle.step_divide.specs.Rows.{Seven, rowsOf, Holds}
-use Rattle.step_divide.specs.Quotients.{Three, Det, CoordsIn}
-use Rattle.step_divide.specs.Known.{Blank, CoordsOut}
-use Rattle.step_divide.specs.Common.{Negated, four, fourDet, CutIn, TakeIn, Taken}
-use Rattle.step_divide.specs.Turns.{Found, Measured, TurnIn, TurnedR, TurnedW}
+use Rattle.poly_rows.proofs.Lengths.{fits-of}
+use Rattle.poly_lent.specs.Sized.{TimesOut}
+use Rattle.poly_content.specs.Common.{four, fourDet, CutIn, TakeIn, Taken}
+use Rattle.basis_record.specs.Seven.{Seven, rowsOf, Holds, Three, Blank}
+use Rattle.basis_lattice.specs.Coordinates.{Found, CoordsIn, Coordinates}
+use Rattle.basis_lattice.specs.declared.Spans.{Spans}
+use Rattle.basis_lattice.specs.declared.Lengths.{Lengths}
+use Rattle.step_divide.specs.Turns.{TurnIn, TurnedR, TurnedW, Negated}
 use Rattle.step_divide.specs.Generated.{GeneratorsIn, Generators, generators, Generated, Divided}
-use Rattle.step_divide.specs.declared.Spans.{Spans}
-use Rattle.step_divide.specs.declared.Lengths.{Lengths}
 use Rattle.step_divide.specs.declared.Cuts.{Cuts}
 use Rattle.step_divide.proofs.Coordinates.{Narrow, r-narrow, w-narrow}
-use Rattle.step_divide.proofs.Products.{Sizes, sizes, modulus, fits-of, g-lt, h-lt, by-e, by-u, quot-r, quot-w}
+use Rattle.step_divide.proofs.Products.{Sizes, sizes, modulus, g-lt, h-lt, by-e, by-u, quot-r, quot-w}
 
 abbrev of : ℕ → ℕ → ℕ → Modulus
 of p mul lim = record { p = p; m = mul; lim = lim }
@@ -65,100 +65,111 @@ module _ {p cap : ℕ} {g h gh : List ℕ} {ie : ℕ} {b : Seven} (i : Generator
   w-near : Narrow (setting (i .σ)) (rowsOf (i .σ) b) (small (setting (i .σ)) (rowsOf (i .σ) b) (i .good)) (setting (i .σ) .dw) (k .of-w .α) (k .of-w .β) (k .of-w .γ)
   w-near = w-narrow (setting (i .σ)) (rowsOf (i .σ) b) (small (setting (i .σ)) (rowsOf (i .σ) b) (i .good)) (i .good) (k .of-w)
 
-  pub measured : {lg lh : ℕ} {e : List ℕ} {l : Lengths} → Size g lg → Size h lh → Size gh cap → Found p cap lg lh ie b e l → Measured p g h gh ie b e l
-  measured a c t f = record {
-    seven = f .seven;
-    sg = subst (Size g) (sym (f .g-is)) a;
-    sh = subst (Size h) (sym (f .h-is)) c;
-    sgh = subst (Size gh) (sym (f .gh-is)) t;
-    det = f .det;
-    se = f .se;
-    ie-is = f .ie-is;
-  }
-
-  pub turn-in : {mul lim : ℕ} {e : List ℕ} {l : Lengths} {o : Three} → Prepared (of p mul lim) → Measured p g h gh ie b e l → Blank o → TurnIn (of p mul lim) g h gh b l e o
-  turn-in r m k = record {
-    cap = cap;
-    inp = subst (λ j. GeneratorsIn p cap g h gh j b) (sym (m .ie-is)) i;
-    modulus = r;
-    known = record { seven = m .seven; sg = m .sg; sh = m .sh; sgh = m .sgh; det = m .det; se = m .se; ie-is = refl };
-    blank = k;
-  }
+  pub turn-in : {mul lim lk : ℕ} {e : List ℕ} {l : Lengths} {o : Three} → Prepared (of p mul lim) → Size gh lk → Found p b e l → Blank o → TurnIn (of p mul lim) g h gh lk b l e ie o
+  turn-in r s f k = record { cap = cap; inp = i; modulus = r; sk = s; found = f; blank = k }
 
   -- ---- r m
-  module _ {e xx zz : List ℕ} (de : Det p (b .m1) (b .n2) (b .m2) (b .n1) e) (hx : Product p (b .m2) gh xx) (hz : Product p (b .m1) h zz) where
-    z-lt : Lt (ρ .𝓥) (row ρ zz) (suc (setting (i .σ) .dr + setting (i .σ) .dr))
-    z-lt = d.lt-eq (ρ .𝓥) (d.lt-up (ρ .𝓥) (suc (setting (i .σ) .dr + setting (i .σ) .dr)) (lt-mul-sharp (ρ .𝓥) (z .m1) (h-lt i)) (omega (arith, z .two-r))) (sym (hz .law (i .σ .prime)))
+  module _ {e : List ℕ} {l : Lengths} (f : Found p b e l) {xx zz : List ℕ} {nx nz : ℕ} (tx : TimesOut p (b .m2) gh xx nx) (tz : TimesOut p (b .m1) h zz nz) where
+    abbrev hx : Product p (b .m2) gh xx
+    hx = tx .product
 
-    pub x-in : CoordsIn p xx (b .m0) zz b e ie
-    x-in = record {
-      modulus = modulus i;
-      ha = hx .is-row;
-      hb = i .rows .m0;
-      hc = hz .is-row;
-      rows = i .rows;
-      he = de .is-row;
-      by-e = by-e i de;
-      by-u = by-u i;
-      b-n2 = fits-of ρ (suc n) (setting (i .σ) .dr) (i .rows .m0) (i .rows .n2) (z .m0) (z .n2) (omega (arith, z .both, z .w-pos, z .all));
-      c-n1 = fits-of ρ (suc (setting (i .σ) .dr + setting (i .σ) .dr)) (setting (i .σ) .dw) (hz .is-row) (i .rows .n1) z-lt (z .n1) (omega (arith, z .both, z .w-pos, z .all));
-      c-m1 = fits-of ρ (suc (setting (i .σ) .dr + setting (i .σ) .dr)) (suc (setting (i .σ) .dw)) (hz .is-row) (i .rows .m1) z-lt (z .m1) (omega (arith, z .both, z .w-pos, z .all));
-      b-m2 = fits-of ρ (suc n) (suc (setting (i .σ) .dr)) (i .rows .m0) (i .rows .m2) (z .m0) (z .m2) (omega (arith, z .both, z .w-pos, z .all));
+    abbrev hz : Product p (b .m1) h zz
+    hz = tz .product
+
+    z-lt : Lt (ρ .𝓥) (row ρ zz) (suc (setting (i .σ) .dr + setting (i .σ) .dr))
+    z-lt = d.lt-eq (ρ .𝓥) (d.lt-up (ρ .𝓥) (suc (setting (i .σ) .dr + setting (i .σ) .dr)) (lt-mul-sharp (ρ .𝓥) (z .rows 1) (h-lt i)) (omega (arith, z .two-r))) (sym (hz .law (i .σ .prime)))
+
+    pub x-in : {mul lim : ℕ} {o : Three} → Prepared (of p mul lim) → Blank o → CoordsIn (of p mul lim) xx nx (b .m0) (l .m0) zz nz b l e ie o
+    x-in w t = record {
+      inp = record {
+        modulus = w;
+        ha = hx .is-row;
+        hb = i .rows 0;
+        hc = hz .is-row;
+        sa = tx .size;
+        sb = f .sizes 0;
+        sc = tz .size;
+        rows = i .rows;
+        sizes = f .sizes;
+        he = f .det .is-row;
+        se = f .det .size;
+        by-e = by-e i (f .det);
+        by-u = by-u i;
+        b-n2 = fits-of ρ (suc n) (setting (i .σ) .dr) (i .rows 0) (i .rows 5) (z .rows 0) (z .rows 5) (omega (arith, z .both, z .w-pos, z .all));
+        c-n1 = fits-of ρ (suc (setting (i .σ) .dr + setting (i .σ) .dr)) (setting (i .σ) .dw) (hz .is-row) (i .rows 4) z-lt (z .rows 4) (omega (arith, z .both, z .w-pos, z .all));
+        c-m1 = fits-of ρ (suc (setting (i .σ) .dr + setting (i .σ) .dr)) (suc (setting (i .σ) .dw)) (hz .is-row) (i .rows 1) z-lt (z .rows 1) (omega (arith, z .both, z .w-pos, z .all));
+        b-m2 = fits-of ρ (suc n) (suc (setting (i .σ) .dr)) (i .rows 0) (i .rows 2) (z .rows 0) (z .rows 2) (omega (arith, z .both, z .w-pos, z .all));
+      };
       prime = i .σ .prime;
       α = k .of-r .α .0;
       β = k .of-r .β .0;
       γ = k .of-r .γ .0;
-      some = quot-r (i .σ) (i .holds) b de hx hz (k .of-r);
+      some = quot-r (i .σ) (i .holds) b (f .det) hx hz (k .of-r);
       kβ = suc (setting (i .σ) .dr);
       kγ = setting (i .σ) .dr;
       β-lt = r-near .β-lt;
       γ-lt = r-near .γ-lt;
-      room-m0 = λ m s. let q : m ≤ suc n = size-le ρ (suc n) (i .rows .m0) s (z .m0) in omega (arith, z .both, z .w-pos, z .all);
-      room-n0 = λ m s. let q : m ≤ n = size-le ρ n (i .rows .n0) s (z .n0) in omega (arith, z .both, z .w-pos, z .all);
+      room-m0 = λ m s. let q : m ≤ suc n = size-le ρ (suc n) (i .rows 0) s (z .rows 0) in omega (arith, z .both, z .w-pos, z .all);
+      room-n0 = λ m s. let q : m ≤ n = size-le ρ n (i .rows 3) s (z .rows 3) in omega (arith, z .both, z .w-pos, z .all);
+      blank = t;
     }
 
-    pub turned-r : {t : Three} {o : Spans} → CoordsOut p xx (b .m0) zz b e t o → TurnedR p h gh b t o
+    pub turned-r : {t : Three} {o : Spans} → Coordinates p xx (b .m0) zz b e t o → TurnedR p h gh b t o
     turned-r {t} {o} c = record {
-      spans = record { ha = c .coords .ha; hb = c .coords .hb; hc = c .coords .hc; sa = c .sa; sb = c .sb; sc = c .sc };
-      law = λ σ holds q. let (a, b, c) = c .coords .law (σ .prime) _ _ _ (quot-r σ holds b de hx hz q) in (P-path (setting σ .𝓥) a, P-path (setting σ .𝓥) b, P-path (setting σ .𝓥) c);
+      spans = c .spans;
+      law = λ σ holds q. let (a, b, c) = c .law (σ .prime) _ _ _ (quot-r σ holds b (f .det) hx hz q) in (P-path (setting σ .𝓥) a, P-path (setting σ .𝓥) b, P-path (setting σ .𝓥) c);
     }
 
   -- ---- w m
-  module _ {e xx yy : List ℕ} (de : Det p (b .m1) (b .n2) (b .m2) (b .n1) e) (hx : Product p (b .m1) gh xx) (hy : Product p (b .m2) g yy) where
-    y-lt : Lt (ρ .𝓥) (row ρ yy) (suc (setting (i .σ) .dw + setting (i .σ) .dw))
-    y-lt = d.lt-eq (ρ .𝓥) (d.lt-up (ρ .𝓥) (suc (setting (i .σ) .dw + setting (i .σ) .dw)) (lt-mul-sharp (ρ .𝓥) (z .m2) (g-lt i)) (omega (arith, z .two-r, z .both))) (sym (hy .law (i .σ .prime)))
+  module _ {e : List ℕ} {l : Lengths} (f : Found p b e l) {xx yy : List ℕ} {nx ny : ℕ} (tx : TimesOut p (b .m1) gh xx nx) (ty : TimesOut p (b .m2) g yy ny) where
+    abbrev kx : Product p (b .m1) gh xx
+    kx = tx .product
 
-    pub y-in : CoordsIn p xx yy (b .m0) b e ie
-    y-in = record {
-      modulus = modulus i;
-      ha = hx .is-row;
-      hb = hy .is-row;
-      hc = i .rows .m0;
-      rows = i .rows;
-      he = de .is-row;
-      by-e = by-e i de;
-      by-u = by-u i;
-      b-n2 = fits-of ρ (suc (setting (i .σ) .dw + setting (i .σ) .dw)) (setting (i .σ) .dr) (hy .is-row) (i .rows .n2) y-lt (z .n2) (omega (arith, z .both, z .r-pos, z .all));
-      c-n1 = fits-of ρ (suc n) (setting (i .σ) .dw) (i .rows .m0) (i .rows .n1) (z .m0) (z .n1) (omega (arith, z .both, z .r-pos, z .all));
-      c-m1 = fits-of ρ (suc n) (suc (setting (i .σ) .dw)) (i .rows .m0) (i .rows .m1) (z .m0) (z .m1) (omega (arith, z .both, z .r-pos, z .all));
-      b-m2 = fits-of ρ (suc (setting (i .σ) .dw + setting (i .σ) .dw)) (suc (setting (i .σ) .dr)) (hy .is-row) (i .rows .m2) y-lt (z .m2) (omega (arith, z .both, z .r-pos, z .all));
+    abbrev hy : Product p (b .m2) g yy
+    hy = ty .product
+
+    y-lt : Lt (ρ .𝓥) (row ρ yy) (suc (setting (i .σ) .dw + setting (i .σ) .dw))
+    y-lt = d.lt-eq (ρ .𝓥) (d.lt-up (ρ .𝓥) (suc (setting (i .σ) .dw + setting (i .σ) .dw)) (lt-mul-sharp (ρ .𝓥) (z .rows 2) (g-lt i)) (omega (arith, z .two-r, z .both))) (sym (hy .law (i .σ .prime)))
+
+    pub y-in : {mul lim : ℕ} {o : Three} → Prepared (of p mul lim) → Blank o → CoordsIn (of p mul lim) xx nx yy ny (b .m0) (l .m0) b l e ie o
+    y-in w t = record {
+      inp = record {
+        modulus = w;
+        ha = kx .is-row;
+        hb = hy .is-row;
+        hc = i .rows 0;
+        sa = tx .size;
+        sb = ty .size;
+        sc = f .sizes 0;
+        rows = i .rows;
+        sizes = f .sizes;
+        he = f .det .is-row;
+        se = f .det .size;
+        by-e = by-e i (f .det);
+        by-u = by-u i;
+        b-n2 = fits-of ρ (suc (setting (i .σ) .dw + setting (i .σ) .dw)) (setting (i .σ) .dr) (hy .is-row) (i .rows 5) y-lt (z .rows 5) (omega (arith, z .both, z .r-pos, z .all));
+        c-n1 = fits-of ρ (suc n) (setting (i .σ) .dw) (i .rows 0) (i .rows 4) (z .rows 0) (z .rows 4) (omega (arith, z .both, z .r-pos, z .all));
+        c-m1 = fits-of ρ (suc n) (suc (setting (i .σ) .dw)) (i .rows 0) (i .rows 1) (z .rows 0) (z .rows 1) (omega (arith, z .both, z .r-pos, z .all));
+        b-m2 = fits-of ρ (suc (setting (i .σ) .dw + setting (i .σ) .dw)) (suc (setting (i .σ) .dr)) (hy .is-row) (i .rows 2) y-lt (z .rows 2) (omega (arith, z .both, z .r-pos, z .all));
+      };
       prime = i .σ .prime;
       α = k .of-w .α .0;
       β = k .of-w .β .0;
       γ = k .of-w .γ .0;
-      some = quot-w (i .σ) (i .holds) b de hx hy (k .of-w);
+      some = quot-w (i .σ) (i .holds) b (f .det) kx hy (k .of-w);
       kβ = suc (setting (i .σ) .dw);
       kγ = setting (i .σ) .dw;
       β-lt = w-near .β-lt;
       γ-lt = w-near .γ-lt;
-      room-m0 = λ m s. let q : m ≤ suc n = size-le ρ (suc n) (i .rows .m0) s (z .m0) in omega (arith, z .both, z .r-pos, z .all);
-      room-n0 = λ m s. let q : m ≤ n = size-le ρ n (i .rows .n0) s (z .n0) in omega (arith, z .both, z .r-pos, z .all);
+      room-m0 = λ m s. let q : m ≤ suc n = size-le ρ (suc n) (i .rows 0) s (z .rows 0) in omega (arith, z .both, z .r-pos, z .all);
+      room-n0 = λ m s. let q : m ≤ n = size-le ρ n (i .rows 3) s (z .rows 3) in omega (arith, z .both, z .r-pos, z .all);
+      blank = t;
     }
 
-    pub turned-w : {t : Three} {o : Spans} → CoordsOut p xx yy (b .m0) b e t o → TurnedW p g gh b t o
+    pub turned-w : {t : Three} {o : Spans} → Coordinates p xx yy (b .m0) b e t o → TurnedW p g gh b t o
     turned-w {t} {o} c = record {
-      spans = record { ha = c .coords .ha; hb = c .coords .hb; hc = c .coords .hc; sa = c .sa; sb = c .sb; sc = c .sc };
-      law = λ σ holds q. let (a, b, c) = c .coords .law (σ .prime) _ _ _ (quot-w σ holds b de hx hy q) in (P-path (setting σ .𝓥) a, P-path (setting σ .𝓥) b, P-path (setting σ .𝓥) c);
+      spans = c .spans;
+      law = λ σ holds q. let (a, b, c) = c .law (σ .prime) _ _ _ (quot-w σ holds b (f .det) kx hy q) in (P-path (setting σ .𝓥) a, P-path (setting σ .𝓥) b, P-path (setting σ .𝓥) c);
     }
 
   -- ---- what they have in common

@@ -1,24 +1,23 @@
 -- A row negated in place.
 use mathlib.Core.Path.{_≡_, sym, ap, _∙_}
 use mathlib.Core.List.{List}
-use Prim.Native.Nat.{ℕ, _+_, _-_, _%_, _<_, _≤_}
+use Prim.Native.Nat.{ℕ, _-_, _%_, _<_, _≤_}
 use native.Mathlib.Nat.{mod-self, mod-eq-of-lt}
 use native.Mathlib.Omega.{arith}
 use native.Mathlib.Decide.{decLt}
-use lib.ListN.{length, getD, replicate}
+use lib.ListN.{length, getD}
 use lib.Seq.{ext-getD}
 use Rattle.math_rows.specs.Row.{tab}
-use Rattle.math_rows.proofs.Tab.{zeros-at, at-tab, length-tab}
-use Rattle.poly_rows.proofs.Leaf.{zeros-row, difference, opposite}
+use Rattle.math_rows.proofs.Tab.{at-tab, length-tab}
+use Rattle.poly_rows.proofs.Leaf.{opposite}
 use Rattle.poly_lent.proofs.Sums.{Over}
-use Rattle.step_divide.specs.Common.{NegateIn, Negated}
+use Rattle.step_divide.specs.Turns.{NegateIn, Negated}
 
 module _ {p : ℕ} {x : List ℕ} {n : ℕ} (h : NegateIn p x n) where
   pub negated : {o : List ℕ} (i : ℕ) → i ≡ n → Over 32 (λ j. (p - getD x j 0) % p) x o i → Negated p x o n
   negated {o} i e g = record {
-    opposite = opposite p x o (difference p (replicate 32 0) x o (record { modulus = h .modulus; hx = zeros-row p (h .modulus .big); hy = h .hx })
-        (ext-getD 0 o (tab 32 _) (g .size ∙ sym (length-tab 32 _)) (λ j u. let l : length o ≡ 32 = g .size in let w : j < 32 = omega arith in
-        at j ∙ ap (λ a. a % p) (let q : getD (replicate 32 0) j 0 ≡ 0 = zeros-at 32 j in let r : p - getD x j 0 ≡ getD (replicate 32 0) j 0 + (p - getD x j 0) = omega arith in r) ∙ sym (at-tab 32 _ j w))));
+    opposite = opposite p x o (record { modulus = h .modulus; hx = h .hx })
+        (ext-getD 0 o (tab 32 _) (g .size ∙ sym (length-tab 32 _)) (λ j u. let l : length o ≡ 32 = g .size in let w : j < 32 = omega arith in at j ∙ sym (at-tab 32 _ j w)));
     size = record {
       fits = (let f : n ≤ length x = h .sx .fits in let l : length x ≡ 32 = h .hx .size in let m : length o ≡ 32 = g .size in omega arith);
       above = λ j u. g .rest j (omega arith) ∙ h .sx .above j u;

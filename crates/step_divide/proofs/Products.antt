@@ -1,96 +1,93 @@
 -- From a good basis to the generators of the next ideal: sizes of all products on the way, the exact quotients, and `AreGenerators`.
-use mathlib.Core.Path.{_≡_, refl, sym, ap, ap₂, _∙_}
+use mathlib.Core.Path.{_≡_, refl, sym, ap, _∙_}
 use mathlib.Core.Logic.{_≢_}
 use mathlib.Core.List.{List, [], _∷_}
 use Prim.Native.Nat.{ℕ, zero, suc, _+_, _*_, _-_, _%_, _<_, _≤_}
-use native.Mathlib.Nat.{mod-lt}
 use native.Mathlib.Omega.{arith}
-use lib.ListN.{getD}
-use Rattle.math_ring.specs.Ring.{Ops, CRing}
+use lib.ListN.{getD, replicate}
 use Rattle.math_ring.proofs.Solve.{var, hyp, one as one₁, minus, _:*_, solve-by}
-use Rattle.math_fp.specs.Fp.{Prime}
-use Rattle.math_valued.specs.Val.{Valued}
-use Rattle.math_valued.specs.Degree.{Has, Lt, Leads}
+use Rattle.math_valued.specs.Degree.{Has, Lt}
 use Rattle.math_valued.proofs.Degree as d
-use Rattle.math_valued.proofs.Compare.{leads-unique}
-use Rattle.math_valued.proofs.Polynomial.{P-path, not-zero}
+use Rattle.math_valued.proofs.Polynomial.{not-zero}
 use Rattle.num_mod.specs.Residue.{IsModulus}
 use Rattle.math_rows.specs.Reading.{Reading}
 use Rattle.math_rows.specs.Made.{reading}
 use Rattle.math_rows.specs.Row.{Row, Size, row}
 use Rattle.math_rows.proofs.Rows.{size-le, size-lead, size-top, size-has, cast-sub}
 use Rattle.math_rows.proofs.Floors.{sized, zero-row}
-use Rattle.math_rows.proofs.Unique.{cast-inj}
-use Rattle.poly_rows.specs.Leaf.{Cut, MulIn, Product}
-use Rattle.math_ideals.specs.Setting.{dGH}
-use Rattle.math_ideals.specs.Element.{O}
+use Rattle.poly_rows.specs.Leaf.{Cut, Product}
+use Rattle.num_mod.specs.Prepared.{Prepared}
+use Rattle.num_mod.specs.declared.Modulus.{Modulus}
+use Rattle.poly_rows.specs.Division.{Inverts}
+use Rattle.poly_rows.proofs.Lengths.{one-mod, fits-of, monic-inverts}
+use Rattle.poly_lent.specs.Sized.{TimesBy, DetOut}
+use Rattle.math_ideals.specs.Setting.{Setting, dGH}
 use Rattle.math_ideals.specs.Basis.{Good}
 use Rattle.math_ideals.proofs.Values.{dr-dw, dr-eq, dr-pos, dw-pos}
 use Rattle.math_ideals.proofs.Check.{Coords}
 use Rattle.math_ideals.proofs.Tests.{times-r, times-w}
-use Rattle.math_ideals.proofs.Degrees.{small, det-lead}
+use Rattle.math_ideals.proofs.Degrees.{Small, small, det-lead}
 use Rattle.field_open.specs.Refusal.{Accepted}
-use Rattle.basis_record.specs.Record.{setting, polyOf}
-use Rattle.step_divide.specs.Rows.{Seven, rowsOf, Holds}
-use Rattle.step_divide.specs.Quotients.{Fits, Inverts, DetIn, Det, Quotients}
+use Rattle.basis_record.specs.Record.{setting}
+use Rattle.basis_record.specs.Seven.{Seven, rowAt, rowsOf, Holds}
+use Rattle.basis_lattice.specs.Coordinates.{Quotients, LengthsIn}
+use Rattle.basis_lattice.proofs.Elements.{quot-of, times-g-is, times-h-is, times-gh-is}
 use Rattle.step_divide.specs.Generated.{GeneratorsIn}
 
--- a number whose class is 1
-pub one-mod : {p : ℕ} (ρ : Reading p) (a : ℕ) → 1 < p → ρ .cast a ≡ ρ .𝓥 .K .ops .𝟏 → a % p ≡ 1
-one-mod {p} ρ a l e = cast-inj ρ (a % p) 1 (mod-lt a (ρ .pos)) l (ρ .cast-mod a ∙ e ∙ sym (ρ .cast-one))
+-- how large the i-th row of a good basis can be
+abbrev of : ℕ → ℕ → ℕ → Modulus
+of p mul lim = record { p = p; m = mul; lim = lim }
 
--- sizes from degrees
-pub fits-of : {p : ℕ} (ρ : Reading p) {x y : List ℕ} (a b : ℕ) → Row p x → Row p y → Lt (ρ .𝓥) (row ρ x) a → Lt (ρ .𝓥) (row ρ y) b → a + b ≤ 33 → Fits x y
-fits-of ρ a b hx hy lx ly l n m sn sm =
-    let q : n ≤ a = size-le ρ a hx sn lx in
-    let r : m ≤ b = size-le ρ b hy sm ly in
-    omega arith
+abbrev pub bound : Setting → ℕ → ℕ
+bound S zero = suc (dGH S)
+bound S (suc zero) = suc (S .dw)
+bound S (suc (suc zero)) = suc (S .dr)
+bound S (suc (suc (suc zero))) = dGH S
+bound S (suc (suc (suc (suc zero)))) = S .dw
+bound S (suc (suc (suc (suc (suc zero))))) = S .dr
+bound S (suc (suc (suc (suc (suc (suc i)))))) = dGH S
 
--- what leads with 1 needs no inversion
-pub monic-inverts : {p : ℕ} (pr : Prime p) {u : List ℕ} → Row p u → Leads (reading p pr .𝓥) (row (reading p pr) u) (reading p pr .𝓥 .K .ops .𝟏) → Inverts p u 1
-monic-inverts {p} pr {u} hu lu = record { below = pr .big; law = law-at }
-  where
-    law-at : (m : ℕ) → Size u m → (1 * getD u (m - 1) 0) % p ≡ 1
-    law-at zero t = let (i, j, nz, l) = lu in absurd (nz (reading p pr .𝓥 .lead-unique l (d.lead-eq (reading p pr .𝓥) (reading p pr .𝓥 .lead-zero i j) (sym (zero-row (reading p pr) u t)) refl)))
-    law-at (suc k) t =
-        let l : ℕ = getD u k 0 in
-        let e : reading p pr .cast l ≡ reading p pr .𝓥 .K .ops .𝟏 = leads-unique (reading p pr .𝓥) (k, 0, size-top (reading p pr) hu t, size-lead (reading p pr) t) lu in
-        ap (λ j. (1 * getD u j 0) % p) (let w : suc k - 1 ≡ k = omega arith in w) ∙ ap (λ y. y % p) (let w : 1 * l ≡ l = omega arith in w) ∙ one-mod (reading p pr) l (pr .big) e
+bound-low : (S : Setting) (i : ℕ) → bound S i ≤ suc (dGH S)
+bound-low S zero = omega arith
+bound-low S (suc zero) = omega (arith, dr-dw S)
+bound-low S (suc (suc zero)) = omega (arith, dr-dw S)
+bound-low S (suc (suc (suc zero))) = omega arith
+bound-low S (suc (suc (suc (suc zero)))) = omega (arith, dr-dw S)
+bound-low S (suc (suc (suc (suc (suc zero))))) = omega (arith, dr-dw S)
+bound-low S (suc (suc (suc (suc (suc (suc i)))))) = omega arith
 
 module _ {p : ℕ} {G H : List ℕ} (σ : Accepted p G H) (b : Seven) where
   -- what the sizes of a good basis say of its rows
   pub record Sizes : Type 0 where
-    pub m0 : Lt (reading p (σ .prime) .𝓥) (row (reading p (σ .prime)) (b .m0)) (suc (dGH (setting σ)))
-    pub m1 : Lt (reading p (σ .prime) .𝓥) (row (reading p (σ .prime)) (b .m1)) (suc (setting σ .dw))
-    pub m2 : Lt (reading p (σ .prime) .𝓥) (row (reading p (σ .prime)) (b .m2)) (suc (setting σ .dr))
-    pub n0 : Lt (reading p (σ .prime) .𝓥) (row (reading p (σ .prime)) (b .n0)) (dGH (setting σ))
-    pub n1 : Lt (reading p (σ .prime) .𝓥) (row (reading p (σ .prime)) (b .n1)) (setting σ .dw)
-    pub n2 : Lt (reading p (σ .prime) .𝓥) (row (reading p (σ .prime)) (b .n2)) (setting σ .dr)
+    pub rows : (i : ℕ) → Lt (reading p (σ .prime) .𝓥) (row (reading p (σ .prime)) (rowAt b i)) (bound (setting σ) i)
     pub two-r : setting σ .dr + setting σ .dr ≡ σ .degH + setting σ .dw
     pub both : setting σ .dr + setting σ .dw ≡ σ .degG + σ .degH
     pub r-pos : 1 ≤ setting σ .dr
     pub w-pos : 1 ≤ setting σ .dw
     pub all : σ .degG + σ .degH ≤ 16
 
-  pub sizes : Good (setting σ) (rowsOf σ b) → Sizes
-  sizes good =
-      let 𝓥 = reading p (σ .prime) .𝓥 in
-      let s = small (setting σ) (rowsOf σ b) good in
-      let both : setting σ .dr + setting σ .dw ≡ dGH (setting σ) = dr-dw (setting σ) in
-      let x≤n : s .x ≤ dGH (setting σ) = s .x≤n in
-      record {
-        m0 = d.has-up 𝓥 (suc (dGH (setting σ))) (s .M0) (omega arith);
-        m1 = d.lt-cancel 𝓥 (suc (setting σ .dw)) (setting σ .r-deg) (d.lt-eq 𝓥 (d.has-up 𝓥 (setting σ .dr + suc (setting σ .dw)) (s .M1) (omega arith)) (𝓥 .L .laws .mul-comm _ _));
-        m2 = d.lt-cancel 𝓥 (suc (setting σ .dr)) (setting σ .w-deg) (d.lt-eq 𝓥 (d.has-up 𝓥 (setting σ .dw + suc (setting σ .dr)) (s .M2) (omega arith)) (𝓥 .L .laws .mul-comm _ _));
-        n0 = s .N0;
-        n1 = d.lt-cancel 𝓥 (setting σ .dw) (setting σ .r-deg) (d.lt-eq 𝓥 (d.lt-up 𝓥 (setting σ .dr + setting σ .dw) (s .N1) (omega arith)) (𝓥 .L .laws .mul-comm _ _));
-        n2 = d.lt-cancel 𝓥 (setting σ .dr) (setting σ .w-deg) (d.lt-eq 𝓥 (d.lt-up 𝓥 (setting σ .dw + setting σ .dr) (s .N2) (omega arith)) (𝓥 .L .laws .mul-comm _ _));
-        two-r = dr-eq (setting σ);
-        both = both;
-        r-pos = dr-pos (setting σ);
-        w-pos = dw-pos (setting σ);
-        all = σ .sum;
-      }
+  module _ (good : Good (setting σ) (rowsOf σ b)) where
+    s : Small (setting σ) (rowsOf σ b)
+    s = small (setting σ) (rowsOf σ b) good
+
+    both : setting σ .dr + setting σ .dw ≡ dGH (setting σ)
+    both = dr-dw (setting σ)
+
+    row-bound : (i : ℕ) → Lt (reading p (σ .prime) .𝓥) (row (reading p (σ .prime)) (rowAt b i)) (bound (setting σ) i)
+    row-bound zero = d.has-up (reading p (σ .prime) .𝓥) (suc (dGH (setting σ))) (s .M0) (let l : s .x ≤ dGH (setting σ) = s .x≤n in omega arith)
+    row-bound (suc zero) = let 𝓥 = reading p (σ .prime) .𝓥 in let l : s .x ≤ dGH (setting σ) = s .x≤n in
+        d.lt-cancel 𝓥 (suc (setting σ .dw)) (setting σ .r-deg) (d.lt-eq 𝓥 (d.has-up 𝓥 (setting σ .dr + suc (setting σ .dw)) (s .M1) (omega (arith, both))) (𝓥 .L .laws .mul-comm _ _))
+    row-bound (suc (suc zero)) = let 𝓥 = reading p (σ .prime) .𝓥 in let l : s .x ≤ dGH (setting σ) = s .x≤n in
+        d.lt-cancel 𝓥 (suc (setting σ .dr)) (setting σ .w-deg) (d.lt-eq 𝓥 (d.has-up 𝓥 (setting σ .dw + suc (setting σ .dr)) (s .M2) (omega (arith, both))) (𝓥 .L .laws .mul-comm _ _))
+    row-bound (suc (suc (suc zero))) = s .N0
+    row-bound (suc (suc (suc (suc zero)))) = let 𝓥 = reading p (σ .prime) .𝓥 in
+        d.lt-cancel 𝓥 (setting σ .dw) (setting σ .r-deg) (d.lt-eq 𝓥 (d.lt-up 𝓥 (setting σ .dr + setting σ .dw) (s .N1) (omega (arith, both))) (𝓥 .L .laws .mul-comm _ _))
+    row-bound (suc (suc (suc (suc (suc zero))))) = let 𝓥 = reading p (σ .prime) .𝓥 in
+        d.lt-cancel 𝓥 (setting σ .dr) (setting σ .w-deg) (d.lt-eq 𝓥 (d.lt-up 𝓥 (setting σ .dw + setting σ .dr) (s .N2) (omega (arith, both))) (𝓥 .L .laws .mul-comm _ _))
+    row-bound (suc (suc (suc (suc (suc (suc i)))))) = d.has-up (reading p (σ .prime) .𝓥) (dGH (setting σ)) (s .U-has) (s .u<n)
+
+    pub sizes : Sizes
+    sizes = record { rows = row-bound; two-r = dr-eq (setting σ); both = both; r-pos = dr-pos (setting σ); w-pos = dw-pos (setting σ); all = σ .sum }
 
 -- ---- the products that `divided` makes
 module _ {p cap : ℕ} {g h gh : List ℕ} {ie : ℕ} {b : Seven} (i : GeneratorsIn p cap g h gh ie b) where
@@ -112,20 +109,6 @@ module _ {p cap : ℕ} {g h gh : List ℕ} {ie : ℕ} {b : Seven} (i : Generator
   gh-has : Has (ρ .𝓥) (row ρ gh) (i .σ .degG + i .σ .degH)
   gh-has = d.has-eq (ρ .𝓥) (d.has-mul (ρ .𝓥) (setting (i .σ) .G-deg) (setting (i .σ) .H-deg)) (sym (i .holds .gh-is))
 
-  room : {x y : List ℕ} (j k : ℕ) → Row p x → Row p y → Lt (ρ .𝓥) (row ρ x) j → Lt (ρ .𝓥) (row ρ y) k → j + k ≤ 33 → MulIn p x y
-  room j k hx hy lx ly l = record { modulus = modulus; hx = hx; hy = hy; room = fits-of ρ j k hx hy lx ly l }
-
-  pub e-room : DetIn p (b .m1) (b .n2) (b .m2) (b .n1)
-  e-room = record {
-    modulus = modulus;
-    hx = i .rows .m1;
-    hy = i .rows .n2;
-    hz = i .rows .m2;
-    hv = i .rows .n1;
-    left = fits-of ρ (suc (setting (i .σ) .dw)) (setting (i .σ) .dr) (i .rows .m1) (i .rows .n2) (z .m1) (z .n2) (omega (arith, z .both, z .all));
-    right = fits-of ρ (suc (setting (i .σ) .dr)) (setting (i .σ) .dw) (i .rows .m2) (i .rows .n1) (z .m2) (z .n1) (omega (arith, z .both, z .all));
-  }
-
   -- G, H and G H, each no larger than G H
   pub record Factor (y : List ℕ) : Type 0 where
     pub is-row : Row p y
@@ -140,42 +123,35 @@ module _ {p cap : ℕ} {g h gh : List ℕ} {ie : ℕ} {b : Seven} (i : Generator
   pub by-gh : Factor gh
   by-gh = record { is-row = i .hgh; low = d.has-up (ρ .𝓥) (suc (i .σ .degG + i .σ .degH)) gh-has (omega arith) }
 
-  pub m1-by : {y : List ℕ} → Factor y → MulIn p (b .m1) y
-  m1-by f = room (suc (setting (i .σ) .dw)) (suc (i .σ .degG + i .σ .degH)) (i .rows .m1) (f .is-row) (z .m1) (f .low) (omega (arith, z .both, z .r-pos, z .all))
+  times-by : {mul lim : ℕ} {x y r : List ℕ} {n m : ℕ} (j k : ℕ) → Prepared (of p mul lim) → Row p x → Factor y → Lt (ρ .𝓥) (row ρ x) j → suc (i .σ .degG + i .σ .degH) ≤ k → j + k ≤ 33
+      → Size x n → Size y m → r ≡ replicate 32 0 → TimesBy (of p mul lim) x n y m r
+  times-by j k w hx f lx u l sx sy t = record { modulus = w; hx = hx; hy = f .is-row; sx = sx; sy = sy; fits = fits-of ρ j k hx (f .is-row) lx (d.lt-up (ρ .𝓥) k (f .low) u) l _ _ sx sy; blank = t }
 
-  pub m2-by : {y : List ℕ} → Factor y → MulIn p (b .m2) y
-  m2-by f = room (suc (setting (i .σ) .dr)) (suc (i .σ .degG + i .σ .degH)) (i .rows .m2) (f .is-row) (z .m2) (f .low) (omega (arith, z .both, z .w-pos, z .all))
+  pub m1-by : {mul lim : ℕ} {y r : List ℕ} {n m : ℕ} → Prepared (of p mul lim) → Factor y → Size (b .m1) n → Size y m → r ≡ replicate 32 0 → TimesBy (of p mul lim) (b .m1) n y m r
+  m1-by w f = times-by (suc (setting (i .σ) .dw)) (suc (i .σ .degG + i .σ .degH)) w (i .rows 1) f (z .rows 1) (omega arith) (omega (arith, z .both, z .r-pos, z .all))
+
+  pub m2-by : {mul lim : ℕ} {y r : List ℕ} {n m : ℕ} → Prepared (of p mul lim) → Factor y → Size (b .m2) n → Size y m → r ≡ replicate 32 0 → TimesBy (of p mul lim) (b .m2) n y m r
+  m2-by w f = times-by (suc (setting (i .σ) .dr)) (suc (i .σ .degG + i .σ .degH)) w (i .rows 2) f (z .rows 2) (omega arith) (omega (arith, z .both, z .w-pos, z .all))
 
   -- ---- every row ends before cap
-  ends : {x : List ℕ} (k : ℕ) → Row p x → Lt (ρ .𝓥) (row ρ x) k → k ≤ cap → Cut x cap
-  ends {x} k h l u = let (n, s) = sized x in let q : n ≤ k = size-le ρ k h s l in record { size = h .size; fits = i .fits; above = λ j w. s .above j (omega arith) }
+  ends : (j : ℕ) → Cut (rowAt b j) cap
+  ends j =
+      let (n, s) = sized (rowAt b j) in
+      let q : n ≤ bound (setting (i .σ)) j = size-le ρ (bound (setting (i .σ)) j) (i .rows j) s (z .rows j) in
+      record { size = i .rows j .size; fits = i .fits; above = λ k w. s .above k (omega (arith, bound-low (setting (i .σ)) j, i .past)) }
 
-  pub m0-ends : Cut (b .m0) cap
-  m0-ends = ends (suc (i .σ .degG + i .σ .degH)) (i .rows .m0) (z .m0) (let q : i .σ .degG + i .σ .degH < cap = i .past in omega arith)
-
-  pub m1-ends : Cut (b .m1) cap
-  m1-ends = ends (suc (setting (i .σ) .dw)) (i .rows .m1) (z .m1) (omega (arith, z .both, z .r-pos, i .past))
-
-  pub m2-ends : Cut (b .m2) cap
-  m2-ends = ends (suc (setting (i .σ) .dr)) (i .rows .m2) (z .m2) (omega (arith, z .both, z .w-pos, i .past))
-
-  pub n0-ends : Cut (b .n0) cap
-  n0-ends = ends (i .σ .degG + i .σ .degH) (i .rows .n0) (z .n0) (let q : i .σ .degG + i .σ .degH < cap = i .past in omega arith)
-
-  pub n1-ends : Cut (b .n1) cap
-  n1-ends = ends (setting (i .σ) .dw) (i .rows .n1) (z .n1) (omega (arith, z .both, z .r-pos, i .past))
-
-  pub n2-ends : Cut (b .n2) cap
-  n2-ends = ends (setting (i .σ) .dr) (i .rows .n2) (z .n2) (omega (arith, z .both, z .w-pos, i .past))
-
-  pub u-ends : Cut (b .u) cap
-  u-ends =
-      let s = small (setting (i .σ)) (rowsOf (i .σ) b) (i .good) in
-      let q : s .u < i .σ .degG + i .σ .degH = s .u<n in
-      ends (suc (s .u)) (i .rows .u) (d.has-up (ρ .𝓥) (suc (s .u)) (s .U-has) (omega arith)) (omega (arith, i .past))
+  pub lengths-in : {mul lim : ℕ} {e : List ℕ} → Prepared (of p mul lim) → e ≡ replicate 32 0 → LengthsIn (of p mul lim) cap b e
+  lengths-in w t = record {
+    modulus = w;
+    rows = i .rows;
+    ends = ends;
+    left = fits-of ρ (suc (setting (i .σ) .dw)) (setting (i .σ) .dr) (i .rows 1) (i .rows 5) (z .rows 1) (z .rows 5) (omega (arith, z .both, z .all));
+    right = fits-of ρ (suc (setting (i .σ) .dr)) (setting (i .σ) .dw) (i .rows 2) (i .rows 4) (z .rows 2) (z .rows 4) (omega (arith, z .both, z .all));
+    blank = t;
+  }
 
   -- ---- division by e and by U
-  pub by-e : {e : List ℕ} → Det p (b .m1) (b .n2) (b .m2) (b .n1) e → Inverts p e ie
+  pub by-e : {e : List ℕ} {k : ℕ} → DetOut p (b .m1) (b .n2) (b .m2) (b .n1) e k → Inverts p e ie
   by-e {e} de = go (sized gh)
     where
       law-at : (n : ℕ) → Size gh (suc n) → (m : ℕ) → Size e m → (ie * getD e (m - 1) 0) % p ≡ 1
@@ -209,59 +185,14 @@ module _ {p cap : ℕ} {g h gh : List ℕ} {ie : ℕ} {b : Seven} (i : Generator
       }
 
   pub by-u : Inverts p (b .u) 1
-  by-u = monic-inverts (i .σ .prime) (i .rows .u) (i .good .scaled .monic)
+  by-u = monic-inverts (i .σ .prime) (i .rows 6) (i .good .scaled .monic)
 
--- ---- the exact quotients: an element on rows, and in coordinates
-module _ {p : ℕ} {G H : List ℕ} (σ : Accepted p G H) (b : Seven) {e : List ℕ} (de : Det p (b .m1) (b .n2) (b .m2) (b .n1) e) where
-  abbrev ρ₁ : Reading p
-  ρ₁ = reading p (σ .prime)
+-- ---- r m and w m
+module _ {p : ℕ} {G H : List ℕ} (σ : Accepted p G H) {g h gh : List ℕ} (k : Holds σ g h gh) (b : Seven) {e : List ℕ} {n : ℕ} (de : DetOut p (b .m1) (b .n2) (b .m2) (b .n1) e n) where
+  pub quot-r : {v c : List ℕ} → Product p (b .m2) gh v → Product p (b .m1) h c → (q : Coords (setting σ) (rowsOf σ b) (times-r (setting σ) (rowsOf σ b .M)))
+      → Quotients (σ .prime) v (b .m0) c b e (q .α .0) (q .β .0) (q .γ .0)
+  quot-r hv hc q = quot-of σ b de _ (times-gh-is σ k hv) refl (times-h-is σ k hc) q
 
-  open Ops (reading p (σ .prime) .𝓥 .L .ops) using (add as _⊕_, mul as _⊗_, neg as ⊖_)
-
-  infixl 60 _⊕_
-  infixl 70 _⊗_
-  infix 80 ⊖_
-  module _ {xa xb xc : List ℕ} (v : O (setting σ) .El) (ea : row ρ₁ xa ≡ v .a .0) (eb : row ρ₁ xb ≡ v .b .0) (ec : row ρ₁ xc ≡ v .c .0) where
-    pub quot-of : (q : Coords (setting σ) (rowsOf σ b) v) → Quotients (σ .prime) xa xb xc b e (q .α .0) (q .β .0) (q .γ .0)
-    quot-of q = record {
-      α-poly = q .α .1;
-      β-poly = q .β .1;
-      γ-poly = q .γ .1;
-      e-β = ap₂ (λ s t. s ⊗ row ρ₁ (b .n2) ⊕ ⊖ (t ⊗ row ρ₁ (b .n1))) eb ec ∙ ap (λ t. t .0) (q .e-β) ∙ ap (λ t. t ⊗ q .β .0) (sym (de .law (σ .prime)));
-      e-γ = ap₂ (λ s t. t ⊗ row ρ₁ (b .m1) ⊕ ⊖ (s ⊗ row ρ₁ (b .m2))) eb ec ∙ ap (λ t. t .0) (q .e-γ) ∙ ap (λ t. t ⊗ q .γ .0) (sym (de .law (σ .prime)));
-      U-α = ap (λ t. t ⊕ ⊖ (q .β .0 ⊗ row ρ₁ (b .m0) ⊕ q .γ .0 ⊗ row ρ₁ (b .n0))) ea ∙ ap (λ t. t .0) (q .U-α);
-    }
-
-    pub coords-from : {α β γ : reading p (σ .prime) .𝓥 .L .El} → Quotients (σ .prime) xa xb xc b e α β γ → Coords (setting σ) (rowsOf σ b) v
-    coords-from {α} {β} {γ} q = record {
-      α = (α, q .α-poly);
-      β = (β, q .β-poly);
-      γ = (γ, q .γ-poly);
-      e-β = P-path (ρ₁ .𝓥) (sym (ap₂ (λ s t. s ⊗ row ρ₁ (b .n2) ⊕ ⊖ (t ⊗ row ρ₁ (b .n1))) eb ec) ∙ q .e-β ∙ ap (λ t. t ⊗ β) (de .law (σ .prime)));
-      e-γ = P-path (ρ₁ .𝓥) (sym (ap₂ (λ s t. t ⊗ row ρ₁ (b .m1) ⊕ ⊖ (s ⊗ row ρ₁ (b .m2))) eb ec) ∙ q .e-γ ∙ ap (λ t. t ⊗ γ) (de .law (σ .prime)));
-      U-α = P-path (ρ₁ .𝓥) (sym (ap (λ t. t ⊕ ⊖ (β ⊗ row ρ₁ (b .m0) ⊕ γ ⊗ row ρ₁ (b .n0))) ea) ∙ q .U-α);
-    }
-
--- products with the rows that hold the field
-module _ {p : ℕ} {G H : List ℕ} (σ : Accepted p G H) {g h gh : List ℕ} (k : Holds σ g h gh) where
-  open Ops (reading p (σ .prime) .𝓥 .L .ops) using (mul as _⊗_)
-
-  infixl 70 _⊗_
-  pub times-g-is : {x z : List ℕ} → Product p x g z → row (reading p (σ .prime)) z ≡ row (reading p (σ .prime)) x ⊗ row (reading p (σ .prime)) G
-  times-g-is {x} hz = hz .law (σ .prime) ∙ ap (λ t. row (reading p (σ .prime)) x ⊗ t) (k .g-is)
-
-  pub times-h-is : {x z : List ℕ} → Product p x h z → row (reading p (σ .prime)) z ≡ row (reading p (σ .prime)) x ⊗ row (reading p (σ .prime)) H
-  times-h-is {x} hz = hz .law (σ .prime) ∙ ap (λ t. row (reading p (σ .prime)) x ⊗ t) (k .h-is)
-
-  pub times-gh-is : {x z : List ℕ} → Product p x gh z → row (reading p (σ .prime)) z ≡ row (reading p (σ .prime)) x ⊗ (row (reading p (σ .prime)) G ⊗ row (reading p (σ .prime)) H)
-  times-gh-is {x} hz = hz .law (σ .prime) ∙ ap (λ t. row (reading p (σ .prime)) x ⊗ t) (k .gh-is)
-
-  -- r m and w m
-  module _ (b : Seven) {e : List ℕ} (de : Det p (b .m1) (b .n2) (b .m2) (b .n1) e) where
-    pub quot-r : {v c : List ℕ} → Product p (b .m2) gh v → Product p (b .m1) h c → (q : Coords (setting σ) (rowsOf σ b) (times-r (setting σ) (rowsOf σ b .M)))
-        → Quotients (σ .prime) v (b .m0) c b e (q .α .0) (q .β .0) (q .γ .0)
-    quot-r hv hc q = quot-of σ b de _ (times-gh-is hv) refl (times-h-is hc) q
-
-    pub quot-w : {v c : List ℕ} → Product p (b .m1) gh v → Product p (b .m2) g c → (q : Coords (setting σ) (rowsOf σ b) (times-w (setting σ) (rowsOf σ b .M)))
-        → Quotients (σ .prime) v c (b .m0) b e (q .α .0) (q .β .0) (q .γ .0)
-    quot-w hv hc q = quot-of σ b de _ (times-gh-is hv) (times-g-is hc) refl q
+  pub quot-w : {v c : List ℕ} → Product p (b .m1) gh v → Product p (b .m2) g c → (q : Coords (setting σ) (rowsOf σ b) (times-w (setting σ) (rowsOf σ b .M)))
+      → Quotients (σ .prime) v c (b .m0) b e (q .α .0) (q .β .0) (q .γ .0)
+  quot-w hv hc q = quot-of σ b de _ (times-gh-is σ k hv) (times-g-is σ k hc) refl q

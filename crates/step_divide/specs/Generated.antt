@@ -9,11 +9,7 @@ use mathlib.Core.Path.{_≡_}
 use mathlib.Core.List.{List}
 use Prim.Native.Nat.{ℕ, _+_, _-_, _<_, _≤_}
 use lib.ListN.{getD, replicate}
-use Rattle.math_ring.specs.Ring.{Ops, CRing}
-use Rattle.math_valued.specs.Val.{Valued}
 use Rattle.math_valued.specs.Degree.{Has}
-use Rattle.math_rows.specs.Reading.{Reading}
-use Rattle.math_rows.specs.Made.{reading}
 use Rattle.math_rows.specs.Row.{Row, Size, row}
 use Rattle.num_mod.specs.Prepared.{Prepared}
 use Rattle.num_mod.specs.declared.Modulus.{Modulus}
@@ -21,9 +17,7 @@ use Rattle.math_ideals.specs.Basis.{Good}
 use Rattle.math_chain.proofs.Parts.{Parts, Cut, x1, y1, base}
 use Rattle.field_open.specs.Refusal.{Accepted}
 use Rattle.basis_record.specs.Record.{setting, polyOf}
-use Rattle.step_divide.specs.Rows.{Seven, AreRows, rowsOf, Holds}
-use Rattle.step_divide.specs.Quotients.{Three}
-use Rattle.step_divide.specs.Known.{Blank}
+use Rattle.basis_record.specs.Seven.{Seven, AreRows, rowsOf, Holds, Three, Blank}
 use Rattle.step_divide.specs.declared.Cuts.{Cuts}
 
 pub record Generators : Type 0 where

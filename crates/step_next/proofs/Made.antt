@@ -1,48 +1,42 @@
 -- What `advanced` makes is the step: the rows that are loaded, the seven polynomials that come back, and the degree of m.
-use mathlib.Core.Path.{_≡_, refl, sym, ap, ap₂, _∙_, subst}
+use mathlib.Core.Path.{_≡_, sym, ap, subst}
 use mathlib.Core.List.{List}
-use Prim.Native.Nat.{ℕ, zero, suc, _+_, _*_, _-_, _<_, _≤_}
+use Prim.Native.Nat.{ℕ, suc, _+_, _*_, _-_, _<_, _≤_}
 use native.Mathlib.Omega.{arith}
 use lib.ListN.{getD}
-use Rattle.math_ring.specs.Ring.{Ops, CRing}
 use Rattle.math_valued.specs.Val.{Valued}
-use Rattle.math_valued.specs.Degree.{Has, Lt}
-use Rattle.math_valued.specs.Polynomial.{polys, Poly, Divides, IsUnit}
 use Rattle.math_valued.proofs.Degree as d
 use Rattle.math_valued.proofs.Polynomial.{P-path, const-unit}
 use Rattle.num_mod.specs.Residue.{IsModulus}
 use Rattle.num_mod.specs.Prepared.{PreparedOf, ready}
 use Rattle.num_mod.specs.declared.Modulus.{Modulus}
-use Rattle.math_rows.specs.Reading.{Reading}
 use Rattle.math_rows.specs.Made.{reading}
-use Rattle.math_rows.specs.Row.{Row, Size, row}
-use Rattle.math_turns.specs.Points.{Pt, Moved}
+use Rattle.math_rows.specs.Row.{Size}
 use Rattle.poly_rows.proofs.Leaf.{size-one}
+use Rattle.poly_rows.proofs.Lengths.{size-of}
 use Rattle.field_open.specs.Refusal.{Accepted}
-use Rattle.math_ideals.specs.Setting.{Setting, P}
 use Rattle.math_ideals.specs.Ideal.{Basis}
 use Rattle.math_ideals.specs.Basis.{Good}
 use Rattle.math_ideals.specs.Next.{Next}
 use Rattle.math_ideals.proofs.Degrees.{small}
 use Rattle.math_ideals.proofs.Divided.{ev-M}
 use Rattle.math_chain.specs.Chain.{Degree}
-use Rattle.math_chain.proofs.Parts.{Parts, Cut, x1, y1, base}
-use Rattle.math_chain.proofs.Changed.{Pair, Changed}
+use Rattle.math_chain.proofs.Parts.{x1, y1, base}
 use Rattle.math_chain.proofs.Moved.{changed-of}
-use Rattle.math_chain.proofs.Frame.{pair, off, Framed, Rebased}
+use Rattle.math_chain.proofs.Frame.{pair, Framed, Rebased}
 use Rattle.math_chain.proofs.Correct.{Ends, base-framed, step-correct}
-use Rattle.basis_record.specs.Record.{part, setting, polyOf, basisOf, IsRecord}
-use Rattle.step_divide.specs.Rows.{Seven, seven, AreRows, rowsOf}
+use Rattle.basis_record.specs.Record.{setting, polyOf, basisOf}
+use Rattle.basis_record.specs.Seven.{Seven, seven, AreRows, rowsOf}
 use Rattle.step_divide.proofs.Products.{sizes}
 use Rattle.step_divide.specs.Generated.{Generators, Generated, GeneratorsIn, AreGenerators}
-use Rattle.basis_parts.specs.Frame.{frame, Meaning}
+use Rattle.basis_parts.specs.Frame.{frame}
 use Rattle.basis_reduce.specs.Clear as reduced
-use Rattle.basis_scale.specs.Store.{SevenLoaded}
+use Rattle.basis_record.specs.Store.{SevenLoaded}
 use Rattle.basis_scale.specs.Based.{BasisIn, BasedAt, Based}
-use Rattle.basis_scale.proofs.Loads.{rows-are, rows-path, rows-good}
-use Rattle.step_next.specs.Steps.{Known, Keeps, Steps, AdvanceIn, Advanced}
+use Rattle.basis_record.proofs.Loads.{rows-are, rows-path, rows-good}
+use Rattle.step_next.specs.Steps.{Known, AdvanceIn, Advanced}
 use Rattle.step_next.specs.declared.Advance.{Advance}
-use Rattle.step_next.proofs.Reduction.{size-of, pairOf, RowsOf, meaning, cut-low, basis-in}
+use Rattle.step_next.proofs.Reduction.{pairOf, RowsOf, meaning, cut-low, basis-in}
 
 -- ---- from the end of the reduction to the next basis
 module _ {p : ℕ} {G H : List ℕ} (A : Accepted p G H) {g h gh : List ℕ} {n dr dw : ℕ} {r w : List ℕ} (k : Known A g h gh n dr dw r w)
@@ -107,8 +101,8 @@ pub degree-of : {p : ℕ} {G H : List ℕ} (A : Accepted p G H) (b : Seven) → 
     → (lu ≤ lm) × Degree (setting A) (rowsOf A b) (lm - lu)
 degree-of {p} A b rows good lm lu sm su =
     let s = small (setting A) (rowsOf A b) good in
-    let e : lm ≡ suc (s .x) = size-one sm (size-of (reading p (A .prime)) (rows .m0) (s .M0)) in
-    let f : lu ≡ suc (s .u) = size-one su (size-of (reading p (A .prime)) (rows .u) (s .U-has)) in
+    let e : lm ≡ suc (s .x) = size-one sm (size-of (reading p (A .prime)) (rows 0) (s .M0)) in
+    let f : lu ≡ suc (s .u) = size-one su (size-of (reading p (A .prime)) (rows 6) (s .U-has)) in
     let l : s .u < s .x = s .u<x in
     (omega arith, record { x = s .x; u = s .u; M-deg = ev-M (setting A) (rowsOf A b) s; U-deg = s .U-has; eq = omega arith })
 

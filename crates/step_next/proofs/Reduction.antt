@@ -2,55 +2,37 @@
 use mathlib.Core.Path.{_≡_, refl, sym, ap, ap₂, _∙_, subst}
 use mathlib.Core.Logic.{_≢_, _⊎_, inl, inr}
 use mathlib.Core.List.{List}
-use Prim.Native.Nat.{ℕ, zero, suc, _+_, _-_, _*_, _%_, _<_, _≤_}
+use Prim.Native.Nat.{ℕ, suc, _+_, _-_, _<_, _≤_}
 use native.Mathlib.Omega.{arith}
-use lib.ListN.{length, getD}
 use Rattle.math_ring.proofs.Laws as rg
-use Rattle.math_ring.specs.Ring.{Ops, CRing}
-use Rattle.math_fp.specs.Fp.{Prime}
-use Rattle.math_valued.specs.Val.{Valued}
 use Rattle.math_valued.specs.Degree.{Has, Lt}
 use Rattle.math_valued.specs.Polynomial.{polys, Poly}
 use Rattle.math_valued.proofs.Degree as d
-use Rattle.math_valued.proofs.Polynomial.{P-path, view, not-zero}
+use Rattle.math_valued.proofs.Polynomial.{view, not-zero}
 use Rattle.num_mod.specs.Prepared.{ready}
 use Rattle.num_mod.proofs.Prepared.{ready-prepared}
 use Rattle.math_rows.specs.Reading.{Reading}
 use Rattle.math_rows.specs.Made.{reading}
-use Rattle.math_rows.specs.Row.{Row, Size, row}
-use Rattle.math_rows.proofs.Rows.{size-le, size-has}
-use Rattle.math_rows.proofs.Floors.{sized, zero-row}
+use Rattle.math_rows.specs.Row.{Row, row}
 use Rattle.math_turns.specs.Points.{Pt}
 use Rattle.math_turns.proofs.Turn.{b-lt, c-lt}
 use Rattle.field_open.specs.Refusal.{Accepted}
-use Rattle.math_ideals.specs.Setting.{Setting, dGH}
+use Rattle.math_ideals.specs.Setting.{Setting}
 use Rattle.math_ideals.specs.Ideal.{det}
 use Rattle.math_ideals.specs.Basis.{Good}
-use Rattle.math_ideals.specs.Element.{X, Y}
 use Rattle.math_ideals.proofs.Degrees.{small}
-use Rattle.math_chain.proofs.Parts.{Parts, Cut, base, base-d}
+use Rattle.math_chain.proofs.Parts.{base}
 use Rattle.math_chain.proofs.Room.{Room, room}
-use Rattle.basis_record.specs.Record.{setting, polyOf}
-use Rattle.step_divide.specs.Rows.{Seven, rowsOf}
+use Rattle.basis_record.specs.Record.{setting}
+use Rattle.basis_record.specs.Seven.{Seven, rowsOf}
 use Rattle.step_divide.specs.Generated.{Generators, Generated}
 use Rattle.step_divide.proofs.Coordinates.{r-narrow, w-narrow}
 use Rattle.step_divide.proofs.Products.{sizes}
-use Rattle.basis_parts.specs.Frame.{Frame, frame, Fine, Meaning, Short}
+use Rattle.basis_parts.specs.Frame.{frame, Meaning, Short}
 use Rattle.basis_reduce.specs.Clear.{Pair, pair, ClearIn}
 use Rattle.basis_scale.specs.Based.{BasisIn}
-use Rattle.basis_scale.proofs.Place.{row-short}
+use Rattle.poly_rows.proofs.Lengths.{row-short, size-of, odd-prime}
 use Rattle.step_next.specs.Steps.{Known, Keeps}
-
--- a row with a degree has that size
-pub size-of : {p : ℕ} (ρ : Reading p) {l : List ℕ} {k : ℕ} → Row p l → Has (ρ .𝓥) (row ρ l) k → Size l (suc k)
-size-of ρ {l} {k} r h = go (sized l)
-  where
-    go : (n : ℕ) × Size l n → Size l (suc k)
-    go (zero, s) = absurd (not-zero (ρ .𝓥) h (zero-row ρ l s))
-    go (suc n, s) = subst (λ j. Size l (suc j)) (d.same (ρ .𝓥) (size-has ρ r s) h) s
-
-pub odd-prime : (p : ℕ) → Prime p → 5 ≤ p → p % 2 ≡ 1
-odd-prime p pr l = let h : p % 2 ≢ 0 = pr .only 2 (omega arith) (omega arith) in omega (arith, h)
 
 abbrev pub pairOf : Generators → Pair
 pairOf o = pair (o .mb) (o .mc) (o .nb) (o .nc)

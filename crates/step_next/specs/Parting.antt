@@ -8,11 +8,9 @@ use Prim.Native.Nat.{ℕ, _-_}
 use lib.ListN.{replicate}
 use Rattle.num_mod.specs.Prepared.{PreparedOf}
 use Rattle.num_mod.specs.declared.Modulus.{Modulus}
-use Rattle.step_divide.specs.Rows.{Seven}
-use Rattle.step_divide.specs.Quotients.{Three}
-use Rattle.step_divide.specs.Known.{Blank}
+use Rattle.basis_record.specs.Seven.{Seven, Three, Blank}
 use Rattle.step_divide.specs.Generated.{Generators, Divided}
-use Rattle.basis_scale.specs.Store.{SevenLoaded}
+use Rattle.basis_record.specs.Store.{SevenLoaded}
 use Rattle.step_next.specs.Steps.{AdvanceIn}
 use Rattle.step_next.specs.declared.Measures.{Measures}
 

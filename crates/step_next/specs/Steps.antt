@@ -14,7 +14,7 @@ use Rattle.field_open.specs.Refusal.{Accepted}
 use Rattle.math_ideals.specs.Next.{Next}
 use Rattle.math_chain.specs.Chain.{Degree}
 use Rattle.basis_record.specs.Record.{setting, basisOf, IsRecord}
-use Rattle.step_divide.specs.Rows.{Holds}
+use Rattle.basis_record.specs.Seven.{Holds}
 use Rattle.step_next.specs.declared.Advance.{Advance}
 
 pub record Known {p : ℕ} {G H : List ℕ} (A : Accepted p G H) (g h gh : List ℕ) (n dr dw : ℕ) (r w : List ℕ) : Type 0 where

@@ -1,11 +1,6 @@
 // The step: from the record of a reduced ideal to that of the ideal divided by m, with the degree of m.
 use basis_parts::Bounds;
-use basis_scale::load;
-use basis_scale::reduced_basis;
-use num_mod::Modulus;
-use num_mod::prepare;
-use step_divide::divided;
-ghost use Rattle.step_divide.specs.Quotients.{three};
+use basis_record::load;
 ghost use Rattle.step_divide.specs.Generated.{generators};
 ghost use Rattle.step_next.specs.Steps.{AdvanceIn, Advanced};
 ghost use Rattle.step_next.specs.Parting.{PartIn, Parting, AdvanceOn};

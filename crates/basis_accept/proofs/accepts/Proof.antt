@@ -7,7 +7,7 @@ use Rattle.basis_accept.proofs.accepts.Reads as reads
 use Rattle.basis_accept.proofs.accepts.Lts as lts
 use Rattle.basis_shape.proofs.below.Reads as below-reads
 use Rattle.basis_accept.proofs.passes.Reads as passes-reads
-use Rattle.basis_scale.proofs.load.Reads as load-reads
+use Rattle.basis_record.proofs.load.Reads as load-reads
 
 below-requires : tie.Need-below-requires
 below-requires c κs = search needs

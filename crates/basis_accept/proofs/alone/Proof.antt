@@ -8,22 +8,40 @@ use Rattle.basis_accept.proofs.alone.Reads as reads
 use Rattle.basis_accept.proofs.alone.Lts as lts
 
 gcd-requires : tie.Need-gcd-requires
-gcd-requires c κs = search needs
+gcd-requires c κs =
+    let i = c .pre in
+    let r = i .rows in
+    record { modulus = i .modulus; prime = i .prime; hx = i .rows 6; hy = search (r 0, r 1, r 2, r 3, r 4, r 5) }
 
 gcd-requires-2 : tie.Need-gcd-requires-2
-gcd-requires-2 c κs = search needs
+gcd-requires-2 c κs =
+    let i = c .before .before .pre in
+    let r = i .rows in
+    record { modulus = i .modulus; prime = i .prime; hx = c .before .gcd .ensures .is-row; hy = search (r 0, r 1, r 2, r 3, r 4, r 5) }
 
 gcd-requires-3 : tie.Need-gcd-requires-3
-gcd-requires-3 c κs = search needs
+gcd-requires-3 c κs =
+    let i = c .before .before .before .before .pre in
+    let r = i .rows in
+    record { modulus = i .modulus; prime = i .prime; hx = c .before .gcd2 .ensures .is-row; hy = search (r 0, r 1, r 2, r 3, r 4, r 5) }
 
 gcd-requires-4 : tie.Need-gcd-requires-4
-gcd-requires-4 c κs = search needs
+gcd-requires-4 c κs =
+    let i = c .before .before .before .before .before .before .pre in
+    let r = i .rows in
+    record { modulus = i .modulus; prime = i .prime; hx = c .before .gcd3 .ensures .is-row; hy = search (r 0, r 1, r 2, r 3, r 4, r 5) }
 
 gcd-requires-5 : tie.Need-gcd-requires-5
-gcd-requires-5 c κs = search needs
+gcd-requires-5 c κs =
+    let i = c .before .before .before .before .before .before .before .before .pre in
+    let r = i .rows in
+    record { modulus = i .modulus; prime = i .prime; hx = c .before .gcd4 .ensures .is-row; hy = search (r 0, r 1, r 2, r 3, r 4, r 5) }
 
 gcd-requires-6 : tie.Need-gcd-requires-6
-gcd-requires-6 c κs = search needs
+gcd-requires-6 c κs =
+    let i = c .before .before .before .before .before .before .before .before .before .before .pre in
+    let r = i .rows in
+    record { modulus = i .modulus; prime = i .prime; hx = c .before .gcd5 .ensures .is-row; hy = search (r 0, r 1, r 2, r 3, r 4, r 5) }
 
 size-requires : tie.Need-size-requires
 size-requires c κs = search needs

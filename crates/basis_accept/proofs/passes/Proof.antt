@@ -3,7 +3,7 @@ use Prim.Native.Nat.{_≤_, _+_}
 use native.Mathlib.Omega.{arith}
 use borrow.Author.Needs.{needs}
 use Rattle.basis_field.proofs.Ground.{known-modulus}
-use Rattle.basis_accept.proofs.Accepting.{narrow-in, sum-low, shaped-by, shaped-from, alone-from, shaped-in, alone-in, under-in, passes-as, not-narrow, not-shaped, not-alone}
+use Rattle.basis_accept.proofs.Accepting.{narrow-in, sum-low, shaped-by, shaped-from, alone-from, under-from, shaped-in, alone-in, under-in, passes-as, not-narrow, not-shaped, not-alone}
 use Rattle.basis_accept.proofs.passes.Statement.{statement}
 use Rattle.basis_accept.proofs.passes.Tie as tie
 use Rattle.basis_accept.proofs.passes.Reads as reads
@@ -11,7 +11,7 @@ use Rattle.basis_accept.proofs.passes.Lts as lts
 use Rattle.basis_accept.proofs.alone.Reads as alone-reads
 use Rattle.basis_shape.proofs.narrow.Reads as narrow-reads
 use Rattle.basis_accept.proofs.shaped.Reads as shaped-reads
-use Rattle.basis_lattice.proofs.under.Reads as under-reads
+use Rattle.basis_closed.proofs.under.Reads as under-reads
 
 add-narrow : tie.Need-add-narrow
 add-narrow c = let l = sum-low (c .before .before .before .before .pre) in record { fits = omega (arith, l) }
@@ -38,10 +38,10 @@ alone-requires : tie.Need-alone-requires
 alone-requires c κs = alone-in (c .before .before .before .before .before .before .before .before .before .before .before .before .before .pre) (c .before .before .before .before .before .prepare .ensures)
 
 under-requires : tie.Need-under-requires
-under-requires c κs = under-in (c .before .before .before .before .before .before .before .before .before .before .before .before .before .before .before .before .before .before .before .before .before .pre) (c .before .before .before .before .before .before .before .before .before .before .before .before .before .before .if1 .taken) (c .before .before .before .before .before .before .before .before .before .before .before .before .before .before .before .narrow .ensures) (c .before .before .before .before .before .before .before .before .if2 .taken) (shaped-from _ (c .before .before .before .before .before .before .before .before .before .before .before .before .before .prepare .ensures) (c .before .before .before .before .before .before .before .before .before .shaped .ensures))
+under-requires c κs = under-in (c .before .before .before .before .before .before .before .before .before .before .before .before .before .before .before .before .before .before .before .before .before .pre) (c .before .before .before .before .before .before .before .before .before .before .before .before .before .before .if1 .taken) (c .before .before .before .before .before .before .before .before .before .before .before .before .before .before .before .narrow .ensures) (c .before .before .before .before .before .before .before .before .if2 .taken) (shaped-from _ (c .before .before .before .before .before .before .before .before .before .before .before .before .before .prepare .ensures) (c .before .before .before .before .before .before .before .before .before .shaped .ensures)) (c .before .before .before .before .before .before .before .before .before .before .before .before .before .prepare .ensures)
 
 returns : tie.Need-returns
-returns c = passes-as (c .before .before .before .before .before .before .before .before .before .before .before .before .before .before .before .before .before .before .before .before .before .before .pre) (c .before .before .before .before .before .before .before .before .before .before .before .before .before .before .before .if1 .taken) (c .before .before .before .before .before .before .before .before .before .before .before .before .before .before .before .before .narrow .ensures) (c .before .before .before .before .before .before .before .before .before .if2 .taken) (shaped-from _ (c .before .before .before .before .before .before .before .before .before .before .before .before .before .before .prepare .ensures) (c .before .before .before .before .before .before .before .before .before .before .shaped .ensures)) (c .before .before .before .before .before .before .before .if3 .taken) (alone-from _ (c .before .before .before .before .before .before .before .before .before .before .before .before .before .before .prepare .ensures) (c .before .before .before .before .before .before .before .before .alone .ensures)) _ (c .under .ensures)
+returns c = passes-as (c .before .before .before .before .before .before .before .before .before .before .before .before .before .before .before .before .before .before .before .before .before .before .pre) (c .before .before .before .before .before .before .before .before .before .before .before .before .before .before .before .if1 .taken) (c .before .before .before .before .before .before .before .before .before .before .before .before .before .before .before .before .narrow .ensures) (c .before .before .before .before .before .before .before .before .before .if2 .taken) (shaped-from _ (c .before .before .before .before .before .before .before .before .before .before .before .before .before .before .prepare .ensures) (c .before .before .before .before .before .before .before .before .before .before .shaped .ensures)) (c .before .before .before .before .before .before .before .if3 .taken) (alone-from _ (c .before .before .before .before .before .before .before .before .before .before .before .before .before .before .prepare .ensures) (c .before .before .before .before .before .before .before .before .alone .ensures)) _ (under-from _ (c .before .before .before .before .before .before .before .before .before .before .before .before .before .before .prepare .ensures) (c .under .ensures))
 
 returns-2 : tie.Need-returns-2
 returns-2 c = not-alone (c .before .before .before .before .before .before .before .before .before .before .before .before .before .before .before .pre) (c .if3 .left) (alone-from _ (c .before .before .before .before .before .before .before .prepare .ensures) (c .before .alone .ensures))

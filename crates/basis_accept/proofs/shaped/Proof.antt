@@ -1,10 +1,7 @@
 -- `basis_accept::shaped` meets its contract: the shape of the polynomial parts.
-use borrow.Author.Needs.{needs}
 use Rattle.basis_accept.proofs.Shapes.{part-m, part-n, twice-in, shaped-of}
 use Rattle.basis_accept.proofs.shaped.Statement.{statement}
 use Rattle.basis_accept.proofs.shaped.Tie as tie
-use Rattle.basis_accept.proofs.shaped.Reads as reads
-use Rattle.basis_accept.proofs.shaped.Lts as lts
 
 part-requires : tie.Need-part-requires
 part-requires c κs = part-m (c .pre)
@@ -18,25 +15,45 @@ part-requires-3 c κs = part-n (c .before .before .pre)
 part-requires-4 : tie.Need-part-requires-4
 part-requires-4 c κs = part-n (c .before .before .before .pre)
 
-cross-requires : tie.Need-cross-requires
-cross-requires c κs = twice-in (c .before .before .before .before .before .pre) (c .before .before .before .before .before .pre .rows .m0) (c .before .before .before .before .part .ensures .short .is-row)
+cross-in-requires : tie.Need-cross-in-requires
+cross-in-requires c κs =
+    let i = c .before .before .before .before .before .before .before .pre in
+    twice-in i (i .rows 0) (c .before .before .before .before .before .before .part .ensures .short .is-row)
 
-cross-requires-2 : tie.Need-cross-requires-2
-cross-requires-2 c κs = twice-in (c .before .before .before .before .before .before .before .pre) (c .before .before .before .before .before .before .before .pre .rows .n0) (c .before .before .before .before .part3 .ensures .short .is-row)
+cross-in-requires-2 : tie.Need-cross-in-requires-2
+cross-in-requires-2 c κs =
+    let i = c .before .before .before .before .before .before .before .before .before .before .pre in
+    twice-in i (i .rows 3) (c .before .before .before .before .before .before .before .part3 .ensures .short .is-row)
 
 shape-requires : tie.Need-shape-requires
 shape-requires c κs = record {
-  hu = c .before .before .before .before .before .before .before .before .before .before .before .before .before .before .pre .rows .u .size;
-  hmx = c .before .before .before .before .before .before .before .before .before .before .before .before .before .part .ensures .short .is-row .size;
-  hmy = c .before .before .before .before .before .before .before .before .before .before .before .before .part2 .ensures .short .is-row .size;
-  hnx = c .before .before .before .before .before .before .before .before .before .before .before .part3 .ensures .short .is-row .size;
-  hny = c .before .before .before .before .before .before .before .before .before .before .part4 .ensures .short .is-row .size;
-  hzm = c .before .before .before .before .before .before .before .before .cross .ensures .is-row .size;
-  hzn = c .before .before .before .before .before .before .cross2 .ensures .is-row .size;
+  hu = c .before .before .before .before .before .before .before .before .before .before .before .before .before .before .before .before .before .pre .rows 6 .size;
+  hmx = c .before .before .before .before .before .before .before .before .before .before .before .before .before .before .before .before .part .ensures .short .is-row .size;
+  hmy = c .before .before .before .before .before .before .before .before .before .before .before .before .before .before .before .part2 .ensures .short .is-row .size;
+  hnx = c .before .before .before .before .before .before .before .before .before .before .before .before .before .before .part3 .ensures .short .is-row .size;
+  hny = c .before .before .before .before .before .before .before .before .before .before .before .before .before .part4 .ensures .short .is-row .size;
+  hzm = c .before .before .before .before .before .before .before .before .before .cross-in .ensures .short .is-row .size;
+  hzn = c .before .before .before .before .before .before .cross-in2 .ensures .short .is-row .size;
 }
 
 returns : tie.Need-returns
-returns c = λ μ. shaped-of μ (c .before .before .before .before .before .before .before .before .before .before .before .before .before .before .before .pre) (c .before .before .before .before .before .before .before .before .before .before .before .before .before .before .part .ensures) (c .before .before .before .before .before .before .before .before .before .before .before .before .before .part2 .ensures) (c .before .before .before .before .before .before .before .before .before .before .before .before .part3 .ensures) (c .before .before .before .before .before .before .before .before .before .before .before .part4 .ensures) (c .before .before .before .before .before .before .before .before .before .cross .ensures) (c .before .before .before .before .before .before .before .cross2 .ensures) (c .shape .ensures)
+returns c =
+    let i = c .before .before .before .before .before .before .before .before .before .before .before .before .before .before .before .before .before .before .pre in
+    let mx = c .before .before .before .before .before .before .before .before .before .before .before .before .before .before .before .before .before .part .ensures in
+    let my = c .before .before .before .before .before .before .before .before .before .before .before .before .before .before .before .before .part2 .ensures in
+    let nx = c .before .before .before .before .before .before .before .before .before .before .before .before .before .before .before .part3 .ensures in
+    let ny = c .before .before .before .before .before .before .before .before .before .before .before .before .before .before .part4 .ensures in
+    λ μ. shaped-of μ i mx my nx ny (c .before .before .before .before .before .before .before .before .before .before .cross-in .ensures .crossed) (c .before .before .before .before .before .before .before .cross-in2 .ensures .crossed) (c .shape .ensures)
 
 pub shaped-spec : {M : Type 1} → statement M
-shaped-spec = tie.close (tie.spec part-requires part-requires-2 part-requires-3 part-requires-4 cross-requires cross-requires-2 shape-requires returns)
+shaped-spec =
+    tie.close
+    (tie.spec
+    part-requires
+    part-requires-2
+    part-requires-3
+    part-requires-4
+    cross-in-requires
+    cross-in-requires-2
+    shape-requires
+    returns)

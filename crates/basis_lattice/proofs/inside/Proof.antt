@@ -1,42 +1,59 @@
--- `basis_lattice::inside` meets its contract: the last rest.
+-- `basis_lattice::inside` meets its contract: what is left by U decides.
+use mathlib.Core.Path.{refl}
 use native.Mathlib.Omega.{arith}
-use borrow.Author.Needs.{needs}
+use Rattle.num_mod.proofs.Prepared.{bare}
+use Rattle.poly_rows.proofs.Lengths.{by-inverse}
 use Rattle.book_bytes.proofs.Tests.{answer-yes, answer-no}
-use Rattle.basis_lattice.proofs.Members.{by-inverse, room-of, inside-yes, inside-no}
+use Rattle.basis_lattice.proofs.Members.{inside-both, inside-yes, inside-no}
 use Rattle.basis_lattice.proofs.inside.Statement.{statement}
 use Rattle.basis_lattice.proofs.inside.Tie as tie
-use Rattle.basis_lattice.proofs.inside.Reads as reads
-use Rattle.basis_lattice.proofs.inside.Lts as lts
 
-divide-requires : tie.Need-divide-requires
-divide-requires c κs = let i = c .pre in by-inverse (i .modulus) (i .hb) (i .hu .is-row) (i .by-u)
+divide-in-requires : tie.Need-divide-in-requires
+divide-in-requires c κs =
+    let i = c .before .before .pre in
+    record { inp = by-inverse (bare (i .modulus)) (i .hb) (i .hu .is-row) (i .by-u); modulus = i .modulus; sa = i .sb; sb = i .su; blank = refl }
 
-divide-requires-2 : tie.Need-divide-requires-2
-divide-requires-2 c κs = let i = c .before .pre in by-inverse (i .modulus) (i .hc) (i .hu .is-row) (i .by-u)
+divide-in-requires-2 : tie.Need-divide-in-requires-2
+divide-in-requires-2 c κs =
+    let i = c .before .before .before .before .before .pre in
+    record { inp = by-inverse (bare (i .modulus)) (i .hc) (i .hu .is-row) (i .by-u); modulus = i .modulus; sa = i .sc; sb = i .su; blank = refl }
 
-mul-requires : tie.Need-mul-requires
-mul-requires c κs = let i = c .before .before .before .before .before .pre in room-of (i .prime) (i .modulus) (c .before .before .before .before .divide .ensures) (i .hu) (i .by-u) (i .hm)
+both-in-requires : tie.Need-both-in-requires
+both-in-requires c κs =
+    let i = c .before .before .before .before .before .before .before .before .before .pre in
+    inside-both (i .prime) i (c .before .before .before .before .before .before .divide-in .ensures) (c .before .before .before .divide-in2 .ensures)
 
-mul-requires-2 : tie.Need-mul-requires-2
-mul-requires-2 c κs = let i = c .before .before .before .before .before .before .before .pre in room-of (i .prime) (i .modulus) (c .before .before .before .before .before .divide2 .ensures) (i .hu) (i .by-u) (i .hn)
-
-add-requires : tie.Need-add-requires
-add-requires c κs = search needs
-
-sub-requires : tie.Need-sub-requires
-sub-requires c κs = search needs
-
-divide-requires-3 : tie.Need-divide-requires-3
-divide-requires-3 c κs = let i = c .before .before .before .before .before .before .before .before .before .before .before .before .before .before .pre in by-inverse (i .modulus) (c .before .sub .ensures .is-row) (i .hu .is-row) (i .by-u)
-
-size-requires : tie.Need-size-requires
-size-requires c κs = search needs
+divide-in-requires-3 : tie.Need-divide-in-requires-3
+divide-in-requires-3 c κs =
+    let i = c .before .before .before .before .before .before .before .before .before .before .before .before .pre in
+    let d = c .before .before .both-in .ensures in
+    record { inp = by-inverse (bare (i .modulus)) (d .is-row) (i .hu .is-row) (i .by-u); modulus = i .modulus; sa = d .size; sb = i .su; blank = refl }
 
 returns : tie.Need-returns
-returns c = (λ pr. answer-yes (inside-yes pr (c .before .before .before .before .before .before .before .before .before .before .before .before .before .before .before .before .before .before .before .pre) (c .before .before .before .before .before .before .before .before .before .before .before .before .before .before .before .before .before .before .divide .ensures) (c .before .before .before .before .before .before .before .before .before .before .before .before .before .before .before .before .before .divide2 .ensures) (c .before .before .before .before .before .before .before .before .before .before .before .before .before .mul .ensures) (c .before .before .before .before .before .before .before .before .before .before .before .mul2 .ensures) (c .before .before .before .before .before .before .before .before .add .ensures) (c .before .before .before .before .before .before .sub .ensures) (c .before .before .before .before .divide3 .ensures) (c .before .size .ensures) (omega (arith, c .if1 .taken))))
+returns c =
+    let i = c .before .before .before .before .before .before .before .before .before .before .before .before .before .before .pre in
+    let x = c .before .before .before .before .before .before .before .before .before .before .before .divide-in .ensures in
+    let y = c .before .before .before .before .before .before .before .before .divide-in2 .ensures in
+    let d = c .before .before .before .before .both-in .ensures in
+    let z = c .before .divide-in3 .ensures in
+    λ pr. answer-yes (inside-yes pr i (x .divided) (y .divided) d (z .divided) (z .sr) (omega (arith, c .if1 .taken)))
 
 returns-2 : tie.Need-returns-2
-returns-2 c = (λ pr. answer-no (inside-no pr (c .before .before .before .before .before .before .before .before .before .before .before .before .before .before .before .before .before .before .before .pre) (c .before .before .before .before .before .before .before .before .before .before .before .before .before .before .before .before .before .before .divide .ensures) (c .before .before .before .before .before .before .before .before .before .before .before .before .before .before .before .before .before .divide2 .ensures) (c .before .before .before .before .before .before .before .before .before .before .before .before .before .mul .ensures) (c .before .before .before .before .before .before .before .before .before .before .before .mul2 .ensures) (c .before .before .before .before .before .before .before .before .add .ensures) (c .before .before .before .before .before .before .sub .ensures) (c .before .before .before .before .divide3 .ensures) (c .before .size .ensures) (λ e. c .if1 .left (omega (arith, e)))))
+returns-2 c =
+    let i = c .before .before .before .before .before .before .before .before .before .before .before .before .before .before .pre in
+    let x = c .before .before .before .before .before .before .before .before .before .before .before .divide-in .ensures in
+    let y = c .before .before .before .before .before .before .before .before .divide-in2 .ensures in
+    let d = c .before .before .before .before .both-in .ensures in
+    let z = c .before .divide-in3 .ensures in
+    λ pr. answer-no (inside-no pr i (x .divided) (y .divided) d (z .divided) (z .sr) (λ e. c .if1 .left (omega (arith, e))))
 
 pub inside-spec : {M : Type 1} → statement M
-inside-spec = tie.close (tie.spec divide-requires divide-requires-2 mul-requires mul-requires-2 add-requires sub-requires divide-requires-3 size-requires returns returns-2)
+inside-spec =
+    tie.close
+    (tie.spec
+    divide-in-requires
+    divide-in-requires-2
+    both-in-requires
+    divide-in-requires-3
+    returns
+    returns-2)

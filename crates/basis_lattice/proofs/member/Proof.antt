@@ -1,40 +1,81 @@
--- `basis_lattice::member` meets its contract: three divisions.
+-- `basis_lattice::member` meets its contract: three divisions, and what each leaves.
+use mathlib.Core.Path.{refl}
 use native.Mathlib.Omega.{arith}
-use borrow.Author.Needs.{needs}
 use Rattle.book_bytes.proofs.Tests.{answer-no}
-use Rattle.basis_lattice.proofs.Members.{by-inverse, member-first, member-second, member-of, member-in, carried}
+use Rattle.basis_lattice.proofs.Members.{member-first, member-second, member-of, member-in, carried}
 use Rattle.basis_lattice.proofs.member.Statement.{statement}
 use Rattle.basis_lattice.proofs.member.Tie as tie
 
-det-requires : tie.Need-det-requires
-det-requires c κs = search needs
+outer-requires : tie.Need-outer-requires
+outer-requires c κs =
+    record { va = _; na = _; m0 = _; n0 = _; u = _; inp = c .before .before .before .before .pre .inp; blank-s = refl; blank-t = refl; blank-β = refl; blank-γ = refl }
 
-det-requires-2 : tie.Need-det-requires-2
-det-requires-2 c κs = search needs
-
-divide-requires : tie.Need-divide-requires
-divide-requires c κs = let i = c .before .before .before .pre in by-inverse (i .modulus) (c .before .before .det .ensures .is-row) (i .he) (i .by-e)
-
-divide-requires-2 : tie.Need-divide-requires-2
-divide-requires-2 c κs = let i = c .before .before .before .before .before .pre in by-inverse (i .modulus) (c .before .before .before .det2 .ensures .is-row) (i .he) (i .by-e)
-
-size-requires : tie.Need-size-requires
-size-requires c κs = search needs
+less-in-requires : tie.Need-less-in-requires
+less-in-requires c κs =
+    let i = c .before .before .before .before .before .before .before .pre .inp in
+    let o = c .before .before .outer .ensures in
+    record { modulus = i .modulus; hx = o .β-is .quotient .is-row; hy = i .he; sx = o .β-is .size; sy = i .se; fits = o .β-is .quotient .room _ _ (o .β-is .size) (i .se); hr = o .s-is .is-row }
 
 returns : tie.Need-returns
-returns c = (λ pr. answer-no (member-first pr (c .before .before .before .before .before .before .before .before .before .before .before .before .before .pre) (c .before .before .before .before .before .before .before .before .before .before .before .before .det .ensures) (c .before .before .before .before .before .before .before .before .before .before .before .det2 .ensures) (c .before .before .before .before .before .before .before .before .before .divide .ensures) (c .before .before .before .before .before .before .before .divide2 .ensures) (c .before .size .ensures) (c .if1 .taken)))
+returns c =
+    let i = c .before .before .before .before .before .before .before .before .before .pre .inp in
+    let o = c .before .before .before .before .outer .ensures in
+    let x = c .before .less-in .ensures in
+    λ pr. answer-no (member-first pr i o x (c .if1 .taken))
 
-size-requires-2 : tie.Need-size-requires-2
-size-requires-2 c κs = search needs
+less-in-requires-2 : tie.Need-less-in-requires-2
+less-in-requires-2 c κs =
+    let i = c .before .before .before .before .before .before .before .before .before .before .before .pre .inp in
+    let o = c .before .before .before .before .before .before .outer .ensures in
+    record { modulus = i .modulus; hx = o .γ-is .quotient .is-row; hy = i .he; sx = o .γ-is .size; sy = i .se; fits = o .γ-is .quotient .room _ _ (o .γ-is .size) (i .se); hr = o .t-is .is-row }
 
 returns-2 : tie.Need-returns-2
-returns-2 c = (λ pr. answer-no (member-second pr (c .before .before .before .before .before .before .before .before .before .before .before .before .before .before .before .before .pre) (c .before .before .before .before .before .before .before .before .before .before .before .before .before .before .before .det .ensures) (c .before .before .before .before .before .before .before .before .before .before .before .before .before .before .det2 .ensures) (c .before .before .before .before .before .before .before .before .before .before .before .before .divide .ensures) (c .before .before .before .before .before .before .before .before .before .before .divide2 .ensures) (c .before .before .before .before .size .ensures) (c .before .size2 .ensures) (c .if2 .taken)))
+returns-2 c =
+    let i = c .before .before .before .before .before .before .before .before .before .before .before .before .before .pre .inp in
+    let o = c .before .before .before .before .before .before .before .before .outer .ensures in
+    let x = c .before .before .before .before .before .less-in .ensures in
+    let y = c .before .less-in2 .ensures in
+    λ pr. answer-no (member-second pr i o x y (c .if2 .taken))
 
 inside-requires : tie.Need-inside-requires
-inside-requires c κs = search needs
+inside-requires c κs =
+    let m = c .before .before .before .before .before .before .before .before .before .before .before .before .before .before .before .before .pre in
+    let o = c .before .before .before .before .before .before .before .before .before .before .before .outer .ensures in
+    let i = m .inp in
+    record {
+      modulus = i .modulus;
+      prime = m .prime;
+      ha = i .ha;
+      hb = o .β-is .quotient .is-row;
+      hc = o .γ-is .quotient .is-row;
+      sa = i .sa;
+      sb = o .β-is .size;
+      sc = o .γ-is .size;
+      hm = m .h0;
+      hn = m .k0;
+      hu = m .hu;
+      sm = i .sizes 0;
+      sn = i .sizes 3;
+      su = i .sizes 6;
+      by-u = i .by-u;
+    }
 
 returns-3 : tie.Need-returns-3
-returns-3 c = (λ pr. carried (member-of pr (c .before .before .before .before .before .before .before .before .before .before .before .before .before .before .before .before .before .before .before .pre) (c .before .before .before .before .before .before .before .before .before .before .before .before .before .before .before .before .before .before .det .ensures) (c .before .before .before .before .before .before .before .before .before .before .before .before .before .before .before .before .before .det2 .ensures) (c .before .before .before .before .before .before .before .before .before .before .before .before .before .before .before .divide .ensures) (c .before .before .before .before .before .before .before .before .before .before .before .before .before .divide2 .ensures) (c .before .before .before .before .before .before .before .size .ensures) (c .before .before .before .before .size2 .ensures) (omega arith) (omega arith)) (member-in pr (c .before .before .before .before .before .before .before .before .before .before .before .before .before .before .before .before .before .before .before .pre) (c .before .before .before .before .before .before .before .before .before .before .before .before .before .before .before .before .before .before .det .ensures) (c .before .before .before .before .before .before .before .before .before .before .before .before .before .before .before .before .before .det2 .ensures) (c .before .before .before .before .before .before .before .before .before .before .before .before .before .before .before .divide .ensures) (c .before .before .before .before .before .before .before .before .before .before .before .before .before .divide2 .ensures) (c .before .before .before .before .before .before .before .size .ensures) (c .before .before .before .before .size2 .ensures)) (c .inside .ensures pr))
+returns-3 c =
+    let i = c .before .before .before .before .before .before .before .before .before .before .before .before .before .before .before .before .before .pre .inp in
+    let o = c .before .before .before .before .before .before .before .before .before .before .before .before .outer .ensures in
+    let x = c .before .before .before .before .before .before .before .before .before .less-in .ensures in
+    let y = c .before .before .before .before .before .less-in2 .ensures in
+    λ pr. carried (member-of pr i o x y (omega (arith, c .before .before .before .before .before .before .before .before .if1 .left)) (omega (arith, c .before .before .before .before .if2 .left))) (member-in pr i o x y) (c .inside .ensures pr)
 
 pub member-spec : {M : Type 1} → statement M
-member-spec = tie.close (tie.spec det-requires det-requires-2 divide-requires divide-requires-2 size-requires returns size-requires-2 returns-2 inside-requires returns-3)
+member-spec =
+    tie.close
+    (tie.spec
+    outer-requires
+    less-in-requires
+    returns
+    less-in-requires-2
+    returns-2
+    inside-requires
+    returns-3)

@@ -2,26 +2,16 @@
 use mathlib.Core.Path.{refl}
 use native.Mathlib.Omega.{arith}
 use borrow.Author.Needs.{needs}
-use Rattle.step_divide.specs.Rows.{seven}
-use Rattle.basis_scale.specs.Store.{SevenLoaded}
+use Rattle.basis_record.specs.Seven.{seven}
+use Rattle.basis_record.specs.Store.{Loaded, SevenLoaded}
+use Rattle.basis_record.proofs.Sevens.{each-of-seven}
 use Rattle.step_next.proofs.Made.{lead-low, divided-in, n-small, g-size, h-size, gh-size, dr-low, dw-low, degrees-small, shorter}
 use Rattle.step_next.proofs.parted.Statement.{statement}
 use Rattle.step_next.proofs.parted.Tie as tie
 
 -- the seven rows
-seven-loaded : (c : tie.After-load7)
-    → SevenLoaded (c .before .before .before .before .before .before .before .args .b .now)
-    (seven (c .before .before .before .before .before .before .load .result) (c .before .before .before .before .before .load2 .result) (c .before .before .before .before .load3 .result)
-    (c .before .before .before .load4 .result) (c .before .before .load5 .result) (c .before .load6 .result) (c .load7 .result))
-seven-loaded c = record {
-  m0 = c .before .before .before .before .before .before .load .ensures;
-  m1 = c .before .before .before .before .before .load2 .ensures;
-  m2 = c .before .before .before .before .load3 .ensures;
-  n0 = c .before .before .before .load4 .ensures;
-  n1 = c .before .before .load5 .ensures;
-  n2 = c .before .load6 .ensures;
-  u = c .load7 .ensures;
-}
+seven-loaded : (c : tie.After-load7) → SevenLoaded (c .before .before .before .before .before .before .before .args .b .now) (seven (c .before .before .before .before .before .before .load .result) (c .before .before .before .before .before .load2 .result) (c .before .before .before .before .load3 .result) (c .before .before .before .load4 .result) (c .before .before .load5 .result) (c .before .load6 .result) (c .load7 .result))
+seven-loaded c = record { each = each-of-seven (Loaded _) (c .before .before .before .before .before .before .load .ensures) (c .before .before .before .before .before .load2 .ensures) (c .before .before .before .before .load3 .ensures) (c .before .before .before .load4 .ensures) (c .before .before .load5 .ensures) (c .before .load6 .ensures) (c .load7 .ensures) }
 
 load-requires : tie.Need-load-requires
 load-requires c κs = search needs
