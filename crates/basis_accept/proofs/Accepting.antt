@@ -13,6 +13,9 @@ use lib.ListN.{length, getD}
 use Rattle.math_valued.specs.Val.{Valued}
 use Rattle.math_valued.specs.Degree.{Has, Lt}
 use Rattle.math_valued.proofs.Degree as d
+use Rattle.math_fp.specs.Fp.{Prime}
+use Rattle.num_mod.specs.Prepared.{PreparedOf}
+use Rattle.num_mod.specs.declared.Modulus.{Modulus}
 use Rattle.math_rows.specs.Reading.{Reading}
 use Rattle.math_rows.specs.Made.{reading}
 use Rattle.math_rows.specs.Row.{Row, row}
@@ -23,7 +26,7 @@ use Rattle.field_open.specs.Refusal.{Accepted}
 use Rattle.basis_record.specs.Record.{setting, basisOf, IsRecord}
 use Rattle.field_series.specs.Answer.{Prefix}
 use Rattle.field_series.specs.declared.Cubic.{Cubic}
-use Rattle.basis_reduce.specs.Frame.{Frame, Fine, Short}
+use Rattle.basis_parts.specs.Frame.{Frame, frame, Fine, Short}
 use Rattle.poly_rows.proofs.Lengths.{row-short, monic-inverts}
 use Rattle.basis_record.specs.Seven.{Seven, seven, rowAt, AreRows, rowsOf}
 use Rattle.basis_record.specs.Store.{Loaded, SevenLoaded}
@@ -32,11 +35,11 @@ use Rattle.basis_record.proofs.Loads.{rows-path, rows-good}
 use Rattle.step_divide.proofs.Products.{Sizes, sizes}
 use Rattle.basis_scale.proofs.Start.{meaning}
 use Rattle.basis_field.specs.Known.{Known}
-use Rattle.basis_field.proofs.Ground.{frameOf, frame-is, fine, r-reads, w-reads, modulus, dr-is, dw-is, room}
+use Rattle.basis_field.proofs.Ground.{frameOf, frame-is, frame-by, fine, r-reads, w-reads, modulus, dr-is, dw-is, room}
 use Rattle.basis_field.proofs.Lists.{field-holds, g-row, h-row, gh-row, holds-of}
 use Rattle.base_answers.specs.Decides.{Decides}
 use Rattle.base_answers.proofs.Tests.{answer-no, settled}
-use Rattle.basis_lattice.specs.Closed.{Closed, Given, Room, longest, UnderIn, Under}
+use Rattle.basis_closed.specs.Closed.{Closed, Given, Room, longest, UnderIn, Under}
 use Rattle.basis_shape.specs.Lengths.{Below, Narrow, NarrowIn}
 use Rattle.basis_accept.specs.Tests.{ShapedIn, Shaped, Numbers, AloneIn, Alone}
 use Rattle.basis_accept.specs.Answer.{Seventeen, PassIn, Passes, Accepts}
@@ -121,6 +124,20 @@ each-row z h1 h2 k1 k2 (suc (suc (suc (suc zero)))) = k1
 each-row z h1 h2 k1 k2 (suc (suc (suc (suc (suc zero))))) = k2
 each-row z h1 h2 k1 k2 (suc (suc (suc (suc (suc (suc i)))))) = z .each 6
 
+-- ---- what is prepared of p in place of p
+module _ (c : Cubic) {q : Modulus} (e : PreparedOf (c .field .p) q) {b : Seven} where
+  pub shaped-by : (top : ℕ) → ShapedIn (frameOf c) top b → ShapedIn (frame q (c .r) (c .w) (c .field .dr) (c .field .dw)) top b
+  shaped-by top i = subst (λ F. ShapedIn F top b) (frame-by c e) i
+
+  pub shaped-from : {o : Bool} → Shaped (frame q (c .r) (c .w) (c .field .dr) (c .field .dw)) b o → Shaped (frameOf c) b o
+  shaped-from {o} s = subst (λ F. Shaped F b o) (sym (frame-by c e)) s
+
+  pub under-from : {o : Bool} → Under (q .p) (c .field .g) (c .field .h) (c .field .gh) b o → Under (c .field .p) (c .field .g) (c .field .h) (c .field .gh) b o
+  under-from {o} s = subst (λ p. Under p (c .field .g) (c .field .h) (c .field .gh) b o) (e .is) s
+
+  pub alone-from : {o : Bool} → Alone (q .p) b o → Alone (c .field .p) b o
+  alone-from {o} s = subst (λ p. Alone p b o) (e .is) s
+
 -- ---- one test after the other
 module _ {c : Cubic} {b : Seven} (i : PassIn c b) where
   abbrev pub A₀ : Accepted (i .known .p) (i .known .G) (i .known .H)
@@ -144,9 +161,10 @@ module _ {c : Cubic} {b : Seven} (i : PassIn c b) where
   pub not-alone : {o : Bool} → o ≡ false → Alone (c .field .p) b o → Passes c b false
   not-alone e a p G H A h = answer-no (λ good. alone-at A h a G H A .no! e (good .scaled .seven))
 
-  pub alone-in : AloneIn (c .field .p) b
-  alone-in = subst (λ q. AloneIn q b) (sym (p-is A₀ c (i .known .prefix)))
-      (record { modulus = modulus A₀ c (i .known .prefix); prime = A₀ .prime; rows = are-rows (rows-at A₀ (i .known .prefix)) })
+  pub alone-in : {q : Modulus} → PreparedOf (c .field .p) q → AloneIn q b
+  alone-in {q} e =
+      let u : i .known .p ≡ q .p = sym (p-is A₀ c (i .known .prefix)) ∙ sym (e .is) in
+      record { modulus = e .prepared; prime = subst Prime u (A₀ .prime); rows = subst (λ p. AreRows p b) u (are-rows (rows-at A₀ (i .known .prefix))) }
 
   -- the bounds of the field
   pub sum-low : c .field .dr + c .field .dw ≤ 16
@@ -191,9 +209,10 @@ module _ {c : Cubic} {b : Seven} (i : PassIn c b) where
             by-u = monic-inverts (A₀ .prime) (z .each 6 .is-row) (m .u, 0, v .one≢zero, m .U-lead);
           }
 
-      pub under-in : UnderIn (c .field .p) (c .field .g) (c .field .h) (c .field .gh) b
-      under-in = subst (λ q. UnderIn q (c .field .g) (c .field .h) (c .field .gh) b) (sym (p-is A₀ c (i .known .prefix)))
-          (record { given = given-of A₀ c (i .known .prefix); room = room-of })
+      pub under-in : {q : Modulus} → PreparedOf (c .field .p) q → UnderIn q (c .field .g) (c .field .h) (c .field .gh) b
+      under-in {q} e =
+          let u : i .known .p ≡ q .p = sym (p-is A₀ c (i .known .prefix)) ∙ sym (e .is) in
+          record { given = subst (λ p. Given p (c .field .g) (c .field .h) (c .field .gh)) u (given-of A₀ c (i .known .prefix)); modulus = e .prepared; room = subst (λ p. Room p b) u room-of }
 
       module _ {o₃ : Bool} (e₃ : o₃ ≡ true) (a : Alone (c .field .p) b o₃) where
         pub passes-as : (o₄ : Bool) → Under (c .field .p) (c .field .g) (c .field .h) (c .field .gh) b o₄ → Passes c b o₄

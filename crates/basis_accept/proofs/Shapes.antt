@@ -22,12 +22,11 @@ use Rattle.math_rows.proofs.Rows.{size-lead-at}
 use Rattle.math_rows.proofs.Floors.{sized, floor-lt, floor-top, floor-has, floor-le, floor-lead}
 use Rattle.math_rows.proofs.Unique.{cast-inj}
 use Rattle.poly_rows.specs.Leaf.{CrossBy, Crossed}
-use Rattle.poly_rows.specs.Terms.{Ready}
 use Rattle.poly_rows.proofs.Leaf.{cross-by}
 use Rattle.base_answers.specs.Decides.{Decides}
 use Rattle.basis_record.specs.Seven.{Seven}
-use Rattle.basis_reduce.specs.Frame.{Frame, Meaning, Short, rd, Ser, rowμ, pt, X, Y, Ltμ, Hasμ}
-use Rattle.basis_reduce.specs.Leaves.{PartIn, Parted}
+use Rattle.basis_parts.specs.Frame.{Frame, Meaning, Short, rd, Ser, rowμ, pt, X, Y, Ltμ, Hasμ}
+use Rattle.basis_parts.specs.Leaves.{PartIn, Parted}
 use Rattle.basis_scale.specs.Based.{Z}
 use Rattle.basis_shape.specs.Lengths.{Shape}
 use Rattle.basis_accept.specs.Tests.{ShapedIn, Numbers}
@@ -41,21 +40,21 @@ module _ {F : Frame} {top : ℕ} {b : Seven} (i : ShapedIn F top b) where
   part-n = record { fine = i .fine; hb = i .k1; hc = i .k2; fits = i .fits; low-r = i .low-r; low-w = i .low-w }
 
   -- 2a − x
-  pub twice-in : {mul lim : ℕ} {a x : List ℕ} → Ready (F .p) mul lim → Row (F .p) a → Row (F .p) x → CrossBy (F .p) mul lim 2 a 1 0 x 32
-  twice-in {a = a} {x = x} w ha hx =
-      let t : 2 < F .p = i .two in
+  pub twice-in : {a x : List ℕ} → Row (F .m .p) a → Row (F .m .p) x → CrossBy (F .m) 2 a 1 0 x 32
+  twice-in {a = a} {x = x} ha hx =
+      let t : 2 < F .m .p = i .two in
       let (n, sa) = sized a in
       let (m, sx) = sized x in
-      cross-by 32 (i .fine .modulus) w t (omega arith) ha hx sa sx (subst (λ k. n ≤ k) (ha .size) (sa .fits)) (let l : m ≤ 32 = subst (λ k. m ≤ k) (hx .size) (sx .fits) in omega arith) (omega arith)
+      cross-by 32 (i .fine .modulus) t (omega arith) ha hx sa sx (subst (λ k. n ≤ k) (ha .size) (sa .fits)) (let l : m ≤ 32 = subst (λ k. m ≤ k) (hx .size) (sx .fits) in omega arith) (omega arith)
 
 -- ---- sizes
 module _ {F : Frame} (μ : Meaning F) {top : ℕ} {b : Seven} {mx my nx ny zm zn : List ℕ} (i : ShapedIn F top b)
     (pmx : Parted F false (b .m1) (b .m2) top mx) (pmy : Parted F true (b .m1) (b .m2) top my) (pnx : Parted F false (b .n1) (b .n2) top nx) (pny : Parted F true (b .n1) (b .n2) top ny)
-    (cm : Crossed (F .p) 2 (b .m0) 1 0 mx zm) (cn : Crossed (F .p) 2 (b .n0) 1 0 nx zn) where
-  abbrev ρ : Reading (F .p)
-  ρ = reading (F .p) (μ .prime)
+    (cm : Crossed (F .m .p) 2 (b .m0) 1 0 mx zm) (cn : Crossed (F .m .p) 2 (b .n0) 1 0 nx zn) where
+  abbrev ρ : Reading (F .m .p)
+  ρ = reading (F .m .p) (μ .prime)
 
-  open Reading (reading (F .p) (μ .prime)) using (𝓥, cast)
+  open Reading (reading (F .m .p) (μ .prime)) using (𝓥, cast)
   open Valued 𝓥 using (K, L, Lead, const)
   open Ops (K .ops) using (add as _+ᵏ_, 𝟏 as 1ᵏ, 𝟎 as 0ᵏ)
 
@@ -67,7 +66,7 @@ module _ {F : Frame} (μ : Meaning F) {top : ℕ} {b : Seven} {mx my nx ny zm zn
   const-two = ap const cast-two ∙ ρ .const-add 1ᵏ 1ᵏ ∙ ap₂ (L .ops .add) (ρ .const-one) (ρ .const-one)
 
   -- 2a − z is the polynomial part of 2a − b r − c w
-  floor-z : (a b₁ c₁ z s : List ℕ) → Floor ρ (X μ (pt μ b₁ c₁)) z → Crossed (F .p) 2 a 1 0 z s → Floor ρ (Z μ (rowμ μ a) (rowμ μ b₁) (rowμ μ c₁)) s
+  floor-z : (a b₁ c₁ z s : List ℕ) → Floor ρ (X μ (pt μ b₁ c₁)) z → Crossed (F .m .p) 2 a 1 0 z s → Floor ρ (Z μ (rowμ μ a) (rowμ μ b₁) (rowμ μ c₁)) s
   unfolding tpow
   floor-z a b₁ c₁ z s f cr = d.lt-eq 𝓥 (d.lt-neg 𝓥 f)
       (solve L (minus (var 1 :+ var 2 :+ minus (var 3))) ((one :+ one) :* var 0 :+ minus (var 1) :+ minus (var 2) :+ minus ((one :+ one) :* var 0 :+ minus (one :* (one :* var 3)))) tt
@@ -111,7 +110,7 @@ module _ {F : Frame} (μ : Meaning F) {top : ℕ} {b : Seven} {mx my nx ny zm zn
       }
 
   -- the length and the last number of a polynomial part, from the leading coefficient
-  at-lead : (z : L .El) (l : List ℕ) (n k c : ℕ) → Row (F .p) l → Floor ρ z l → Size l n → Lead z k 0 (cast c) → cast c ≢ 0ᵏ → c < F .p → (n ≡ suc k) × (getD l k 0 ≡ c)
+  at-lead : (z : L .El) (l : List ℕ) (n k c : ℕ) → Row (F .m .p) l → Floor ρ z l → Size l n → Lead z k 0 (cast c) → cast c ≢ 0ᵏ → c < F .m .p → (n ≡ suc k) × (getD l k 0 ≡ c)
   at-lead z l zero k c hl f s h nz lc = absurd (let l = d.has-above 𝓥 (cast c, nz, h) (floor-lt ρ f s) in omega (arith, l))
   at-lead z l (suc n) k c hl f s h nz lc =
       let e : n ≡ k = d.same 𝓥 (floor-has ρ hl f s) (cast c, nz, h) in
@@ -128,7 +127,7 @@ module _ {F : Frame} (μ : Meaning F) {top : ℕ} {b : Seven} {mx my nx ny zm zn
 
   pub shape-is : Numbers μ b → Shape (b .u) mx my nx ny zm zn
   shape-is n =
-      let t : 2 < F .p = i .two in
+      let t : 2 < F .m .p = i .two in
       let (lu, su) = sized (b .u) in
       let (lx, sx) = sized mx in
       let (ly, sy) = sized ny in

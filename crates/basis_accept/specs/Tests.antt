@@ -9,7 +9,8 @@ use Rattle.math_ring.specs.Ring.{Ops, CRing}
 use Rattle.math_triple.specs.Tri.{Tri}
 use Rattle.math_valued.specs.Val.{Valued}
 use Rattle.math_fp.specs.Fp.{Prime}
-use Rattle.num_residue.specs.Residue.{Modulus}
+use Rattle.num_mod.specs.Prepared.{Prepared}
+use Rattle.num_mod.specs.declared.Modulus.{Modulus}
 use Rattle.math_rows.specs.Reading.{Reading}
 use Rattle.math_ideals.specs.Basis.{NoFactor}
 use Rattle.math_ideals.specs.Tests.{ReducedInNumbers}
@@ -17,21 +18,21 @@ use Rattle.field_open.specs.Refusal.{Accepted}
 use Rattle.basis_record.specs.Record.{setting}
 use Rattle.base_answers.specs.Decides.{Decides}
 use Rattle.basis_record.specs.Seven.{Seven, AreRows, rowsOf}
-use Rattle.basis_reduce.specs.Frame.{Frame, Fine, Meaning, Short, rd, rowμ, pt, X, Y, Ltμ, Hasμ}
+use Rattle.basis_parts.specs.Frame.{Frame, Fine, Meaning, Short, rd, rowμ, pt, X, Y, Ltμ, Hasμ}
 use Rattle.basis_scale.specs.Based.{Z}
 
 -- ---- sizes
 pub record ShapedIn (F : Frame) (top : ℕ) (b : Seven) : Type 0 where
   pub fine : Fine F
-  pub two : 2 < F .p
+  pub two : 2 < F .m .p
   pub fits : top ≤ 32
   pub low-r : F .dr ≤ top
   pub low-w : F .dw ≤ top
-  pub rows : AreRows (F .p) b
-  pub h1 : Short (F .p) (b .m1) (top - F .dr)
-  pub h2 : Short (F .p) (b .m2) (top - F .dw)
-  pub k1 : Short (F .p) (b .n1) (top - F .dr)
-  pub k2 : Short (F .p) (b .n2) (top - F .dw)
+  pub rows : AreRows (F .m .p) b
+  pub h1 : Short (F .m .p) (b .m1) (top - F .dr)
+  pub h2 : Short (F .m .p) (b .m2) (top - F .dw)
+  pub k1 : Short (F .m .p) (b .n1) (top - F .dr)
+  pub k2 : Short (F .m .p) (b .n2) (top - F .dw)
 
 -- M and N of the seven rows, as series
 abbrev pub Mof : {F : Frame} (μ : Meaning F) → Seven → Tri (Ser μ)
@@ -47,10 +48,10 @@ abbrev pub Shaped : Frame → Seven → Bool → Type 0
 Shaped F b o = (μ : Meaning F) → Decides o (Numbers μ b)
 
 -- ---- the common factor
-pub record AloneIn (p : ℕ) (b : Seven) : Type 0 where
-  pub modulus : Modulus p
-  pub prime : Prime p
-  pub rows : AreRows p b
+pub record AloneIn (q : Modulus) (b : Seven) : Type 0 where
+  pub modulus : Prepared q
+  pub prime : Prime (q .p)
+  pub rows : AreRows (q .p) b
 
 abbrev pub Alone : ℕ → Seven → Bool → Type 0
 Alone p b o = (G H : List ℕ) (A : Accepted p G H) → Decides o (NoFactor (setting A) (rowsOf A b))

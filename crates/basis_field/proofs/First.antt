@@ -1,5 +1,6 @@
 -- The record of the order, in an opened field.
 --   first-in      an opened field meets what `basis_scale::order` asks
+--   order-by, based-by   the same by what is prepared of p
 --   is-first      what it hands out is the record of the order
 --   first-one     the order has one record
 use mathlib.Core.Path.{_≡_, sym, subst}
@@ -11,13 +12,24 @@ use Rattle.math_ideals.specs.Next.{Start}
 use Rattle.math_chain.proofs.Closing.{start-unique}
 use Rattle.basis_record.specs.Record.{setting, basisOf, IsRecord}
 use Rattle.basis_record.proofs.Unique.{basis-unique}
+use Rattle.num_mod.specs.Prepared.{PreparedOf}
+use Rattle.num_mod.specs.declared.Modulus.{Modulus}
+use Rattle.basis_parts.specs.Frame.{frame}
 use Rattle.basis_scale.specs.Based.{Based}
 use Rattle.basis_scale.specs.First.{OrderIn, units, unit, nothing}
 use Rattle.basis_scale.proofs.Start.{fieldFrame, order-start}
 use Rattle.field_series.specs.Answer.{Prefix}
 use Rattle.field_series.specs.declared.Cubic.{Cubic}
 use Rattle.basis_field.specs.First.{IsFirst, First}
-use Rattle.basis_field.proofs.Ground.{frameOf, frame-is, degrees, dr-is, dw-is, odd, fine, meaningOf, r-reads, w-reads}
+use Rattle.basis_field.proofs.Ground.{frameOf, frame-is, frame-by, degrees, dr-is, dw-is, odd, fine, meaningOf, r-reads, w-reads}
+
+-- what is prepared of p in place of p
+module _ (c : Cubic) {q : Modulus} (e : PreparedOf (c .field .p) q) where
+  pub order-by : (top : ℕ) → OrderIn (frameOf c) top → OrderIn (frame q (c .r) (c .w) (c .field .dr) (c .field .dw)) top
+  order-by top i = subst (λ F. OrderIn F top) (frame-by c e) i
+
+  pub based-by : (B : List ℕ) → Based (frame q (c .r) (c .w) (c .field .dr) (c .field .dw)) units unit nothing nothing B → Based (frameOf c) units unit nothing nothing B
+  based-by B b = subst (λ F. Based F units unit nothing nothing B) (sym (frame-by c e)) b
 
 module _ {p : ℕ} {G H : List ℕ} (A : Accepted p G H) (c : Cubic) (h : Prefix p G H c) where
   pub first-in : OrderIn (frameOf c) (c .field .dr + c .field .dw + 1)

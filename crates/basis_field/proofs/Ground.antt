@@ -1,6 +1,7 @@
 -- An opened field with its first 32 coefficients of r and w is a frame of the reduction, and means the series of the field.
 --   frameOf c          the frame that the kept numbers and lists make
 --   frame-is           it is the frame of the field
+--   frame-by           and that of what is prepared of p
 --   r-row, w-row       the lists are rows of numbers below p
 --   fine, meaningOf    what the reduction asks
 --   degrees            deg r + deg w = deg G + deg H
@@ -14,7 +15,10 @@ use native.Mathlib.Omega.{arith}
 use native.Mathlib.Decide.{decLt}
 use lib.ListN.{length, getD, List·getD-eq-default}
 use Rattle.math_fp.specs.Fp.{Prime}
-use Rattle.num_residue.specs.Residue.{Modulus}
+use Rattle.num_mod.specs.Residue.{IsModulus}
+use Rattle.num_mod.specs.Prepared.{PreparedOf, ready}
+use Rattle.num_mod.specs.declared.Modulus.{Modulus}
+use Rattle.num_mod.proofs.Prepared.{ready-prepared}
 use Rattle.math_rows.specs.Made.{reading}
 use Rattle.math_rows.specs.Row.{Row, Reads}
 use Rattle.field_open.specs.Refusal.{Accepted}
@@ -24,12 +28,15 @@ use Rattle.field_roots.proofs.Only.{series-of-reads}
 use Rattle.basis_record.specs.Record.{setting}
 use Rattle.field_series.specs.Answer.{Prefix}
 use Rattle.field_series.specs.declared.Cubic.{Cubic}
-use Rattle.basis_reduce.specs.Frame.{Frame, frame, Fine, Meaning}
+use Rattle.basis_parts.specs.Frame.{Frame, frame, Fine, Meaning}
 use Rattle.basis_scale.proofs.Start.{fieldFrame, meaning}
 use Rattle.basis_field.specs.Known.{Known}
 
 abbrev pub frameOf : Cubic → Frame
-frameOf c = frame (c .field .p) (c .r) (c .w) (c .field .dr) (c .field .dw)
+frameOf c = frame (ready (c .field .p)) (c .r) (c .w) (c .field .dr) (c .field .dw)
+
+pub frame-by : (c : Cubic) {q : Modulus} → PreparedOf (c .field .p) q → frameOf c ≡ frame q (c .r) (c .w) (c .field .dr) (c .field .dw)
+frame-by c e = (λ i. frame (sym (e .same) i) (c .r) (c .w) (c .field .dr) (c .field .dw))
 
 -- below p as far as a list reaches, and 0 after it
 below-all : {p : ℕ} (l : List ℕ) (n : ℕ) → 0 < p → length l ≡ n → ((i : ℕ) → i < n → entry l i < p) → (i : ℕ) → getD l i 0 < p
@@ -71,9 +78,9 @@ module _ {p : ℕ} {G H : List ℕ} (A : Accepted p G H) (c : Cubic) (h : Prefix
       omega arith
 
   pub frame-is : fieldFrame A (c .r) (c .w) r-reads w-reads ≡ frameOf c
-  frame-is = (λ i. frame (sym (holds .prime) i) (c .r) (c .w) (dr-is i) (dw-is i))
+  frame-is = (λ i. frame (ready (sym (holds .prime) i)) (c .r) (c .w) (dr-is i) (dw-is i))
 
-  pub modulus : Modulus p
+  pub modulus : IsModulus p
   modulus =
       let l : 5 ≤ p = A .low in
       let u : p ≤ 65535 = A .high in
@@ -86,7 +93,7 @@ module _ {p : ℕ} {G H : List ℕ} (A : Accepted p G H) (c : Cubic) (h : Prefix
       omega (arith, e)
 
   pub fine : Fine (fieldFrame A (c .r) (c .w) r-reads w-reads)
-  fine = record { modulus = modulus; hr = r-row; hw = w-row }
+  fine = record { modulus = ready-prepared p modulus; hr = r-row; hw = w-row }
 
   pub meaningOf : Meaning (fieldFrame A (c .r) (c .w) r-reads w-reads)
   meaningOf = meaning A (c .r) (c .w) r-reads w-reads
@@ -97,3 +104,6 @@ room {c} k =
     let s : k .accepted .degG + k .accepted .degH ≤ 16 = k .accepted .sum in
     let e : c .field .dr + c .field .dw ≡ k .accepted .degG + k .accepted .degH = degrees (k .accepted) c (k .prefix) in
     omega arith
+
+pub known-modulus : {c : Cubic} → Known c → IsModulus (c .field .p)
+known-modulus {c} k = subst IsModulus (sym (holds (k .accepted) c (k .prefix) .prime)) (modulus (k .accepted) c (k .prefix))

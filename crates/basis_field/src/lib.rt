@@ -11,8 +11,9 @@ pub fn order_basis(c: field_series::Cubic) -> [u16; 119]
     let f = c.field;
     let r = c.r;
     let w = c.w;
-    let b = basis_reduce::Bounds {
-        p: f.p,
+    let m = num_mod::prepare(f.p);
+    let b = basis_parts::Bounds {
+        m,
         dr: f.dr,
         dw: f.dw,
         top: f.dr + f.dw + 1,

@@ -9,6 +9,7 @@ use mathlib.Core.Bool.{Bool, true}
 use mathlib.Core.List.{List, [], _∷_}
 use Prim.Native.Nat.{ℕ, suc, _+_, _*_, _<_, _≤_}
 use native.Mathlib.Omega.{arith}
+use Rattle.num_mod.specs.declared.Modulus.{Modulus}
 use Rattle.math_ring.specs.Ring.{Ops}
 use Rattle.math_ring.proofs.Solve.{var, hyp, one, zer, minus, _:+_, _:*_, solve, solve-by}
 use Rattle.math_fp.specs.Fp.{Prime}
@@ -33,6 +34,9 @@ use Rattle.basis_lattice.specs.Coordinates.{ElementIn, OuterOut}
 use Rattle.basis_lattice.specs.Lattice.{InsideIn, InsideAt, MemberAt}
 use Rattle.basis_lattice.specs.declared.Lengths.{Lengths}
 use Rattle.basis_lattice.specs.declared.OuterSpans.{OuterSpans}
+
+abbrev of : ℕ → ℕ → ℕ → Modulus
+of p mul lim = record { p = p; m = mul; lim = lim }
 
 module _ {p : ℕ} (pr : Prime p) where
   abbrev ρ : Reading p
@@ -68,11 +72,10 @@ module _ {p : ℕ} (pr : Prime p) where
       small n hn = let k : suc n ≤ 17 = size-below hu (size-of ρ (hu .is-row) hn) in omega arith
 
   module _ {mul lim : ℕ} {a : List ℕ} {na : ℕ} {b : List ℕ} {nb : ℕ} {c : List ℕ} {nc : ℕ} {m : List ℕ} {lm : ℕ} {n : List ℕ} {ln : ℕ} {u : List ℕ} {lu : ℕ}
-      (i : InsideIn p mul lim a na b nb c nc m lm n ln u lu) {q₁ r₁ q₂ r₂ : List ℕ} {j₁ k₁ j₂ k₂ : ℕ} (db : DivideOut p b u q₁ r₁ j₁ k₁) (dc : DivideOut p c u q₂ r₂ j₂ k₂) where
-    pub inside-both : BothIn p mul lim r₁ k₁ m lm r₂ k₂ n ln a na
+      (i : InsideIn (of p mul lim) a na b nb c nc m lm n ln u lu) {q₁ r₁ q₂ r₂ : List ℕ} {j₁ k₁ j₂ k₂ : ℕ} (db : DivideOut p b u q₁ r₁ j₁ k₁) (dc : DivideOut p c u q₂ r₂ j₂ k₂) where
+    pub inside-both : BothIn (of p mul lim) r₁ k₁ m lm r₂ k₂ n ln a na
     inside-both = record {
       modulus = i .modulus;
-      ready = i .ready;
       hx = db .divided .r-row;
       hy = i .hm .is-row;
       hz = dc .divided .r-row;
@@ -88,7 +91,7 @@ module _ {p : ℕ} (pr : Prime p) where
     }
 
   module _ {mul lim : ℕ} {a : List ℕ} {na : ℕ} {b : List ℕ} {nb : ℕ} {c : List ℕ} {nc : ℕ} {m : List ℕ} {lm : ℕ} {n : List ℕ} {ln : ℕ} {u : List ℕ} {lu : ℕ}
-      (i : InsideIn p mul lim a na b nb c nc m lm n ln u lu) {q₁ r₁ q₂ r₂ h q r : List ℕ} {k l : ℕ} (db : Divided p b u q₁ r₁) (dc : Divided p c u q₂ r₂)
+      (i : InsideIn (of p mul lim) a na b nb c nc m lm n ln u lu) {q₁ r₁ q₂ r₂ h q r : List ℕ} {k l : ℕ} (db : Divided p b u q₁ r₁) (dc : Divided p c u q₂ r₂)
       (hh : BothOut p true r₁ m true r₂ n a h k) (dh : Divided p h u q r) (s : Size r l) where
     -- h = a − (r₁ m + r₂ n)
     h-is : row ρ h ≡ row ρ a ⊕ ⊖ (row ρ r₁ ⊗ row ρ m ⊕ row ρ r₂ ⊗ row ρ n)
@@ -114,7 +117,7 @@ module _ {p : ℕ} (pr : Prime p) where
         (row ρ a ∷ row ρ b ∷ row ρ c ∷ row ρ m ∷ row ρ n ∷ row ρ u ∷ t .α ∷ row ρ q₁ ∷ row ρ q₂ ∷ row ρ r₁ ∷ row ρ r₂ ∷ [])
         (db .law pr, (dc .law pr, (t .U-α, tt)))) .0)
 
-  module _ {mul lim : ℕ} {va : List ℕ} {na : ℕ} {vb : List ℕ} {nb : ℕ} {vc : List ℕ} {nc : ℕ} {b : Seven} {l : Lengths} {e : List ℕ} {ie : ℕ} (i : ElementIn p mul lim va na vb nb vc nc b l e ie)
+  module _ {mul lim : ℕ} {va : List ℕ} {na : ℕ} {vb : List ℕ} {nb : ℕ} {vc : List ℕ} {nc : ℕ} {b : Seven} {l : Lengths} {e : List ℕ} {ie : ℕ} (i : ElementIn (of p mul lim) va na vb nb vc nc b l e ie)
       {s t q₁ q₂ : List ℕ} {o : OuterSpans} (h : OuterOut p vb vc (b .m1) (b .m2) (b .n1) (b .n2) e s t q₁ q₂ o) {r₁ : List ℕ} {k : ℕ} (x : LessOut p q₁ e s r₁ k) where
     he : (n : ℕ) × Has 𝓥 (row ρ e) n
     he = inverts-has pr (i .he) (i .by-e)

@@ -13,12 +13,13 @@ use Rattle.math_ring.specs.Ring.{Ops}
 use Rattle.math_fp.specs.Fp.{Prime}
 use Rattle.math_valued.specs.Val.{Valued}
 use Rattle.math_valued.specs.Degree.{Lt}
-use Rattle.num_residue.specs.Residue.{Modulus}
+use Rattle.num_mod.specs.Residue.{IsModulus}
 use Rattle.math_rows.specs.Reading.{Reading}
 use Rattle.math_rows.specs.Made.{reading}
 use Rattle.math_rows.specs.Row.{Row, Size, row}
 use Rattle.poly_rows.specs.Leaf.{Cut, Fits}
-use Rattle.poly_rows.specs.Terms.{Ready}
+use Rattle.num_mod.specs.Prepared.{Prepared}
+use Rattle.num_mod.specs.declared.Modulus.{Modulus}
 use Rattle.poly_rows.specs.Division.{Inverts}
 use Rattle.poly_lent.specs.Sized.{DetOut, QuotientOut}
 use Rattle.basis_record.specs.Seven.{Seven, seven, rowAt, AreRows, Three, Blank}
@@ -55,10 +56,9 @@ lengthAt l (suc (suc (suc (suc (suc (suc i)))))) = l .u
 abbrev pub AreLengths : Seven → Lengths → Type 0
 AreLengths b l = (i : ℕ) → Size (rowAt b i) (lengthAt l i)
 
-pub record LengthsIn (p mul lim cap : ℕ) (b : Seven) (e : List ℕ) : Type 0 where
-  pub modulus : Modulus p
-  pub ready : Ready p mul lim
-  pub rows : AreRows p b
+pub record LengthsIn (q : Modulus) (cap : ℕ) (b : Seven) (e : List ℕ) : Type 0 where
+  pub modulus : Prepared q
+  pub rows : AreRows (q .p) b
   pub ends : (i : ℕ) → Cut (rowAt b i) cap
   pub left : Fits (b .m1) (b .n2)
   pub right : Fits (b .m2) (b .n1)
@@ -69,33 +69,32 @@ pub record Found (p : ℕ) (b : Seven) (e : List ℕ) (l : Lengths) : Type 0 whe
   pub det : DetOut p (b .m1) (b .n2) (b .m2) (b .n1) e (l .e)
 
 -- ---- quotients
-pub record ElementIn (p mul lim : ℕ) (va : List ℕ) (na : ℕ) (vb : List ℕ) (nb : ℕ) (vc : List ℕ) (nc : ℕ) (b : Seven) (l : Lengths) (e : List ℕ) (ie : ℕ) : Type 0 where
-  pub modulus : Modulus p
-  pub ready : Ready p mul lim
-  pub ha : Row p va
-  pub hb : Row p vb
-  pub hc : Row p vc
+pub record ElementIn (q : Modulus) (va : List ℕ) (na : ℕ) (vb : List ℕ) (nb : ℕ) (vc : List ℕ) (nc : ℕ) (b : Seven) (l : Lengths) (e : List ℕ) (ie : ℕ) : Type 0 where
+  pub modulus : Prepared q
+  pub ha : Row (q .p) va
+  pub hb : Row (q .p) vb
+  pub hc : Row (q .p) vc
   pub sa : Size va na
   pub sb : Size vb nb
   pub sc : Size vc nc
-  pub rows : AreRows p b
+  pub rows : AreRows (q .p) b
   pub sizes : AreLengths b l
-  pub he : Row p e
+  pub he : Row (q .p) e
   pub se : Size e (l .e)
-  pub by-e : Inverts p e ie
-  pub by-u : Inverts p (b .u) 1
+  pub by-e : Inverts (q .p) e ie
+  pub by-u : Inverts (q .p) (b .u) 1
   pub b-n2 : Fits vb (b .n2)
   pub c-n1 : Fits vc (b .n1)
   pub c-m1 : Fits vc (b .m1)
   pub b-m2 : Fits vb (b .m2)
 
-pub record OuterIn (p mul lim : ℕ) (vb : List ℕ) (nb : ℕ) (vc : List ℕ) (nc : ℕ) (m1 m2 n1 n2 : List ℕ) (l : Lengths) (e : List ℕ) (ie : ℕ) (s t β γ : List ℕ) : Type 0 where
+pub record OuterIn (q : Modulus) (vb : List ℕ) (nb : ℕ) (vc : List ℕ) (nc : ℕ) (m1 m2 n1 n2 : List ℕ) (l : Lengths) (e : List ℕ) (ie : ℕ) (s t β γ : List ℕ) : Type 0 where
   pub va : List ℕ
   pub na : ℕ
   pub m0 : List ℕ
   pub n0 : List ℕ
   pub u : List ℕ
-  pub inp : ElementIn p mul lim va na vb nb vc nc (seven m0 m1 m2 n0 n1 n2 u) l e ie
+  pub inp : ElementIn q va na vb nb vc nc (seven m0 m1 m2 n0 n1 n2 u) l e ie
   pub blank-s : s ≡ replicate 32 0
   pub blank-t : t ≡ replicate 32 0
   pub blank-β : β ≡ replicate 32 0
@@ -108,17 +107,17 @@ pub record OuterOut (p : ℕ) (vb vc m1 m2 n1 n2 e s t β γ : List ℕ) (o : Ou
   pub γ-is : QuotientOut p t e γ (o .c)
 
 -- ---- coordinates
-pub record CoordsIn (p mul lim : ℕ) (va : List ℕ) (na : ℕ) (vb : List ℕ) (nb : ℕ) (vc : List ℕ) (nc : ℕ) (b : Seven) (l : Lengths) (e : List ℕ) (ie : ℕ) (o : Three) : Type 0 where
-  pub inp : ElementIn p mul lim va na vb nb vc nc b l e ie
-  pub prime : Prime p
-  pub α : reading p prime .𝓥 .L .El
-  pub β : reading p prime .𝓥 .L .El
-  pub γ : reading p prime .𝓥 .L .El
+pub record CoordsIn (q : Modulus) (va : List ℕ) (na : ℕ) (vb : List ℕ) (nb : ℕ) (vc : List ℕ) (nc : ℕ) (b : Seven) (l : Lengths) (e : List ℕ) (ie : ℕ) (o : Three) : Type 0 where
+  pub inp : ElementIn q va na vb nb vc nc b l e ie
+  pub prime : Prime (q .p)
+  pub α : reading (q .p) prime .𝓥 .L .El
+  pub β : reading (q .p) prime .𝓥 .L .El
+  pub γ : reading (q .p) prime .𝓥 .L .El
   pub some : Quotients prime va vb vc b e α β γ
   pub kβ : ℕ
   pub kγ : ℕ
-  pub β-lt : Lt (reading p prime .𝓥) β kβ
-  pub γ-lt : Lt (reading p prime .𝓥) γ kγ
+  pub β-lt : Lt (reading (q .p) prime .𝓥) β kβ
+  pub γ-lt : Lt (reading (q .p) prime .𝓥) γ kγ
   pub room-m0 : (n : ℕ) → Size (b .m0) n → kβ + n ≤ 33
   pub room-n0 : (n : ℕ) → Size (b .n0) n → kγ + n ≤ 33
   pub blank : Blank o

@@ -6,34 +6,34 @@ use mathlib.Core.Bool.{Bool}
 use mathlib.Core.List.{List}
 use Prim.Native.Nat.{ℕ}
 use Rattle.math_fp.specs.Fp.{Prime}
-use Rattle.num_residue.specs.Residue.{Modulus}
+use Rattle.num_mod.specs.Residue.{IsModulus}
 use Rattle.math_rows.specs.Made.{reading}
 use Rattle.math_rows.specs.Row.{Row, Size, row}
 use Rattle.base_answers.specs.Decides.{Decides}
 use Rattle.poly_rows.specs.Leaf.{Short}
-use Rattle.poly_rows.specs.Terms.{Ready}
+use Rattle.num_mod.specs.Prepared.{Prepared}
+use Rattle.num_mod.specs.declared.Modulus.{Modulus}
 use Rattle.poly_rows.specs.Division.{Inverts}
 use Rattle.basis_record.specs.Seven.{Seven}
 use Rattle.basis_lattice.specs.Coordinates.{Quotients, ElementIn}
 use Rattle.basis_lattice.specs.declared.Lengths.{Lengths}
 
-pub record InsideIn (p mul lim : ℕ) (a : List ℕ) (na : ℕ) (b : List ℕ) (nb : ℕ) (c : List ℕ) (nc : ℕ) (m : List ℕ) (lm : ℕ) (n : List ℕ) (ln : ℕ) (u : List ℕ) (lu : ℕ) : Type 0 where
-  pub modulus : Modulus p
-  pub ready : Ready p mul lim
-  pub prime : Prime p
-  pub ha : Row p a
-  pub hb : Row p b
-  pub hc : Row p c
+pub record InsideIn (q : Modulus) (a : List ℕ) (na : ℕ) (b : List ℕ) (nb : ℕ) (c : List ℕ) (nc : ℕ) (m : List ℕ) (lm : ℕ) (n : List ℕ) (ln : ℕ) (u : List ℕ) (lu : ℕ) : Type 0 where
+  pub modulus : Prepared q
+  pub prime : Prime (q .p)
+  pub ha : Row (q .p) a
+  pub hb : Row (q .p) b
+  pub hc : Row (q .p) c
   pub sa : Size a na
   pub sb : Size b nb
   pub sc : Size c nc
-  pub hm : Short p m 17
-  pub hn : Short p n 17
-  pub hu : Short p u 17
+  pub hm : Short (q .p) m 17
+  pub hn : Short (q .p) n 17
+  pub hu : Short (q .p) u 17
   pub sm : Size m lm
   pub sn : Size n ln
   pub su : Size u lu
-  pub by-u : Inverts p u 1
+  pub by-u : Inverts (q .p) u 1
 
 pub record InsideAt {p : ℕ} (pr : Prime p) (a b c m n u : List ℕ) : Type 0 where
   pub α : reading p pr .𝓥 .L .El
@@ -44,12 +44,12 @@ pub record InsideAt {p : ℕ} (pr : Prime p) (a b c m n u : List ℕ) : Type 0 w
 abbrev pub Inside : ℕ → List ℕ → List ℕ → List ℕ → List ℕ → List ℕ → List ℕ → Bool → Type 0
 Inside p a b c m n u o = (pr : Prime p) → Decides o (InsideAt pr a b c m n u)
 
-pub record MemberIn (p mul lim : ℕ) (va : List ℕ) (na : ℕ) (vb : List ℕ) (nb : ℕ) (vc : List ℕ) (nc : ℕ) (b : Seven) (l : Lengths) (e : List ℕ) (ie : ℕ) : Type 0 where
-  pub inp : ElementIn p mul lim va na vb nb vc nc b l e ie
-  pub prime : Prime p
-  pub h0 : Short p (b .m0) 17
-  pub k0 : Short p (b .n0) 17
-  pub hu : Short p (b .u) 17
+pub record MemberIn (q : Modulus) (va : List ℕ) (na : ℕ) (vb : List ℕ) (nb : ℕ) (vc : List ℕ) (nc : ℕ) (b : Seven) (l : Lengths) (e : List ℕ) (ie : ℕ) : Type 0 where
+  pub inp : ElementIn q va na vb nb vc nc b l e ie
+  pub prime : Prime (q .p)
+  pub h0 : Short (q .p) (b .m0) 17
+  pub k0 : Short (q .p) (b .n0) 17
+  pub hu : Short (q .p) (b .u) 17
 
 pub record MemberAt {p : ℕ} (pr : Prime p) (va vb vc : List ℕ) (b : Seven) (e : List ℕ) : Type 0 where
   pub α : reading p pr .𝓥 .L .El

@@ -1,21 +1,15 @@
-// The lattice of a basis: coordinates of an element as quotients, whether it lies in the lattice, and whether the lattice is closed under
-// products with r and w (refusal 9). Rows are lent, their lengths are known.
+// The lattice of a basis: the coordinates of an element as quotients, and whether it lies in the lattice. Rows are lent, their lengths known.
+use num_mod::Modulus;
 use poly_lent::both_in;
 use poly_lent::det_in;
 use poly_lent::divide_in;
 use poly_lent::less_in;
 use poly_lent::quotient_in;
-use poly_lent::times_in;
-use poly_rows::Rapid;
-use poly_rows::rapid_of;
-use poly_rows::size;
 use poly_rows::size_from;
-use num_residue::inverse;
 ghost use mathlib.Core.Path.{_≡_};
 ghost use Rattle.basis_record.specs.Seven.{seven, three};
 ghost use Rattle.basis_lattice.specs.Coordinates.{LengthsIn, Found, OuterIn, OuterOut, CoordsIn, Coordinates};
 ghost use Rattle.basis_lattice.specs.Lattice.{InsideIn, Inside, MemberIn, Member};
-ghost use Rattle.basis_lattice.specs.Closed.{KeepsIn, Keeps, UnderIn, Under};
 
 // The lengths of the seven rows of a basis, and of e = M1 N2 - M2 N1.
 pub struct Lengths {
@@ -31,8 +25,7 @@ pub struct Lengths {
 
 // The lengths of seven rows that end before cap, and e into the zero row e.
 pub fn lengths_of(
-    p: u64,
-    q: Rapid,
+    q: Modulus,
     cap: usize,
     m0: &[u64; 32],
     m1: &[u64; 32],
@@ -43,8 +36,8 @@ pub fn lengths_of(
     u: &[u64; 32],
     e: &mut [u64; 32],
 ) -> Lengths
-    requires { ⌜ LengthsIn p (q .m) (q .lim) cap (seven (now m0) (now m1) (now m2) (now n0) (now n1) (now n2) (now u)) (now e) ⌝ }
-    ensures { λ l. ⌜ Found p (seven (now (m0 .entry)) (now (m1 .entry)) (now (m2 .entry)) (now (n0 .entry)) (now (n1 .entry)) (now (n2 .entry)) (now (u .entry))) (now (e .exit)) l ⌝ }
+    requires { ⌜ LengthsIn q cap (seven (now m0) (now m1) (now m2) (now n0) (now n1) (now n2) (now u)) (now e) ⌝ }
+    ensures { λ l. ⌜ Found (q .p) (seven (now (m0 .entry)) (now (m1 .entry)) (now (m2 .entry)) (now (n0 .entry)) (now (n1 .entry)) (now (n2 .entry)) (now (u .entry))) (now (e .exit)) l ⌝ }
 {
     let a = size_from(m0, cap);
     let b = size_from(m1, cap);
@@ -53,7 +46,7 @@ pub fn lengths_of(
     let f = size_from(n1, cap);
     let i = size_from(n2, cap);
     let j = size_from(u, cap);
-    let k = det_in(p, q, m1, b, n2, i, m2, c, n1, f, e);
+    let k = det_in(q, m1, b, n2, i, m2, c, n1, f, e);
     Lengths {
         m0: a,
         m1: b,
@@ -76,8 +69,7 @@ struct OuterSpans {
 
 // s = vb N2 - vc N1 and t = vc M1 - vb M2, and their quotients by e, into four zero rows; ie is the inverse of e's leading coefficient.
 fn outer(
-    p: u64,
-    q: Rapid,
+    q: Modulus,
     vb: &[u64; 32],
     nb: usize,
     vc: &[u64; 32],
@@ -94,13 +86,13 @@ fn outer(
     b: &mut [u64; 32],
     c: &mut [u64; 32],
 ) -> OuterSpans
-    requires { ⌜ OuterIn p (q .m) (q .lim) (now vb) nb (now vc) nc (now m1) (now m2) (now n1) (now n2) l (now e) ie (now s) (now t) (now b) (now c) ⌝ }
-    ensures { λ o. ⌜ OuterOut p (now (vb .entry)) (now (vc .entry)) (now (m1 .entry)) (now (m2 .entry)) (now (n1 .entry)) (now (n2 .entry)) (now (e .entry)) (now (s .exit)) (now (t .exit)) (now (b .exit)) (now (c .exit)) o ⌝ }
+    requires { ⌜ OuterIn q (now vb) nb (now vc) nc (now m1) (now m2) (now n1) (now n2) l (now e) ie (now s) (now t) (now b) (now c) ⌝ }
+    ensures { λ o. ⌜ OuterOut (q .p) (now (vb .entry)) (now (vc .entry)) (now (m1 .entry)) (now (m2 .entry)) (now (n1 .entry)) (now (n2 .entry)) (now (e .entry)) (now (s .exit)) (now (t .exit)) (now (b .exit)) (now (c .exit)) o ⌝ }
 {
-    let ls = det_in(p, q, vb, nb, n2, l.n2, vc, nc, n1, l.n1, s);
-    let lb = quotient_in(p, q, s, ls, e, l.e, ie, b);
-    let lt = det_in(p, q, vc, nc, m1, l.m1, vb, nb, m2, l.m2, t);
-    let lc = quotient_in(p, q, t, lt, e, l.e, ie, c);
+    let ls = det_in(q, vb, nb, n2, l.n2, vc, nc, n1, l.n1, s);
+    let lb = quotient_in(q, s, ls, e, l.e, ie, b);
+    let lt = det_in(q, vc, nc, m1, l.m1, vb, nb, m2, l.m2, t);
+    let lc = quotient_in(q, t, lt, e, l.e, ie, c);
     OuterSpans {
         s: ls,
         t: lt,
@@ -118,8 +110,7 @@ pub struct Spans {
 
 // The coordinates of va + vb r + vc w, which lies in the lattice, into three zero rows; va is used up.
 pub fn coordinates(
-    p: u64,
-    q: Rapid,
+    q: Modulus,
     va: &mut [u64; 32],
     na: usize,
     vb: &[u64; 32],
@@ -140,16 +131,33 @@ pub fn coordinates(
     b: &mut [u64; 32],
     c: &mut [u64; 32],
 ) -> Spans
-    requires { ⌜ CoordsIn p (q .m) (q .lim) (now va) na (now vb) nb (now vc) nc (seven (now m0) (now m1) (now m2) (now n0) (now n1) (now n2) (now u)) l (now e) ie (three (now a) (now b) (now c)) ⌝ }
-    ensures { λ o. ⌜ Coordinates p (now (va .entry)) (now (vb .entry)) (now (vc .entry)) (seven (now (m0 .entry)) (now (m1 .entry)) (now (m2 .entry)) (now (n0 .entry)) (now (n1 .entry)) (now (n2 .entry)) (now (u .entry))) (now (e .entry)) (three (now (a .exit)) (now (b .exit)) (now (c .exit))) o ⌝ }
+    requires { ⌜ CoordsIn q (now va) na (now vb) nb (now vc) nc (seven (now m0) (now m1) (now m2) (now n0) (now n1) (now n2) (now u)) l (now e) ie (three (now a) (now b) (now c)) ⌝ }
+    ensures { λ o. ⌜ Coordinates (q .p) (now (va .entry)) (now (vb .entry)) (now (vc .entry)) (seven (now (m0 .entry)) (now (m1 .entry)) (now (m2 .entry)) (now (n0 .entry)) (now (n1 .entry)) (now (n2 .entry)) (now (u .entry))) (now (e .entry)) (three (now (a .exit)) (now (b .exit)) (now (c .exit))) o ⌝ }
 {
     let mut s: [u64; 32] = [0; 32];
     let mut t: [u64; 32] = [0; 32];
-    let o = outer(p, q, vb, nb, vc, nc, m1, m2, n1, n2, l, e, ie, &mut s, &mut t, b, c);
+    let o = outer(
+        q,
+        vb,
+        nb,
+        vc,
+        nc,
+        m1,
+        m2,
+        n1,
+        n2,
+        l,
+        e,
+        ie,
+        &mut s,
+        &mut t,
+        b,
+        c,
+    );
     let lb = o.b;
     let lc = o.c;
-    let n = both_in(p, q, true, b, lb, m0, l.m0, true, c, lc, n0, l.n0, va, na);
-    let la = quotient_in(p, q, va, n, u, l.u, 1, a);
+    let n = both_in(q, true, b, lb, m0, l.m0, true, c, lc, n0, l.n0, va, na);
+    let la = quotient_in(q, va, n, u, l.u, 1, a);
     Spans {
         a: la,
         b: lb,
@@ -159,8 +167,7 @@ pub fn coordinates(
 
 // Whether u divides a - (b m + c n). b and c count modulo u: all three are used up.
 fn inside(
-    p: u64,
-    q: Rapid,
+    q: Modulus,
     a: &mut [u64; 32],
     na: usize,
     b: &mut [u64; 32],
@@ -174,24 +181,23 @@ fn inside(
     u: &[u64; 32],
     lu: usize,
 ) -> bool
-    requires { ⌜ InsideIn p (q .m) (q .lim) (now a) na (now b) nb (now c) nc (now m) lm (now n) ln (now u) lu ⌝ }
-    ensures { λ o. ⌜ Inside p (now (a .entry)) (now (b .entry)) (now (c .entry)) (now (m .entry)) (now (n .entry)) (now (u .entry)) o ⌝ }
+    requires { ⌜ InsideIn q (now a) na (now b) nb (now c) nc (now m) lm (now n) ln (now u) lu ⌝ }
+    ensures { λ o. ⌜ Inside (q .p) (now (a .entry)) (now (b .entry)) (now (c .entry)) (now (m .entry)) (now (n .entry)) (now (u .entry)) o ⌝ }
 {
     let mut d: [u64; 32] = [0; 32];
     let mut f: [u64; 32] = [0; 32];
     let mut g: [u64; 32] = [0; 32];
-    let x = divide_in(p, q, b, nb, u, lu, 1, &mut d);
-    let y = divide_in(p, q, c, nc, u, lu, 1, &mut f);
-    let k = both_in(p, q, true, b, x.r, m, lm, true, c, y.r, n, ln, a, na);
-    let z = divide_in(p, q, a, k, u, lu, 1, &mut g);
+    let x = divide_in(q, b, nb, u, lu, 1, &mut d);
+    let y = divide_in(q, c, nc, u, lu, 1, &mut f);
+    let k = both_in(q, true, b, x.r, m, lm, true, c, y.r, n, ln, a, na);
+    let z = divide_in(q, a, k, u, lu, 1, &mut g);
     let l = z.r;
     if l == 0 { true } else { false }
 }
 
 // Whether va + vb r + vc w lies in the lattice: its coordinates are exact. va is used up.
-fn member(
-    p: u64,
-    q: Rapid,
+pub fn member(
+    q: Modulus,
     va: &mut [u64; 32],
     na: usize,
     vb: &[u64; 32],
@@ -209,121 +215,54 @@ fn member(
     e: &[u64; 32],
     ie: u64,
 ) -> bool
-    requires { ⌜ MemberIn p (q .m) (q .lim) (now va) na (now vb) nb (now vc) nc (seven (now m0) (now m1) (now m2) (now n0) (now n1) (now n2) (now u)) l (now e) ie ⌝ }
-    ensures { λ o. ⌜ Member p (now (va .entry)) (now (vb .entry)) (now (vc .entry)) (seven (now (m0 .entry)) (now (m1 .entry)) (now (m2 .entry)) (now (n0 .entry)) (now (n1 .entry)) (now (n2 .entry)) (now (u .entry))) (now (e .entry)) o ⌝ }
+    requires { ⌜ MemberIn q (now va) na (now vb) nb (now vc) nc (seven (now m0) (now m1) (now m2) (now n0) (now n1) (now n2) (now u)) l (now e) ie ⌝ }
+    ensures { λ o. ⌜ Member (q .p) (now (va .entry)) (now (vb .entry)) (now (vc .entry)) (seven (now (m0 .entry)) (now (m1 .entry)) (now (m2 .entry)) (now (n0 .entry)) (now (n1 .entry)) (now (n2 .entry)) (now (u .entry))) (now (e .entry)) o ⌝ }
 {
     let mut s: [u64; 32] = [0; 32];
     let mut t: [u64; 32] = [0; 32];
     let mut b: [u64; 32] = [0; 32];
     let mut c: [u64; 32] = [0; 32];
     let o = outer(
-        p, q, vb, nb, vc, nc, m1, m2, n1, n2, l, e, ie, &mut s, &mut t, &mut b, &mut c,
+        q,
+        vb,
+        nb,
+        vc,
+        nc,
+        m1,
+        m2,
+        n1,
+        n2,
+        l,
+        e,
+        ie,
+        &mut s,
+        &mut t,
+        &mut b,
+        &mut c,
     );
     let lb = o.b;
     let lc = o.c;
-    let x = less_in(p, q, &b, lb, e, l.e, &mut s);
+    let x = less_in(q, &b, lb, e, l.e, &mut s);
     if x != 0 {
         return false;
     }
-    let y = less_in(p, q, &c, lc, e, l.e, &mut t);
+    let y = less_in(q, &c, lc, e, l.e, &mut t);
     if y != 0 {
         return false;
     }
-    inside(p, q, va, na, &mut b, lb, &mut c, lc, m0, l.m0, n0, l.n0, u, l.u)
-}
-
-// Whether r v and w v lie in the lattice, for v = va + vb r + vc w.
-fn keeps(
-    p: u64,
-    q: Rapid,
-    g: &[u64; 32],
-    lg: usize,
-    h: &[u64; 32],
-    lh: usize,
-    gh: &[u64; 32],
-    lgh: usize,
-    va: &[u64; 32],
-    na: usize,
-    vb: &[u64; 32],
-    nb: usize,
-    vc: &[u64; 32],
-    nc: usize,
-    m0: &[u64; 32],
-    m1: &[u64; 32],
-    m2: &[u64; 32],
-    n0: &[u64; 32],
-    n1: &[u64; 32],
-    n2: &[u64; 32],
-    u: &[u64; 32],
-    l: Lengths,
-    e: &[u64; 32],
-    ie: u64,
-) -> bool
-    requires { ⌜ KeepsIn p (q .m) (q .lim) (now g) lg (now h) lh (now gh) lgh (now va) na (now vb) nb (now vc) nc (seven (now m0) (now m1) (now m2) (now n0) (now n1) (now n2) (now u)) l (now e) ie ⌝ }
-    ensures { λ o. ⌜ Keeps p (now (g .entry)) (now (h .entry)) (now (gh .entry)) (now (va .entry)) (now (vb .entry)) (now (vc .entry)) (seven (now (m0 .entry)) (now (m1 .entry)) (now (m2 .entry)) (now (n0 .entry)) (now (n1 .entry)) (now (n2 .entry)) (now (u .entry))) o ⌝ }
-{
-    let mut ra: [u64; 32] = [0; 32];
-    let mut rc: [u64; 32] = [0; 32];
-    let ka = times_in(p, q, vc, nc, gh, lgh, &mut ra);
-    let kc = times_in(p, q, vb, nb, h, lh, &mut rc);
-    let by_r = member(
-        p, q, &mut ra, ka, va, na, &rc, kc, m0, m1, m2, n0, n1, n2, u, l, e, ie,
-    );
-    let mut wa: [u64; 32] = [0; 32];
-    let mut wb: [u64; 32] = [0; 32];
-    let ja = times_in(p, q, vb, nb, gh, lgh, &mut wa);
-    let jb = times_in(p, q, vc, nc, g, lg, &mut wb);
-    let by_w = member(
-        p, q, &mut wa, ja, &wb, jb, va, na, m0, m1, m2, n0, n1, n2, u, l, e, ie,
-    );
-    if by_r { by_w } else { false }
-}
-
-// Whether the lattice has rank 3 and is closed under products with r and w: U, M and N are enough.
-pub fn under(
-    p: u64,
-    g: &[u64; 32],
-    h: &[u64; 32],
-    gh: &[u64; 32],
-    m0: &[u64; 32],
-    m1: &[u64; 32],
-    m2: &[u64; 32],
-    n0: &[u64; 32],
-    n1: &[u64; 32],
-    n2: &[u64; 32],
-    u: &[u64; 32],
-) -> bool
-    requires { ⌜ UnderIn p (now g) (now h) (now gh) (seven (now m0) (now m1) (now m2) (now n0) (now n1) (now n2) (now u)) ⌝ }
-    ensures { λ o. ⌜ Under p (now (g .entry)) (now (h .entry)) (now (gh .entry)) (seven (now (m0 .entry)) (now (m1 .entry)) (now (m2 .entry)) (now (n0 .entry)) (now (n1 .entry)) (now (n2 .entry)) (now (u .entry))) o ⌝ }
-{
-    let q = rapid_of(p);
-    let mut e: [u64; 32] = [0; 32];
-    let l = lengths_of(p, q, 17, m0, m1, m2, n0, n1, n2, u, &mut e);
-    let k = l.e;
-    if k == 0 {
-        return false;
-    }
-    let ie = inverse(p, e[k - 1]);
-    let lg = size(g);
-    let lh = size(h);
-    let lk = size(gh);
-    let z: [u64; 32] = [0; 32];
-    let one = keeps(
-        p, q, g, lg, h, lh, gh, lk, u, l.u, &z, 0, &z, 0, m0, m1, m2, n0, n1, n2, u, l, &e, ie,
-    );
-    if one {
-        let of_m = keeps(
-            p, q, g, lg, h, lh, gh, lk, m0, l.m0, m1, l.m1, m2, l.m2, m0, m1, m2, n0, n1, n2, u, l, &e, ie,
-        );
-        if of_m {
-            let of_n = keeps(
-                p, q, g, lg, h, lh, gh, lk, n0, l.n0, n1, l.n1, n2, l.n2, m0, m1, m2, n0, n1, n2, u, l, &e, ie,
-            );
-            if of_n { true } else { false }
-        } else {
-            false
-        }
-    } else {
-        false
-    }
+    inside(
+        q,
+        va,
+        na,
+        &mut b,
+        lb,
+        &mut c,
+        lc,
+        m0,
+        l.m0,
+        n0,
+        l.n0,
+        u,
+        l.u,
+    )
 }

@@ -22,11 +22,10 @@ use Rattle.math_rows.proofs.Floors.{sized}
 use Rattle.math_turns.specs.Points.{Pt, Turned}
 use Rattle.math_turns.proofs.Turn.{turned-side, b-lt, c-lt}
 use Rattle.poly_rows.specs.Leaf.{CrossBy, CrossOut}
-use Rattle.poly_rows.specs.Terms.{Ready}
-use Rattle.basis_reduce.specs.Frame.{Frame, Fine, Meaning, Short, rd, Ser, pt, X, Y, side, Ltμ, shift, rowμ}
-use Rattle.basis_reduce.specs.Leaves.{PartIn, TopIn, Topped}
+use Rattle.basis_parts.specs.Frame.{Frame, Fine, Meaning, Short, rd, Ser, pt, X, Y, side, Ltμ, shift, rowμ}
+use Rattle.basis_parts.specs.Leaves.{PartIn, TopIn, Topped}
 use Rattle.basis_reduce.specs.Clear.{Rows, Room, RoomAt, CancelIn, CancelOut}
-use Rattle.basis_reduce.specs.declared.Top.{Top}
+use Rattle.basis_parts.specs.declared.Top.{Top}
 
 module _ {p : ℕ} (ρ : Reading p) where
   pub shift-above : (l : List ℕ) (k j : ℕ) → Row p l → Lt (ρ .𝓥) (ρ .𝓥 .L .ops .mul (tpow ρ k) (row ρ l)) j → (i : ℕ) → j ≤ i → shiftAt l k i ≡ 0
@@ -62,14 +61,13 @@ module _ {F : Frame} {e : Bool} {ab ac bb bc : List ℕ} {a b : Top} {top low : 
       let u : a .n ≤ top = i .ta .upto in
       omega arith
 
-  pub cancel-b : {m lim : ℕ} → Ready (F .p) m lim → CrossBy (F .p) m lim (b .c) ab (a .c) k bb (top - F .dr)
+  pub cancel-b : CrossBy (F .m) (b .c) ab (a .c) k bb (top - F .dr)
   unfolding moved-up
-  cancel-b r =
+  cancel-b =
       let σ = i .some in
       let f : top ≤ 32 = i .room .fits in
-      let lc : a .c < F .p = i .ta .below in record {
+      let lc : a .c < F .m .p = i .ta .below in record {
         modulus = i .room .fine .modulus;
-        ready = r;
         hs = i .tb .below;
         hc = omega arith;
         hx = i .ha .hb;
@@ -79,14 +77,13 @@ module _ {F : Frame} {e : Bool} {ab ac bb bc : List ℕ} {a b : Top} {top low : 
         above = shift-above (rd σ) bb k (top - F .dr) (i .hb .hb .is-row) (b-lt (rd σ) (σ .r) (σ .w) {a = moved-up} (F .dr) (top - F .dr) (σ .two) (σ .r-deg) up-x up-y (omega arith));
       }
 
-  pub cancel-c : {m lim : ℕ} → Ready (F .p) m lim → CrossBy (F .p) m lim (b .c) ac (a .c) k bc (top - F .dw)
+  pub cancel-c : CrossBy (F .m) (b .c) ac (a .c) k bc (top - F .dw)
   unfolding moved-up
-  cancel-c r =
+  cancel-c =
       let σ = i .some in
       let f : top ≤ 32 = i .room .fits in
-      let lc : a .c < F .p = i .ta .below in record {
+      let lc : a .c < F .m .p = i .ta .below in record {
         modulus = i .room .fine .modulus;
-        ready = r;
         hs = i .tb .below;
         hc = omega arith;
         hx = i .ha .hc;
@@ -102,17 +99,16 @@ module _ {F : Frame} {e : Bool} {ab ac bb bc : List ℕ} {a b : Top} {top low : 
       let v : b .n ≤ a .n = i .over in
       comb-drop (rd μ) k (i .ta .lead (omega arith) μ) (i .tb .lead u μ) (omega arith)
 
-  module _ {nb nc : List ℕ} (xb : CrossOut (F .p) (b .c) ab (a .c) k bb (top - F .dr) nb) (xc : CrossOut (F .p) (b .c) ac (a .c) k bc (top - F .dw) nc) where
+  module _ {nb nc : List ℕ} (xb : CrossOut (F .m .p) (b .c) ab (a .c) k bb (top - F .dr) nb) (xc : CrossOut (F .m .p) (b .c) ac (a .c) k bc (top - F .dw) nc) where
     turned-at : (μ : Meaning F) → Turned (rd μ) (rd μ .cast (b .c)) (rd μ .cast (a .c)) k (pt μ ab ac) (pt μ bb bc) (pt μ nb nc)
     turned-at μ = record { at-b = xb .crossed .law (μ .prime); at-c = xc .crossed .law (μ .prime) }
 
-    pub cancel-top : {m lim : ℕ} → Ready (F .p) m lim → TopIn F m lim e nb nc top (a .n - 1) low
-    cancel-top r =
+    pub cancel-top : TopIn F e nb nc top (a .n - 1) low
+    cancel-top =
         let u : low < b .n = i .past in
         let v : b .n ≤ a .n = i .over in
         let w : a .n ≤ top = i .ta .upto in record {
           inp = record { fine = i .room .fine; hb = xb .short; hc = xc .short; fits = i .room .fits; low-r = i .room .low-r; low-w = i .room .low-w };
-          ready = r;
           fits = omega arith;
           room = omega arith;
           ends = λ μ. lt-eq (rd μ .𝓥) (cancel-drop μ) (sym (turned-side (rd μ) (μ .r) (μ .w) e (turned-at μ)));

@@ -14,20 +14,20 @@ use Rattle.math_rows.proofs.Turn.{comb-lt, lead-shift}
 use Rattle.math_turns.specs.Points.{Pt, Turned, Moved}
 use Rattle.math_turns.proofs.Turn.{turned-X, moved-start, moved-swap, moved-turn, moved-has, full}
 use Rattle.poly_rows.specs.Leaf.{Cut}
-use Rattle.basis_reduce.specs.Frame.{Frame, Fine, Meaning, Point, point, Short, Held, rd, pt, X, Y, Ltμ, shift}
-use Rattle.basis_reduce.specs.Leaves.{PartIn, Parted, TopIn, Topped}
-use Rattle.basis_reduce.specs.Clear.{Pair, Rows, Room, CancelIn, CancelOut, ClearIn, ClearBy, Clearing, Cleared, pair, swapIf}
-use Rattle.basis_reduce.specs.declared.Top.{Top}
-use Rattle.basis_reduce.proofs.Laid.{zeros-row, zeros-at}
-use Rattle.basis_reduce.proofs.Tops.{part-lt, topped-up, topped-not, topped-most}
+use Rattle.basis_parts.specs.Frame.{Frame, Fine, Meaning, Point, point, Short, Held, rd, pt, X, Y, Ltμ, shift}
+use Rattle.basis_parts.specs.Leaves.{PartIn, Parted, TopIn, Topped}
+use Rattle.basis_reduce.specs.Clear.{Pair, Rows, Room, CancelIn, CancelOut, ClearIn, Clearing, Cleared, pair, swapIf}
+use Rattle.basis_parts.specs.declared.Top.{Top}
+use Rattle.basis_parts.proofs.Laid.{zeros-row, zeros-at}
+use Rattle.basis_parts.proofs.Tops.{part-lt, topped-up, topped-not, topped-most}
 
 -- what `part` asks, and what it gives
 pub part-in : {F : Frame} {top : ℕ} {b c : List ℕ} → Room F top → Rows F top b c → PartIn F b c top
 part-in r h = record { fine = r .fine; hb = h .hb; hc = h .hc; fits = r .fits; low-r = r .low-r; low-w = r .low-w }
 
 -- zeros are a row of any length
-pub blank : {F : Frame} {top : ℕ} → Room F top → Short (F .p) (replicate 32 0) top
-blank {F} r = let b : 1 < F .p = r .fine .modulus .big in record { is-row = zeros-row (F .p) (omega arith); above = λ i u. zeros-at 32 i }
+pub blank : {F : Frame} {top : ℕ} → Room F top → Short (F .m .p) (replicate 32 0) top
+blank {F} r = let b : 1 < F .m .p = r .fine .modulus .big in record { is-row = zeros-row (F .m .p) (omega arith); above = λ i u. zeros-at 32 i }
 
 pub part-below : {F : Frame} {e : Bool} {top : ℕ} {b c z : List ℕ} → Room F top → Parted F e b c top z → Cut z top
 part-below r o = record { size = o .short .is-row .size; fits = r .fits; above = o .short .above }
@@ -49,8 +49,8 @@ clear-room {F} {q} {top} {lu} i =
     above v (i .det) (lt-add v (lt-mul v (lt-up v top (i .lx1) (i .bx1)) (lt-up v top (i .ly2) (i .bv2))) (lt-neg v (lt-mul v (lt-up v top (i .lx2) (i .bx2)) (lt-up v top (i .ly1) (i .bv1))))) in
     omega arith
 
-pub clear-top : {F : Frame} {q : Pair} {top lu m lim : ℕ} {b c : List ℕ} → ClearBy F m lim q top lu → Rows F top b c → TopIn F m lim true b c top top (lu - 1)
-clear-top i h = record { inp = part-in (i .inp .room) h; ready = i .ready; fits = omega arith; room = clear-room (i .inp); ends = part-lt true (part-in (i .inp .room) h) }
+pub clear-top : {F : Frame} {q : Pair} {top lu : ℕ} {b c : List ℕ} → ClearIn F q top lu → Rows F top b c → TopIn F true b c top top (lu - 1)
+clear-top i h = record { inp = part-in (i .room) h; fits = omega arith; room = clear-room i; ends = part-lt true (part-in (i .room) h) }
 
 pub clear-start : {F : Frame} {q : Pair} {top lu : ℕ} {y1 y2 : Top} → ClearIn F q top lu → Topped F true (q .mb) (q .mc) (lu - 1) top y1 → Topped F true (q .nb) (q .nc) (lu - 1) top y2 → Clearing F q top lu q y1 y2
 clear-start {F} {q} {top} {lu} {y1} {y2} i t1 t2 =

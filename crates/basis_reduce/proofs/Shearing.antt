@@ -17,12 +17,11 @@ use Rattle.math_rows.proofs.Turn.{comb-keep, lead-shift}
 use Rattle.math_rows.proofs.Floors.{sized, floor-lt, floor-le}
 use Rattle.math_turns.specs.Points.{Pt, Turned, Moved}
 use Rattle.math_turns.proofs.Turn.{turned-Y, moved-start, moved-swap, moved-turn, moved-then, moved-has, full}
-use Rattle.poly_rows.specs.Terms.{Ready}
-use Rattle.basis_reduce.specs.Frame.{Frame, Fine, Meaning, Short, Held, rd, pt, X, Y, Ltμ, Hasμ, shift}
-use Rattle.basis_reduce.specs.Leaves.{Parted, TopIn, Topped}
+use Rattle.basis_parts.specs.Frame.{Frame, Fine, Meaning, Short, Held, rd, pt, X, Y, Ltμ, Hasμ, shift}
+use Rattle.basis_parts.specs.Leaves.{Parted, TopIn, Topped}
 use Rattle.basis_reduce.specs.Clear.{Pair, Rows, Room, CancelIn, CancelOut, Clearing, Cleared, ShearIn, Shearing, Sheared, Reduced, Movedμ, Ends, ends}
-use Rattle.basis_reduce.specs.declared.Top.{Top}
-use Rattle.basis_reduce.proofs.Tops.{part-lt, part-top, topped-up, topped-not, topped-has}
+use Rattle.basis_parts.specs.declared.Top.{Top}
+use Rattle.basis_parts.proofs.Tops.{part-lt, part-top, topped-up, topped-not, topped-has}
 use Rattle.basis_reduce.proofs.Clearing.{part-in, part-held}
 
 -- ---- from the first loop to the second
@@ -109,11 +108,11 @@ module _ {F : Frame} {q : Pair} {top : ℕ} (i : ShearIn F q top) {mx : List ℕ
       let f : top ≤ 32 = i .room .fits in
       omega arith
 
-  pub shear-top : {m lim : ℕ} → Ready (F .p) m lim → TopIn F m lim false (q .nb) (q .nc) top top (l - 1)
-  shear-top r =
+  pub shear-top : TopIn F false (q .nb) (q .nc) top top (l - 1)
+  shear-top =
       let e : l ≡ suc (i .x) = shear-length in
       let b : i .x < top = i .bm in
-      record { inp = part-in (i .room) (i .hn); ready = r; fits = omega arith; room = omega arith; ends = part-lt false (part-in (i .room) (i .hn)) }
+      record { inp = part-in (i .room) (i .hn); fits = omega arith; room = omega arith; ends = part-lt false (part-in (i .room) (i .hn)) }
 
   pub shear-start : {t : Top} → Topped F false (q .nb) (q .nc) (l - 1) top t → Shearing F q top (q .nb) (q .nc) (record { n = l; c = getD mx (l - 1) 0 }) t
   shear-start h =

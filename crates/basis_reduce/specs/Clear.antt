@@ -16,10 +16,9 @@ use mathlib.Core.List.{List}
 use Prim.Native.Nat.{ℕ, suc, _+_, _-_, _<_, _≤_}
 use Rattle.math_rows.specs.Row.{Size}
 use Rattle.math_turns.specs.Points.{Turned, Moved}
-use Rattle.poly_rows.specs.Terms.{Ready}
-use Rattle.basis_reduce.specs.Frame.{Frame, Fine, Meaning, point, Short, Held, rd, pt, X, Y, D, Ltμ, Hasμ, shift}
-use Rattle.basis_reduce.specs.Leaves.{Topped}
-use Rattle.basis_reduce.specs.declared.Top.{Top}
+use Rattle.basis_parts.specs.Frame.{Frame, Fine, Meaning, point, Short, Held, rd, pt, X, Y, D, Ltμ, Hasμ, shift}
+use Rattle.basis_parts.specs.Leaves.{Topped}
+use Rattle.basis_parts.specs.declared.Top.{Top}
 
 -- two elements, by their rows
 pub record Pair : Type 0 where
@@ -55,8 +54,8 @@ endsIf false o = o
 
 -- the rows of an element below top
 pub record Rows (F : Frame) (top : ℕ) (b c : List ℕ) : Type 0 where
-  pub hb : Short (F .p) b (top - F .dr)
-  pub hc : Short (F .p) c (top - F .dw)
+  pub hb : Short (F .m .p) b (top - F .dr)
+  pub hc : Short (F .m .p) c (top - F .dw)
 
 -- the numbers that every loop keeps
 pub record Room (F : Frame) (top : ℕ) : Type 0 where
@@ -86,11 +85,6 @@ pub record CancelIn (F : Frame) (e : Bool) (ab ac : List ℕ) (a : Top) (bb bc :
   pub over : b .n ≤ a .n
   pub some : Meaning F
   pub at : RoomAt some ab ac bb bc (a .n - b .n) top
-
--- the same with what a quick remainder needs
-pub record CancelBy (F : Frame) (mul lim : ℕ) (e : Bool) (ab ac : List ℕ) (a : Top) (bb bc : List ℕ) (b : Top) (top low : ℕ) : Type 0 where
-  pub inp : CancelIn F e ab ac a bb bc b top low
-  pub ready : Ready (F .p) mul lim
 
 pub record CancelOut (F : Frame) (e : Bool) (ab ac : List ℕ) (a : Top) (bb bc : List ℕ) (b : Top) (top low : ℕ) (nb nc : List ℕ) (t : Top) : Type 0 where
   pub rows : Rows F top nb nc
@@ -123,11 +117,6 @@ pub record ClearIn (F : Frame) (q : Pair) (top lu : ℕ) : Type 0 where
   pub ly1 : Ltμ some (Y some (pt some (q .mb) (q .mc))) v1
   pub ly2 : Ltμ some (Y some (pt some (q .nb) (q .nc))) v2
   pub det : Hasμ some (D some (pt some (q .mb) (q .mc)) (pt some (q .nb) (q .nc))) (s + u)
-
--- the same with what a quick remainder needs
-pub record ClearBy (F : Frame) (mul lim : ℕ) (q : Pair) (top lu : ℕ) : Type 0 where
-  pub inp : ClearIn F q top lu
-  pub ready : Ready (F .p) mul lim
 
 -- y1 and y2 are the tops of Y(m), Y(n) past u′; x1 and x2 bound the lengths of X
 pub record Clearing (F : Frame) (q : Pair) (top lu : ℕ) (o : Pair) (y1 y2 : Top) : Type 0 where
@@ -177,12 +166,11 @@ pub record ShearIn (F : Frame) (q : Pair) (top : ℕ) : Type 0 where
   pub bm : x < top
   pub xn : Ltμ some (X some (pt some (q .nb) (q .nc))) top
 
--- the same with what a quick remainder needs, and the rows that X(m), X(n) go into
-pub record ShearBy (F : Frame) (mul lim : ℕ) (q : Pair) (top : ℕ) (mx nx : List ℕ) : Type 0 where
+-- the same with the rows that X(m), X(n) go into
+pub record ShearBy (F : Frame) (q : Pair) (top : ℕ) (mx nx : List ℕ) : Type 0 where
   pub inp : ShearIn F q top
-  pub ready : Ready (F .p) mul lim
-  pub hmx : Short (F .p) mx top
-  pub hnx : Short (F .p) nx top
+  pub hmx : Short (F .m .p) mx top
+  pub hnx : Short (F .m .p) nx top
 
 -- x1 is the top of X(m), and x2 that of X(n) from there on
 pub record Shearing (F : Frame) (q : Pair) (top : ℕ) (nb nc : List ℕ) (x1 x2 : Top) : Type 0 where
@@ -214,10 +202,10 @@ pub record Sheared (F : Frame) (q : Pair) (top : ℕ) (o : Ends) : Type 0 where
   pub moved : (μ : Meaning F) → Movedμ μ q (o .mb) (o .mc) (o .nb) (o .nc)
 
 -- ---- both
-pub record ReduceIn (F : Frame) (mul lim : ℕ) (q : Pair) (top lu : ℕ) (mx nx : List ℕ) : Type 0 where
-  pub inp : ClearBy F mul lim q top lu
-  pub hmx : Short (F .p) mx top
-  pub hnx : Short (F .p) nx top
+pub record ReduceIn (F : Frame) (q : Pair) (top lu : ℕ) (mx nx : List ℕ) : Type 0 where
+  pub inp : ClearIn F q top lu
+  pub hmx : Short (F .m .p) mx top
+  pub hnx : Short (F .m .p) nx top
 
 pub record Reduced (F : Frame) (q : Pair) (top lu : ℕ) (o : Ends) : Type 0 where
   pub hm : Held F false top (point (o .mb) (o .mc) (o .mx))

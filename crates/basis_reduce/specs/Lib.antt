@@ -1,4 +1,1 @@
-pub mod Frame
-pub mod Given
-pub mod Leaves
 pub mod Clear

@@ -21,17 +21,18 @@ use Rattle.math_rows.proofs.Turn.{lead-scale, lt-scale}
 use Rattle.math_turns.specs.Points.{Pt, Moved}
 use Rattle.math_turns.proofs.Turn.{moved-scale, moved-then}
 use Rattle.math_rows.proofs.Unique.{cast-inj}
-use Rattle.num_residue.specs.Residue.{Modulus}
+use Rattle.num_mod.specs.Prepared.{Prepared}
+use Rattle.num_mod.specs.declared.Modulus.{Modulus}
+use Rattle.num_mod.proofs.Prepared.{bare}
 use Rattle.poly_rows.specs.Leaf.{Scaled, ScaleBy, ScaleOut}
-use Rattle.poly_rows.specs.Terms.{Ready}
 use Rattle.poly_rows.proofs.Leaf.{size-one}
 use Rattle.poly_lent.proofs.Mixing.{size-cut}
 use Rattle.basis_record.specs.Record.{part}
-use Rattle.basis_reduce.specs.Frame.{Frame, Meaning, Short, Held, point, rd, Ser, rowμ, pt, X, Y, Ltμ}
-use Rattle.basis_reduce.specs.Leaves.{PartIn, Led}
+use Rattle.basis_parts.specs.Frame.{Frame, Meaning, Short, Held, point, rd, Ser, rowμ, pt, X, Y, Ltμ}
+use Rattle.basis_parts.specs.Leaves.{PartIn, Led}
 use Rattle.basis_reduce.specs.Clear.{Pair, Ends, ClearIn, Reduced}
 use Rattle.basis_scale.specs.declared.Factors.{Factors}
-use Rattle.basis_reduce.proofs.Laid.{zeros-at}
+use Rattle.basis_parts.proofs.Laid.{zeros-at}
 use Rattle.basis_reduce.proofs.Clearing.{part-in, rows-of}
 use Rattle.basis_scale.specs.Levels.{Monic}
 use Rattle.basis_scale.specs.Place.{off, ElementIn, PlacedAt, FillIn, Filled}
@@ -46,19 +47,19 @@ positive zero h = absurd (h refl)
 positive (suc v) h = omega arith
 
 -- what `scale_in` asks, where the length is known
-by-size : {p mul lim c : ℕ} {x : List ℕ} {n : ℕ} → Modulus p → Ready p mul lim → c < p → Row p x → Size x n → ScaleBy p mul lim c x n
-by-size m w l h s = record { modulus = m; ready = w; hc = l; hx = record { is-row = h; above = s .above }; fits = size-cut h s .fits }
+by-size : {q : Modulus} {c : ℕ} {x : List ℕ} {n : ℕ} → Prepared q → c < q .p → Row (q .p) x → Size x n → ScaleBy q c x n
+by-size m l h s = record { modulus = m; hc = l; hx = record { is-row = h; above = s .above }; fits = size-cut h s .fits }
 
 module _ {F : Frame} {q : Pair} {top : ℕ} {d x1 y1 : List ℕ} (g : BasisIn F q top d x1 y1) where
-  two-low : 2 < F .p
-  two-low = let b : 1 < F .p = g .clear .room .fine .modulus .big in let o : F .p % 2 ≡ 1 = g .odd in omega arith
+  two-low : 2 < F .m .p
+  two-low = let b : 1 < F .m .p = g .clear .room .fine .modulus .big in let o : F .m .p % 2 ≡ 1 = g .odd in omega arith
 
   -- the doubles of x1 and y1
-  pub double-x : {mul lim n : ℕ} → Ready (F .p) mul lim → Size x1 n → ScaleBy (F .p) mul lim 2 x1 n
-  double-x w s = by-size (g .clear .room .fine .modulus) w two-low (g .h1 .is-row) s
+  pub double-x : {n : ℕ} → Size x1 n → ScaleBy (F .m) 2 x1 n
+  double-x s = by-size (g .clear .room .fine .modulus) two-low (g .h1 .is-row) s
 
-  pub double-y : {mul lim n : ℕ} → Ready (F .p) mul lim → Size y1 n → ScaleBy (F .p) mul lim 2 y1 n
-  double-y w s = by-size (g .clear .room .fine .modulus) w two-low (g .h2 .is-row) s
+  pub double-y : {n : ℕ} → Size y1 n → ScaleBy (F .m) 2 y1 n
+  double-y s = by-size (g .clear .room .fine .modulus) two-low (g .h2 .is-row) s
 
 module _ {F : Frame} {q : Pair} {top : ℕ} {d x1 y1 : List ℕ} (g : BasisIn F q top d x1 y1) {lu : ℕ} (sd : Size d lu) where
   lu-is : lu ≡ suc (g .u)
@@ -70,8 +71,8 @@ module _ {F : Frame} {q : Pair} {top : ℕ} {d x1 y1 : List ℕ} (g : BasisIn F 
   pub based-clear : ClearIn F q top lu
   based-clear = subst (λ n. ClearIn F q top n) (sym lu-is) (g .clear)
 
-  pub based-u : {mul lim s : ℕ} → Ready (F .p) mul lim → s < F .p → ScaleBy (F .p) mul lim s d lu
-  based-u w l = by-size (g .clear .room .fine .modulus) w l (g .hd .is-row) sd
+  pub based-u : {s : ℕ} → s < F .m .p → ScaleBy (F .m) s d lu
+  based-u l = by-size (g .clear .room .fine .modulus) l (g .hd .is-row) sd
 
   module _ {o : Ends} (h : Reduced F q top lu o) where
     pub based-part : PartIn F (o .nb) (o .nc) top
@@ -81,13 +82,13 @@ module _ {F : Frame} {q : Pair} {top : ℕ} {d x1 y1 : List ℕ} (g : BasisIn F 
     lx-pos = let l : h .x2 < o .lx = h .x-less in omega arith
 
     module _ {y : ℕ} (ly : Led F true (o .nb) (o .nc) y) where
-      pub based-scales : ScalesIn (F .p) (getD d (lu - 1) 0) (getD (o .mx) (o .lx - 1) 0) y
+      pub based-scales : ScalesIn (F .m .p) (getD d (lu - 1) 0) (getD (o .mx) (o .lx - 1) 0) y
       based-scales =
           let μ = g .clear .some in
           let l = ly .law μ (h .y) (h .y-has μ) in
           let e : lu ≡ suc (g .u) = lu-is in
           let z : 0 < o .lx = lx-pos in record {
-            modulus = g .clear .room .fine .modulus;
+            modulus = bare (g .clear .room .fine .modulus);
             prime = μ .prime;
             a-pos = positive (getD d (lu - 1) 0) (sd .top (omega arith));
             b-pos = positive (getD (o .mx) (o .lx - 1) 0) (h .sx1 .top z);
@@ -97,14 +98,14 @@ module _ {F : Frame} {q : Pair} {top : ℕ} {d x1 y1 : List ℕ} (g : BasisIn F 
             c-low = l .1;
           }
 
-      module _ {k : Factors} (hk : Scaling (F .p) (getD d (lu - 1) 0) (getD (o .mx) (o .lx - 1) 0) y k) where
-        module _ {u : List ℕ} (so : ScaleOut (F .p) (k .u) d lu u) where
+      module _ {k : Factors} (hk : Scaling (F .m .p) (getD d (lu - 1) 0) (getD (o .mx) (o .lx - 1) 0) y k) where
+        module _ {u : List ℕ} (so : ScaleOut (F .m .p) (k .u) d lu u) where
           open ScaleOut so using (scaled as su)
 
           -- U leads with 1
-          u-lead : (pr : Prime (F .p)) → reading (F .p) pr .𝓥 .Lead (row (reading (F .p) pr) u) (g .u) 0 (reading (F .p) pr .𝓥 .K .ops .𝟏)
+          u-lead : (pr : Prime (F .m .p)) → reading (F .m .p) pr .𝓥 .Lead (row (reading (F .m .p) pr) u) (g .u) 0 (reading (F .m .p) pr .𝓥 .K .ops .𝟏)
           u-lead pr =
-              let ρ = reading (F .p) pr in
+              let ρ = reading (F .m .p) pr in
               let e : lu ≡ suc (g .u) = lu-is in
               let q : lu - 1 ≡ g .u = omega arith in
               lead-eq (ρ .𝓥) (lead-scale ρ (ρ .cast (k .u)) (size-lead ρ (g .d-size))) (sym (su .law pr)) (ap (λ n. ρ .𝓥 .K .ops .mul (ρ .cast (k .u)) (ρ .cast (getD d n 0))) (sym q) ∙ hk .u-law pr)
@@ -112,7 +113,7 @@ module _ {F : Frame} {q : Pair} {top : ℕ} {d x1 y1 : List ℕ} (g : BasisIn F 
           not-zero : (μ : Meaning F) (s : ℕ) (v w : rd μ .𝓥 .K .El) → w ≢ rd μ .𝓥 .K .ops .𝟎 → rd μ .𝓥 .K .ops .mul (rd μ .cast s) v ≡ w → rd μ .cast s ≢ rd μ .𝓥 .K .ops .𝟎
           not-zero μ s v w hw e z = hw (sym e ∙ ap (λ y. rd μ .𝓥 .K .ops .mul y v) z ∙ rg.zero-mul′ (rd μ .𝓥 .K) v)
 
-          u-monic : Monic (F .p) u lu
+          u-monic : Monic (F .m .p) u lu
           u-monic =
               let μ = g .clear .some in
               let ρ = rd μ in
@@ -126,9 +127,9 @@ module _ {F : Frame} {q : Pair} {top : ℕ} {d x1 y1 : List ℕ} (g : BasisIn F 
                     (ρ .𝓥 .lead-unique (size-lead-at ρ lu s based-lu) (subst (λ m. ρ .𝓥 .Lead (row ρ u) m 0 (ρ .𝓥 .K .ops .𝟏)) (sym w) (u-lead (μ .prime))) ∙ sym (ρ .cast-one));
               }
 
-          module _ {mul lim : ℕ} (rdy : Ready (F .p) mul lim) {n1 n2 : ℕ} (s1 : Size x1 n1) (s2 : Size y1 n2) {x2 y2 : List ℕ} (e1 : ScaleOut (F .p) 2 x1 n1 x2) (e2 : ScaleOut (F .p) 2 y1 n2 y2) where
+          module _ {n1 n2 : ℕ} (s1 : Size x1 n1) (s2 : Size y1 n2) {x2 y2 : List ℕ} (e1 : ScaleOut (F .m .p) 2 x1 n1 x2) (e2 : ScaleOut (F .m .p) 2 y1 n2 y2) where
             -- an element with its polynomial part, over U
-            element : {b c x : List ℕ} {s : ℕ} → s < F .p → Held F false top (point b c x) → ElementIn (F .p) mul lim top s b c x x2 n1 y2 n2 u lu
+            element : {b c x : List ℕ} {s : ℕ} → s < F .m .p → Held F false top (point b c x) → ElementIn (F .m) top s b c x x2 n1 y2 n2 u lu
             element ls t =
                 let f : top ≤ 17 = g .fits in
                 let r : F .dr ≤ top = g .clear .room .low-r in
@@ -138,7 +139,6 @@ module _ {F : Frame} {q : Pair} {top : ℕ} {d x1 y1 : List ℕ} (g : BasisIn F 
                 let y : lu ≤ suc (h .y) = h .y-high in
                 let y′ : h .y < top = h .y-fits in record {
                   modulus = g .clear .room .fine .modulus;
-                  ready = rdy;
                   prime = g .clear .some .prime;
                   small = g .small;
                   odd = g .odd;
@@ -161,10 +161,10 @@ module _ {F : Frame} {q : Pair} {top : ℕ} {d x1 y1 : List ℕ} (g : BasisIn F 
                   low-u = omega arith;
                 }
 
-            pub based-fill : FillIn (F .p) mul lim top k (o .mb) (o .mc) (o .mx) (o .nb) (o .nc) (o .nx) x2 n1 y2 n2 u lu
+            pub based-fill : FillIn (F .m) top k (o .mb) (o .mc) (o .mx) (o .nb) (o .nc) (o .nx) x2 n1 y2 n2 u lu
             based-fill = record { m = element (hk .m-low) (h .hm); n = element (hk .n-low) (h .hn) }
 
-            module _ {B₃ : List ℕ} (fl : Filled (F .p) k (o .mb) (o .mc) (o .mx) (o .nb) (o .nc) (o .nx) x2 y2 u B₃) where
+            module _ {B₃ : List ℕ} (fl : Filled (F .m .p) k (o .mb) (o .mc) (o .mx) (o .nb) (o .nc) (o .nx) x2 y2 u B₃) where
               open Filled fl using (B₁, B₂, at-m as pm, at-n as pn, at-u as st)
 
               part-M : (j : ℕ) → j < 3 → part j B₁ ≡ part j B₃
@@ -173,15 +173,15 @@ module _ {F : Frame} {q : Pair} {top : ℕ} {d x1 y1 : List ℕ} (g : BasisIn F 
               part-N : (j : ℕ) → j < 6 → part j B₂ ≡ part j B₃
               part-N j l = sym (stored-other B₂ 6 u B₃ st j (inl l))
 
-              at-M : (pr : Prime (F .p)) → PlacedAt (reading (F .p) pr) (k .m) (o .mb) (o .mc) (o .mx) x2 y2 u (part 0 B₃) (part 1 B₃) (part 2 B₃)
-              at-M pr = subst (λ z. PlacedAt (reading (F .p) pr) (k .m) (o .mb) (o .mc) (o .mx) x2 y2 u (part 0 B₃) (part 1 B₃) z) (part-M 2 (omega arith))
-                  (subst (λ z. PlacedAt (reading (F .p) pr) (k .m) (o .mb) (o .mc) (o .mx) x2 y2 u (part 0 B₃) z (part 2 B₁)) (part-M 1 (omega arith))
-                  (subst (λ z. PlacedAt (reading (F .p) pr) (k .m) (o .mb) (o .mc) (o .mx) x2 y2 u z (part 1 B₁) (part 2 B₁)) (part-M 0 (omega arith)) (pm .at pr)))
+              at-M : (pr : Prime (F .m .p)) → PlacedAt (reading (F .m .p) pr) (k .m) (o .mb) (o .mc) (o .mx) x2 y2 u (part 0 B₃) (part 1 B₃) (part 2 B₃)
+              at-M pr = subst (λ z. PlacedAt (reading (F .m .p) pr) (k .m) (o .mb) (o .mc) (o .mx) x2 y2 u (part 0 B₃) (part 1 B₃) z) (part-M 2 (omega arith))
+                  (subst (λ z. PlacedAt (reading (F .m .p) pr) (k .m) (o .mb) (o .mc) (o .mx) x2 y2 u (part 0 B₃) z (part 2 B₁)) (part-M 1 (omega arith))
+                  (subst (λ z. PlacedAt (reading (F .m .p) pr) (k .m) (o .mb) (o .mc) (o .mx) x2 y2 u z (part 1 B₁) (part 2 B₁)) (part-M 0 (omega arith)) (pm .at pr)))
 
-              at-N : (pr : Prime (F .p)) → PlacedAt (reading (F .p) pr) (k .n) (o .nb) (o .nc) (o .nx) x2 y2 u (part 3 B₃) (part 4 B₃) (part 5 B₃)
-              at-N pr = subst (λ z. PlacedAt (reading (F .p) pr) (k .n) (o .nb) (o .nc) (o .nx) x2 y2 u (part 3 B₃) (part 4 B₃) z) (part-N 5 (omega arith))
-                  (subst (λ z. PlacedAt (reading (F .p) pr) (k .n) (o .nb) (o .nc) (o .nx) x2 y2 u (part 3 B₃) z (part 5 B₂)) (part-N 4 (omega arith))
-                  (subst (λ z. PlacedAt (reading (F .p) pr) (k .n) (o .nb) (o .nc) (o .nx) x2 y2 u z (part 4 B₂) (part 5 B₂)) (part-N 3 (omega arith)) (pn .at pr)))
+              at-N : (pr : Prime (F .m .p)) → PlacedAt (reading (F .m .p) pr) (k .n) (o .nb) (o .nc) (o .nx) x2 y2 u (part 3 B₃) (part 4 B₃) (part 5 B₃)
+              at-N pr = subst (λ z. PlacedAt (reading (F .m .p) pr) (k .n) (o .nb) (o .nc) (o .nx) x2 y2 u (part 3 B₃) (part 4 B₃) z) (part-N 5 (omega arith))
+                  (subst (λ z. PlacedAt (reading (F .m .p) pr) (k .n) (o .nb) (o .nc) (o .nx) x2 y2 u (part 3 B₃) z (part 5 B₂)) (part-N 4 (omega arith))
+                  (subst (λ z. PlacedAt (reading (F .m .p) pr) (k .n) (o .nb) (o .nc) (o .nx) x2 y2 u z (part 4 B₂) (part 5 B₂)) (part-N 3 (omega arith)) (pn .at pr)))
 
               module _ (μ : Meaning F) where
                 is-U : at μ 6 B₃ ≡ rowμ μ u
@@ -217,9 +217,9 @@ module _ {F : Frame} {q : Pair} {top : ℕ} {d x1 y1 : List ℕ} (g : BasisIn F 
                     (rowμ μ a₀ ∷ rowμ μ a₀ ∷ rowμ μ b₀ ∷ rowμ μ c₀ ∷ ρ .𝓥 .const (ρ .cast s) ∷ rowμ μ b ∷ rowμ μ c ∷ μ .r ∷ μ .w ∷ rowμ μ x ∷ []) (e .is-b, (e .is-c, tt)))
 
                 abbrev h₂ : Ser μ
-                h₂ = rd μ .𝓥 .const (rd μ .cast ((F .p + 1) / 2))
+                h₂ = rd μ .𝓥 .const (rd μ .cast ((F .m .p + 1) / 2))
 
-                twice : {x z : List ℕ} → Scaled (F .p) 2 x z → rowμ μ z ≡ rd μ .𝓥 .L .ops .mul (rd μ .𝓥 .L .ops .add (rd μ .𝓥 .L .ops .𝟏) (rd μ .𝓥 .L .ops .𝟏)) (rowμ μ x)
+                twice : {x z : List ℕ} → Scaled (F .m .p) 2 x z → rowμ μ z ≡ rd μ .𝓥 .L .ops .mul (rd μ .𝓥 .L .ops .add (rd μ .𝓥 .L .ops .𝟏) (rd μ .𝓥 .L .ops .𝟏)) (rowμ μ x)
                 twice {x} e = e .law (μ .prime) ∙ ap (λ y. rd μ .𝓥 .L .ops .mul y (rowμ μ x)) (const-two (rd μ))
 
                 -- row 0 is half of what is placed
@@ -277,6 +277,6 @@ module _ {F : Frame} {q : Pair} {top : ℕ} {d x1 y1 : List ℕ} (g : BasisIn F 
               pub based : Based F q d x1 y1 B₃
               based = record {
                 size = st .size;
-                each = stored-each (F .p) B₂ 6 u B₃ st (pn .each (pm .each (λ j. let w : _≡_ {A = ℕ} (getD (replicate 119 0) j 0) 0 = zeros-at 119 j in let b : 1 < F .p = g .clear .room .fine .modulus .big in omega arith))) (su .is-row .each);
+                each = stored-each (F .m .p) B₂ 6 u B₃ st (pn .each (pm .each (λ j. let w : _≡_ {A = ℕ} (getD (replicate 119 0) j 0) 0 = zeros-at 119 j in let b : 1 < F .m .p = g .clear .room .fine .modulus .big in omega arith))) (su .is-row .each);
                 meant = based-at;
               }

@@ -16,10 +16,9 @@ use Rattle.math_rows.specs.Reading.{Reading}
 use Rattle.math_rows.specs.Row.{Row, Size, row, psum, tpow}
 use Rattle.math_rows.proofs.Rows.{row-cut}
 use Rattle.math_turns.specs.Points.{Pt}
-use Rattle.poly_rows.specs.Terms.{Ready}
-use Rattle.basis_reduce.specs.Frame.{Frame, Meaning, Short, rd, Ser, pt, X, Y, D, Hasμ}
+use Rattle.basis_parts.specs.Frame.{Frame, Meaning, Short, rd, Ser, pt, X, Y, D, Hasμ}
 use Rattle.basis_reduce.specs.Clear.{ClearIn, Room, Rows}
-use Rattle.basis_reduce.proofs.Laid.{zeros-at, zeros-row, zeros-size}
+use Rattle.basis_parts.proofs.Laid.{zeros-at, zeros-row, zeros-size}
 use Rattle.basis_scale.specs.Based.{BasisIn, BasisBy}
 use Rattle.basis_scale.specs.First.{unit, nothing, units, OrderIn}
 
@@ -49,14 +48,14 @@ module _ {p : ℕ} (ρ : Reading p) where
 
 -- ---- the demands of the reduction
 module _ {F : Frame} {top : ℕ} (i : OrderIn F top) where
-  pos : 1 < F .p
+  pos : 1 < F .m .p
   pos = i .fine .modulus .big
 
-  unit-short : (n : ℕ) → 1 ≤ n → Short (F .p) unit n
-  unit-short n l = record { is-row = unit-row (F .p) pos; above = λ j u. unit-at j (omega arith) }
+  unit-short : (n : ℕ) → 1 ≤ n → Short (F .m .p) unit n
+  unit-short n l = record { is-row = unit-row (F .m .p) pos; above = λ j u. unit-at j (omega arith) }
 
-  nothing-short : (n : ℕ) → Short (F .p) nothing n
-  nothing-short n = record { is-row = zeros-row (F .p) (let b : 1 < F .p = pos in omega arith); above = λ j u. zeros-at 32 j }
+  nothing-short : (n : ℕ) → Short (F .m .p) nothing n
+  nothing-short n = record { is-row = zeros-row (F .m .p) (let b : 1 < F .m .p = pos in omega arith); above = λ j u. zeros-at 32 j }
 
   at-m : pt (i .some) unit nothing ≡ record { b = rd (i .some) .𝓥 .L .ops .𝟏; c = rd (i .some) .𝓥 .L .ops .𝟎 }
   at-m = ap₂ (λ x y. record { b = x; c = y }) (unit-is (rd (i .some))) (nothing-is (rd (i .some)))
@@ -112,5 +111,5 @@ module _ {F : Frame} {top : ℕ} (i : OrderIn F top) where
         };
       }
 
-  pub order-by : {mul lim : ℕ} → Ready (F .p) mul lim → BasisBy F mul lim units top unit 1 nothing 0 nothing 0
-  order-by r = record { inp = order-in; ready = r; size = unit-size; size-1 = zeros-size; size-2 = zeros-size }
+  pub order-by : BasisBy F units top unit 1 nothing 0 nothing 0
+  order-by = record { inp = order-in; size = unit-size; size-1 = zeros-size; size-2 = zeros-size }

@@ -13,6 +13,8 @@ use Rattle.math_fp.specs.Fp.{Prime}
 use Rattle.math_valued.specs.Val.{Valued}
 use Rattle.math_valued.specs.Degree.{Has, Lt}
 use Rattle.math_valued.proofs.Degree.{lt-eq, lt-neg, lt-up}
+use Rattle.num_mod.specs.declared.Modulus.{Modulus}
+use Rattle.num_mod.proofs.Prepared.{bare}
 use Rattle.math_rows.specs.Reading.{Reading}
 use Rattle.math_rows.specs.Made.{reading}
 use Rattle.math_rows.specs.Row.{row, shiftAt, tpow}
@@ -21,37 +23,36 @@ use Rattle.poly_rows.specs.Leaf.{CrossBy, CrossOut}
 use Rattle.poly_rows.specs.Division.{DivIn, Quotient}
 use Rattle.poly_rows.proofs.Leaf.{size-one}
 use Rattle.poly_lent.specs.Sized.{Mixed}
-use Rattle.basis_reduce.specs.Frame.{Short}
+use Rattle.basis_parts.specs.Frame.{Short}
 use Rattle.basis_scale.specs.Levels.{LevelIn, Leveled, Monic}
 use Rattle.basis_scale.proofs.Two.{half}
 use Rattle.poly_rows.proofs.Lengths.{row-short}
 
-module _ {p mul lim : ℕ} {u : List ℕ} {lu : ℕ} {k : List ℕ} {n : ℕ} {x : List ℕ} {top : ℕ} (i : LevelIn p mul lim u lu k n x top) where
-  pub level-divide : DivIn p k u 1
-  level-divide = let b : 1 < p = i .modulus .big in record {
-    modulus = i .modulus;
+module _ {M : Modulus} {u : List ℕ} {lu : ℕ} {k : List ℕ} {n : ℕ} {x : List ℕ} {top : ℕ} (i : LevelIn M u lu k n x top) where
+  pub level-divide : DivIn (M .p) k u 1
+  level-divide = let b : 1 < M .p = i .modulus .big in record {
+    modulus = bare (i .modulus);
     ha = i .hk;
     hb = i .monic .is-row;
     hi = b;
-    inv = λ m s. ap (λ a. N._*_ 1 (getD u (N._-_ a 1) 0) % p) (size-one s (i .monic .size)) ∙ ap (λ a. N._*_ 1 a % p) (i .monic .lead) ∙ mod-eq-of-lt b;
+    inv = λ m s. ap (λ a. N._*_ 1 (getD u (N._-_ a 1) 0) % M .p) (size-one s (i .monic .size)) ∙ ap (λ a. N._*_ 1 a % M .p) (i .monic .lead) ∙ mod-eq-of-lt b;
   }
 
   -- what is left of k where the product of its quotient and u is taken off
-  module _ {q r : List ℕ} {l : ℕ} (g : Quotient p k u q) (f : Mixed p true q l u lu k r) where
-    low : (pr : Prime p) (n : ℕ) → Has (reading p pr .𝓥) (row (reading p pr) u) n → Lt (reading p pr .𝓥) (row (reading p pr) r) n
-    low pr n h = lt-eq (reading p pr .𝓥) (g .law pr n h) (sym (f .law pr))
+  module _ {q r : List ℕ} {l : ℕ} (g : Quotient (M .p) k u q) (f : Mixed (M .p) true q l u lu k r) where
+    low : (pr : Prime (M .p)) (n : ℕ) → Has (reading (M .p) pr .𝓥) (row (reading (M .p) pr) u) n → Lt (reading (M .p) pr .𝓥) (row (reading (M .p) pr) r) n
+    low pr n h = lt-eq (reading (M .p) pr .𝓥) (g .law pr n h) (sym (f .law pr))
 
-    pub level-rest : Short p r top
+    pub level-rest : Short (M .p) r top
     level-rest =
-        let ρ = reading p (i .prime) in
+        let ρ = reading (M .p) (i .prime) in
         let l : lu ≤ top = i .low in
         row-short ρ top (f .is-row) (lt-up (ρ .𝓥) top (low (i .prime) (N._-_ lu 1) (size-has-at ρ lu (i .monic .is-row) (i .monic .size) (i .monic .pos))) (omega arith))
 
-    pub level-half : CrossBy p mul lim (N._+_ p 1 / 2) x (N._+_ p 1 / 2) 0 r top
+    pub level-half : CrossBy M (N._+_ (M .p) 1 / 2) x (N._+_ (M .p) 1 / 2) 0 r top
     unfolding shiftAt
-    level-half = let b : 1 < p = i .modulus .big in record {
+    level-half = let b : 1 < M .p = i .modulus .big in record {
       modulus = i .modulus;
-      ready = i .ready;
       hs = omega arith;
       hx = i .hx;
       hc = omega arith;
@@ -61,20 +62,20 @@ module _ {p mul lim : ℕ} {u : List ℕ} {lu : ℕ} {k : List ℕ} {n : ℕ} {x
       above = level-rest .above;
     }
 
-    module _ {a : List ℕ} (h : CrossOut p (N._+_ p 1 / 2) x (N._+_ p 1 / 2) 0 r top a) where
+    module _ {a : List ℕ} (h : CrossOut (M .p) (N._+_ (M .p) 1 / 2) x (N._+_ (M .p) 1 / 2) 0 r top a) where
       -- 2a = x − r
-      twice : (pr : Prime p) → let ρ = reading p pr in let o = ρ .𝓥 .L .ops in o .mul (o .add (o .𝟏) (o .𝟏)) (row ρ a) ≡ o .add (row ρ x) (o .neg (row ρ r))
+      twice : (pr : Prime (M .p)) → let ρ = reading (M .p) pr in let o = ρ .𝓥 .L .ops in o .mul (o .add (o .𝟏) (o .𝟏)) (row ρ a) ≡ o .add (row ρ x) (o .neg (row ρ r))
       unfolding tpow
-      twice pr = let ρ = reading p pr in
+      twice pr = let ρ = reading (M .p) pr in
           solve-by (ρ .𝓥 .L) ((one :+ one) :* var 0) (var 1 :+ minus (var 2)) (hyp (one :+ one) (var 0) (var 3 :* var 1 :+ minus (var 3 :* (one :* var 2))) ∷ hyp (var 1 :+ minus (var 2)) (var 3 :+ var 3) one ∷ []) tt
-          (row ρ a ∷ row ρ x ∷ row ρ r ∷ ρ .𝓥 .const (ρ .cast (N._+_ p 1 / 2)) ∷ []) (h .crossed .law pr, (half ρ (i .odd), tt))
+          (row ρ a ∷ row ρ x ∷ row ρ r ∷ ρ .𝓥 .const (ρ .cast (N._+_ (M .p) 1 / 2)) ∷ []) (h .crossed .law pr, (half ρ (i .odd), tt))
 
       -- r = k − q u
-      pub leveled : Leveled p u k x top a
+      pub leveled : Leveled (M .p) u k x top a
       leveled = record {
         short = h .short;
         law = λ pr.
-            let ρ = reading p pr in (
+            let ρ = reading (M .p) pr in (
               row ρ q,
               row-poly ρ q,
               solve-by (ρ .𝓥 .L) ((one :+ one) :* var 0 :+ (var 1 :+ minus (var 2))) (var 3 :* var 4)
@@ -82,7 +83,7 @@ module _ {p mul lim : ℕ} {u : List ℕ} {lu : ℕ} {k : List ℕ} {n : ℕ} {x
                   (row ρ a ∷ row ρ k ∷ row ρ x ∷ row ρ u ∷ row ρ q ∷ row ρ r ∷ []) (twice pr, (f .law pr, tt)),
             );
         low = λ pr n g.
-            let ρ = reading p pr in
+            let ρ = reading (M .p) pr in
             lt-eq (ρ .𝓥) (lt-neg (ρ .𝓥) (low pr n g))
             (solve-by (ρ .𝓥 .L) (minus (var 2)) ((one :+ one) :* var 0 :+ minus (var 1)) (hyp (minus one) ((one :+ one) :* var 0) (var 1 :+ minus (var 2)) ∷ []) tt
             (row ρ a ∷ row ρ x ∷ row ρ r ∷ []) (twice pr, tt));

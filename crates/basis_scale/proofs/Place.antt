@@ -8,7 +8,11 @@ use native.Mathlib.Omega.{arith}
 use lib.ListN.{length, getD, replicate}
 use Rattle.math_ring.proofs.Solve.{var, minus, _:+_, solve}
 use Rattle.math_fp.specs.Fp.{Prime}
-use Rattle.math_valued.proofs.Degree.{lt-eq, above}
+use Rattle.math_valued.specs.Val.{Valued}
+use Rattle.math_valued.specs.Degree.{Lt}
+use Rattle.math_valued.proofs.Degree.{lt-eq, lt-up, has-eq, above}
+use Rattle.math_valued.proofs.Compare.{has-scale}
+use Rattle.num_mod.specs.declared.Modulus.{Modulus}
 use Rattle.math_rows.specs.Reading.{Reading}
 use Rattle.math_rows.specs.Made.{reading}
 use Rattle.math_rows.specs.Row.{Size, row}
@@ -17,34 +21,33 @@ use Rattle.poly_rows.proofs.Lengths.{size-below, short-up, short-cut, scaled-sh
 use Rattle.poly_lent.specs.Sized.{BothIn, BothOut}
 use Rattle.poly_lent.proofs.Mixing.{size-cut}
 use Rattle.basis_record.specs.Record.{part}
-use Rattle.basis_reduce.specs.Frame.{Short}
-use Rattle.basis_reduce.proofs.Laid.{zeros-at}
-use Rattle.basis_record.specs.Store.{StoreIn, Stored}
+use Rattle.basis_parts.specs.Frame.{Short}
+use Rattle.basis_parts.proofs.Laid.{zeros-at}
+use Rattle.basis_scale.specs.Store.{StoreIn, Stored}
 use Rattle.basis_scale.specs.Levels.{LevelIn, Leveled}
 use Rattle.basis_scale.specs.Place.{PlaceIn, Placed, FillIn}
 use Rattle.basis_scale.specs.declared.Factors.{Factors}
 use Rattle.basis_record.proofs.Store.{stored-part, stored-other, stored-blank, stored-each}
 
-module _ {p mul lim i top s : ℕ} {b c x x1 : List ℕ} {n1 : ℕ} {y1 : List ℕ} {n2 : ℕ} {u : List ℕ} {lu : ℕ} {B : List ℕ} (g : PlaceIn p mul lim i top s b c x x1 n1 y1 n2 u lu B) where
-  pub place-scale : {l : List ℕ} {n : ℕ} → Short p l n → n ≤ top → ScaleBy p mul lim s l top
-  place-scale h w = let f : top ≤ 17 = g .inp .fits in record { modulus = g .inp .modulus; ready = g .inp .ready; hc = g .inp .hs; hx = short-up h w; fits = omega arith }
+module _ {M : Modulus} {i top s : ℕ} {b c x x1 : List ℕ} {n1 : ℕ} {y1 : List ℕ} {n2 : ℕ} {u : List ℕ} {lu : ℕ} {B : List ℕ} (g : PlaceIn M i top s b c x x1 n1 y1 n2 u lu B) where
+  pub place-scale : {l : List ℕ} {n : ℕ} → Short (M .p) l n → n ≤ top → ScaleBy M s l top
+  place-scale h w = let f : top ≤ 17 = g .inp .fits in record { modulus = g .inp .modulus; hc = g .inp .hs; hx = short-up h w; fits = omega arith }
 
-  pub place-cut : {l : List ℕ} → Short p l top → Cut l top
+  pub place-cut : {l : List ℕ} → Short (M .p) l top → Cut l top
   place-cut h = let f : top ≤ 17 = g .inp .fits in short-cut h (omega arith)
 
-  module _ {mb mc t : List ℕ} (sb : ScaleOut p s b top mb) (sc : ScaleOut p s c top mc) (st : ScaleOut p s x top t) where
+  module _ {mb mc t : List ℕ} (sb : ScaleOut (M .p) s b top mb) (sc : ScaleOut (M .p) s c top mc) (st : ScaleOut (M .p) s x top t) where
     -- a length is bounded by where the row ended before it was scaled
-    within : {l m : List ℕ} {j n : ℕ} → Short p l n → ScaleOut p s l top m → Size m j → j ≤ n
-    within h e = size-below (scaled-short {c = s} (reading p (g .inp .prime)) h (e .short .is-row) (e .scaled .law (g .inp .prime)))
+    within : {l m : List ℕ} {j n : ℕ} → Short (M .p) l n → ScaleOut (M .p) s l top m → Size m j → j ≤ n
+    within h e = size-below (scaled-short {c = s} (reading (M .p) (g .inp .prime)) h (e .short .is-row) (e .scaled .law (g .inp .prime)))
 
-    pub place-both : {n m : ℕ} → Size mb n → Size mc m → BothIn p mul lim mb n x1 n1 mc m y1 n2 t top
+    pub place-both : {n m : ℕ} → Size mb n → Size mc m → BothIn M mb n x1 n1 mc m y1 n2 t top
     place-both {n} {m} en em =
         let w : n ≤ g .inp .lb = within (g .inp .hb) sb en in
         let v : m ≤ g .inp .lc = within (g .inp .hc) sc em in
         let b : g .inp .lb + n1 ≤ 33 = g .inp .room-b in
         let d : g .inp .lc + n2 ≤ 33 = g .inp .room-c in record {
           modulus = g .inp .modulus;
-          ready = g .inp .ready;
           hx = sb .short .is-row;
           hy = g .inp .h1 .is-row;
           hz = sc .short .is-row;
@@ -60,13 +63,12 @@ module _ {p mul lim i top s : ℕ} {b c x x1 : List ℕ} {n1 : ℕ} {y1 : List �
         }
 
     -- k = s x + s b x1 + s c y1
-    module _ {k : List ℕ} {l : ℕ} (ek : BothOut p false mb x1 false mc y1 t k l) where
-      pub place-level : LevelIn p mul lim u lu k l t top
+    module _ {k : List ℕ} {l : ℕ} (ek : BothOut (M .p) false mb x1 false mc y1 t k l) where
+      pub place-level : LevelIn M u lu k l t top
       place-level = let f : top ≤ 17 = g .inp .fits in record {
         modulus = g .inp .modulus;
         prime = g .inp .prime;
         odd = g .inp .odd;
-        ready = g .inp .ready;
         monic = g .inp .monic;
         hk = ek .is-row;
         sk = ek .size;
@@ -75,13 +77,13 @@ module _ {p mul lim i top s : ℕ} {b c x x1 : List ℕ} {n1 : ℕ} {y1 : List �
         fits = omega arith;
       }
 
-      module _ {a : List ℕ} (la : Leveled p u k t top a) where
-        store : {A l : List ℕ} (j : ℕ) → j < 7 → length A ≡ 119 → ((m : ℕ) → 17 * j ≤ m → getD A m 0 ≡ 0) → Short p l top → StoreIn A j l top
+      module _ {a : List ℕ} (la : Leveled (M .p) u k t top a) where
+        store : {A l : List ℕ} (j : ℕ) → j < 7 → length A ≡ 119 → ((m : ℕ) → 17 * j ≤ m → getD A m 0 ≡ 0) → Short (M .p) l top → StoreIn A j l top
         store {l = l} j w e z h = record {
           size = e;
           blank = z;
           row = w;
-          each = λ m. let q : getD l m 0 < p = h .is-row .each m in let w : p ≤ 65535 = g .inp .small in omega arith;
+          each = λ m. let q : getD l m 0 < M .p = h .is-row .each m in let w : M .p ≤ 65535 = g .inp .small in omega arith;
           fits = g .inp .fits;
           above = h .above;
         }
@@ -101,22 +103,22 @@ module _ {p mul lim i top s : ℕ} {b c x x1 : List ℕ} {n1 : ℕ} {y1 : List �
             place-2 = store (i + 2) (g .at) (s₁ .size) (λ m l. stored-blank B₀ (i + 1) mb B₁ s₁ blank-1 m (omega arith)) (sc .short)
 
             module _ {B₂ : List ℕ} (s₂ : Stored B₁ (i + 2) mc B₂) where
-              is-a : (ρ : Reading p) → row ρ (part i B₂) ≡ row ρ a
+              is-a : (ρ : Reading (M .p)) → row ρ (part i B₂) ≡ row ρ a
               is-a ρ = ap (row ρ) (stored-other B₁ (i + 2) mc B₂ s₂ i (inl (omega arith)) ∙ stored-other B₀ (i + 1) mb B₁ s₁ i (inl (omega arith))) ∙ stored-part B i a B₀ s₀ (λ j l. let f : top ≤ 17 = g .inp .fits in la .short .above j (omega arith)) ρ
 
-              is-b : (ρ : Reading p) → row ρ (part (i + 1) B₂) ≡ row ρ mb
+              is-b : (ρ : Reading (M .p)) → row ρ (part (i + 1) B₂) ≡ row ρ mb
               is-b ρ = ap (row ρ) (stored-other B₁ (i + 2) mc B₂ s₂ (i + 1) (inl (omega arith))) ∙ stored-part B₀ (i + 1) mb B₁ s₁ (λ j l. let f : top ≤ 17 = g .inp .fits in sb .short .above j (omega arith)) ρ
 
-              is-c : (ρ : Reading p) → row ρ (part (i + 2) B₂) ≡ row ρ mc
+              is-c : (ρ : Reading (M .p)) → row ρ (part (i + 2) B₂) ≡ row ρ mc
               is-c ρ = stored-part B₁ (i + 2) mc B₂ s₂ (λ j l. let f : top ≤ 17 = g .inp .fits in sc .short .above j (omega arith)) ρ
 
-              pub placed : Placed p i s b c x x1 y1 u B B₂
+              pub placed : Placed (M .p) i s b c x x1 y1 u B B₂
               placed = record {
                 size = s₂ .size;
-                each = λ h. stored-each p B₁ (i + 2) mc B₂ s₂ (stored-each p B₀ (i + 1) mb B₁ s₁ (stored-each p B i a B₀ s₀ h (la .short .is-row .each)) (sb .short .is-row .each)) (sc .short .is-row .each);
+                each = λ h. stored-each (M .p) B₁ (i + 2) mc B₂ s₂ (stored-each (M .p) B₀ (i + 1) mb B₁ s₁ (stored-each (M .p) B i a B₀ s₀ h (la .short .is-row .each)) (sb .short .is-row .each)) (sc .short .is-row .each);
                 there = λ m w. s₂ .there m (away (i + 2) (omega arith) (omega arith) m w) ∙ s₁ .there m (away (i + 1) (omega arith) (omega arith) m w) ∙ s₀ .there m (away i (omega arith) (omega arith) m w);
                 at = λ pr.
-                    let ρ = reading p pr in
+                    let ρ = reading (M .p) pr in
                     let o = ρ .𝓥 .L .ops in
                     let (k, kp, e₁) = la .law pr in record {
                       is-b = is-b ρ ∙ sb .scaled .law pr;
@@ -132,26 +134,26 @@ module _ {p mul lim i top s : ℕ} {b c x x1 : List ℕ} {n1 : ℕ} {y1 : List �
                   away j l h m (inl w) = inl (omega arith)
                   away j l h m (inr w) = inr (omega arith)
 
-                  over : (pr : Prime p) → let ρ = reading p pr in let o = ρ .𝓥 .L .ops in o .add (o .mul (row ρ mb) (row ρ x1)) (o .mul (row ρ mc) (row ρ y1)) ≡ o .add (row ρ k) (o .neg (row ρ t))
-                  over pr = let ρ = reading p pr in let o = ρ .𝓥 .L .ops in
+                  over : (pr : Prime (M .p)) → let ρ = reading (M .p) pr in let o = ρ .𝓥 .L .ops in o .add (o .mul (row ρ mb) (row ρ x1)) (o .mul (row ρ mc) (row ρ y1)) ≡ o .add (row ρ k) (o .neg (row ρ t))
+                  over pr = let ρ = reading (M .p) pr in let o = ρ .𝓥 .L .ops in
                       solve (ρ .𝓥 .L) (var 1 :+ var 2) (var 0 :+ var 1 :+ var 2 :+ minus (var 0)) tt (row ρ t ∷ o .mul (row ρ mb) (row ρ x1) ∷ o .mul (row ρ mc) (row ρ y1) ∷ []) ∙ ap (λ z. o .add z (o .neg (row ρ t))) (sym (ek .law pr))
 
 -- ---- m, n and u in turn
-module _ {p mul lim top : ℕ} {k : Factors} {mb mc mx nb nc nx x1 : List ℕ} {n1 : ℕ} {y1 : List ℕ} {n2 : ℕ} {u : List ℕ} {lu : ℕ} (g : FillIn p mul lim top k mb mc mx nb nc nx x1 n1 y1 n2 u lu) where
-  pub fill-m : PlaceIn p mul lim 0 top (k .m) mb mc mx x1 n1 y1 n2 u lu (replicate 119 0)
+module _ {M : Modulus} {top : ℕ} {k : Factors} {mb mc mx nb nc nx x1 : List ℕ} {n1 : ℕ} {y1 : List ℕ} {n2 : ℕ} {u : List ℕ} {lu : ℕ} (g : FillIn M top k mb mc mx nb nc nx x1 n1 y1 n2 u lu) where
+  pub fill-m : PlaceIn M 0 top (k .m) mb mc mx x1 n1 y1 n2 u lu (replicate 119 0)
   fill-m = record { inp = g .m; at = omega arith; size = refl; blank = λ j w. zeros-at 119 j }
 
-  module _ {B₁ : List ℕ} (pm : Placed p 0 (k .m) mb mc mx x1 y1 u (replicate 119 0) B₁) where
-    pub fill-n : PlaceIn p mul lim 3 top (k .n) nb nc nx x1 n1 y1 n2 u lu B₁
+  module _ {B₁ : List ℕ} (pm : Placed (M .p) 0 (k .m) mb mc mx x1 y1 u (replicate 119 0) B₁) where
+    pub fill-n : PlaceIn M 3 top (k .n) nb nc nx x1 n1 y1 n2 u lu B₁
     fill-n = record { inp = g .n; at = omega arith; size = pm .size; blank = λ j w. pm .there j (inr (omega arith)) ∙ zeros-at 119 j }
 
-    module _ {B₂ : List ℕ} (pn : Placed p 3 (k .n) nb nc nx x1 y1 u B₁ B₂) where
+    module _ {B₂ : List ℕ} (pn : Placed (M .p) 3 (k .n) nb nc nx x1 y1 u B₁ B₂) where
       pub fill-u : StoreIn B₂ 6 u lu
       fill-u = let l : lu ≤ top = g .m .low-u in let f : top ≤ 17 = g .m .fits in record {
         size = pn .size;
         blank = λ j w. pn .there j (inr (omega arith)) ∙ pm .there j (inr (omega arith)) ∙ zeros-at 119 j;
         row = omega arith;
-        each = λ j. let w : getD u j 0 < p = g .m .monic .is-row .each j in let s : p ≤ 65535 = g .m .small in omega arith;
+        each = λ j. let w : getD u j 0 < M .p = g .m .monic .is-row .each j in let s : M .p ≤ 65535 = g .m .small in omega arith;
         fits = omega arith;
         above = g .m .monic .size .above;
       }

@@ -9,10 +9,10 @@ use Rattle.math_ring.specs.Ring.{Ops, CRing}
 use Rattle.math_ring.proofs.Solve.{var, one, _:+_, _:*_, solve}
 use Rattle.math_fp.specs.Fp.{Prime}
 use Rattle.math_valued.specs.Val.{Valued}
-use Rattle.num_residue.specs.Residue.{Modulus, Nonzero, Inverse}
+use Rattle.num_mod.specs.Residue.{IsModulus, Nonzero, Inverse}
 use Rattle.math_rows.specs.Made.{reading}
 use Rattle.math_rows.proofs.Numbers.{cast-product, product-some}
-use Rattle.basis_reduce.proofs.Leaves.{less-square}
+use Rattle.basis_parts.proofs.Leaves.{less-square}
 use Rattle.basis_scale.specs.Scales.{ScalesIn, Scaling}
 use Rattle.basis_scale.proofs.Two.{cast-two}
 use Rattle.basis_scale.specs.declared.Factors.{Factors}
@@ -66,5 +66,5 @@ module _ {p a b c : ℕ} (g : ScalesIn p a b c) where
     }
 
 -- a product of two numbers below p fits 64 bits
-pub product-fits : {p : ℕ} (x y : ℕ) → Modulus p → x < p → y < p → N._*_ x y < 4611686018427387904
+pub product-fits : {p : ℕ} (x y : ℕ) → IsModulus p → x < p → y < p → N._*_ x y < 4611686018427387904
 product-fits {p} x y h hx hy = let a : p < 2147483648 = h .small in omega (arith, less-square 2147483648 x y (omega arith) (omega arith))

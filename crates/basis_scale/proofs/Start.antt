@@ -9,6 +9,7 @@ use Rattle.math_ring.proofs.Laws as rg
 use Rattle.math_valued.specs.Polynomial.{polys}
 use Rattle.math_valued.proofs.Degree.{lead-eq, same}
 use Rattle.math_valued.proofs.Polynomial.{P-path}
+use Rattle.num_mod.specs.Prepared.{ready}
 use Rattle.math_rows.specs.Made.{reading}
 use Rattle.math_rows.specs.Row.{Reads}
 use Rattle.math_turns.specs.Points.{Moved}
@@ -19,14 +20,15 @@ use Rattle.math_chain.proofs.Changed.{Changed, changed-of}
 use Rattle.math_chain.proofs.Frame.{pair}
 use Rattle.math_chain.proofs.Correct.{order-correct}
 use Rattle.basis_record.specs.Record.{part, setting, polyOf, basisOf}
-use Rattle.basis_reduce.specs.Frame.{Frame, frame, Meaning, pt}
+use Rattle.basis_parts.specs.Frame.{Frame, frame, Meaning, pt}
+use Rattle.basis_reduce.specs.Clear as reduced
 use Rattle.basis_scale.specs.Based.{BasedAt, Based, Mpt, Npt, at}
 use Rattle.basis_scale.specs.First.{unit, nothing, units}
 use Rattle.basis_scale.proofs.First.{unit-is, nothing-is}
 
 module _ {p : ℕ} {G H : List ℕ} (A : Accepted p G H) (r w : List ℕ) (hr : Reads (reading p (A .prime)) r (setting A .roots .dr) (setting A .roots .r)) (hw : Reads (reading p (A .prime)) w (setting A .roots .dw) (setting A .roots .w)) where
   abbrev pub fieldFrame : Frame
-  fieldFrame = frame p r w (setting A .roots .dr) (setting A .roots .dw)
+  fieldFrame = frame (ready p) r w (setting A .roots .dr) (setting A .roots .dw)
 
   -- the lists mean the series of the field
   abbrev pub meaning : Meaning fieldFrame

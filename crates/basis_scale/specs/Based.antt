@@ -19,36 +19,34 @@ use Rattle.math_rows.specs.Reading.{Reading}
 use Rattle.math_rows.specs.Row.{Size}
 use Rattle.math_ideals.specs.Tests.{InNumbers}
 use Rattle.math_turns.specs.Points.{Pt, Moved}
-use Rattle.poly_rows.specs.Terms.{Ready}
 use Rattle.basis_record.specs.Record.{part}
-use Rattle.basis_reduce.specs.Frame.{Frame, Meaning, Short, rd, Ser, rowμ, pt}
+use Rattle.basis_parts.specs.Frame.{Frame, Meaning, Short, rd, Ser, rowμ, pt}
 use Rattle.basis_reduce.specs.Clear.{Pair, Ends, ClearIn, Reduced}
 use Rattle.basis_scale.specs.Place.{off}
 
 pub record BasisIn (F : Frame) (q : Pair) (top : ℕ) (d x1 y1 : List ℕ) : Type 0 where
-  pub small : F .p ≤ 65535
-  pub odd : F .p % 2 ≡ 1
+  pub small : F .m .p ≤ 65535
+  pub odd : F .m .p % 2 ≡ 1
   pub fits : top ≤ 17
-  pub hd : Short (F .p) d 17
-  pub h1 : Short (F .p) x1 (suc (F .dr))
-  pub h2 : Short (F .p) y1 (suc (F .dw))
+  pub hd : Short (F .m .p) d 17
+  pub h1 : Short (F .m .p) x1 (suc (F .dr))
+  pub h2 : Short (F .m .p) y1 (suc (F .dw))
   pub u : ℕ
   pub d-size : Size d (suc u)
   pub clear : ClearIn F q top (suc u)
 
--- the same with what a quick remainder needs, and the lengths of d, x1 and y1
-pub record BasisBy (F : Frame) (mul lim : ℕ) (q : Pair) (top : ℕ) (d : List ℕ) (lu : ℕ) (x1 : List ℕ) (n1 : ℕ) (y1 : List ℕ) (n2 : ℕ) : Type 0 where
+-- the same with the lengths of d, x1 and y1
+pub record BasisBy (F : Frame) (q : Pair) (top : ℕ) (d : List ℕ) (lu : ℕ) (x1 : List ℕ) (n1 : ℕ) (y1 : List ℕ) (n2 : ℕ) : Type 0 where
   pub inp : BasisIn F q top d x1 y1
-  pub ready : Ready (F .p) mul lim
   pub size : Size d lu
   pub size-1 : Size x1 n1
   pub size-2 : Size y1 n2
 
 -- the same with the rows that X(m), X(n) go into
-pub record BasisOn (F : Frame) (mul lim : ℕ) (q : Pair) (top : ℕ) (d : List ℕ) (lu : ℕ) (x1 : List ℕ) (n1 : ℕ) (y1 : List ℕ) (n2 : ℕ) (mx nx : List ℕ) : Type 0 where
-  pub by : BasisBy F mul lim q top d lu x1 n1 y1 n2
-  pub hmx : Short (F .p) mx top
-  pub hnx : Short (F .p) nx top
+pub record BasisOn (F : Frame) (q : Pair) (top : ℕ) (d : List ℕ) (lu : ℕ) (x1 : List ℕ) (n1 : ℕ) (y1 : List ℕ) (n2 : ℕ) (mx nx : List ℕ) : Type 0 where
+  pub by : BasisBy F q top d lu x1 n1 y1 n2
+  pub hmx : Short (F .m .p) mx top
+  pub hnx : Short (F .m .p) nx top
 
 module _ {F : Frame} (μ : Meaning F) where
   -- 2a − b r − c w
@@ -89,13 +87,13 @@ pub record BasedAt {F : Frame} (μ : Meaning F) (q : Pair) (d x1 y1 B : List ℕ
 
 pub record Based (F : Frame) (q : Pair) (d x1 y1 B : List ℕ) : Type 0 where
   pub size : length B ≡ 119
-  pub each : (k : ℕ) → getD B k 0 < F .p
+  pub each : (k : ℕ) → getD B k 0 < F .m .p
   pub meant : (μ : Meaning F) → BasedAt μ q d x1 y1 B
 
 -- ---- from a reduced pair o on
-pub record FinishIn (F : Frame) (mul lim top : ℕ) (o : Ends) (d : List ℕ) (lu : ℕ) (x1 : List ℕ) (n1 : ℕ) (y1 : List ℕ) (n2 : ℕ) : Type 0 where
+pub record FinishIn (F : Frame) (top : ℕ) (o : Ends) (d : List ℕ) (lu : ℕ) (x1 : List ℕ) (n1 : ℕ) (y1 : List ℕ) (n2 : ℕ) : Type 0 where
   pub q : Pair
-  pub by : BasisBy F mul lim q top d lu x1 n1 y1 n2
+  pub by : BasisBy F q top d lu x1 n1 y1 n2
   pub from : Reduced F q top lu o
 
 pub record Finished (F : Frame) (top : ℕ) (o : Ends) (d : List ℕ) (lu : ℕ) (x1 y1 B : List ℕ) : Type 0 where

@@ -7,7 +7,7 @@ use mathlib.Core.Path.{_≡_}
 use mathlib.Core.List.{List}
 use Prim.Native.Nat.{ℕ, suc, _+_, _%_, _≤_}
 use lib.ListN.{set, replicate}
-use Rattle.basis_reduce.specs.Frame.{Frame, Fine, Meaning}
+use Rattle.basis_parts.specs.Frame.{Frame, Fine, Meaning}
 use Rattle.basis_reduce.specs.Clear.{Pair, pair}
 
 abbrev pub nothing : List ℕ
@@ -21,8 +21,8 @@ units = pair unit nothing nothing unit
 
 pub record OrderIn (F : Frame) (top : ℕ) : Type 0 where
   pub fine : Fine F
-  pub small : F .p ≤ 65535
-  pub odd : F .p % 2 ≡ 1
+  pub small : F .m .p ≤ 65535
+  pub odd : F .m .p % 2 ≡ 1
   pub top-is : top ≡ suc (F .dr + F .dw)
   pub fits : top ≤ 17
   pub some : Meaning F

@@ -9,12 +9,13 @@ use Rattle.math_ring.specs.Ring.{Ops, CRing}
 use Rattle.math_fp.specs.Fp.{Prime}
 use Rattle.math_valued.specs.Val.{Valued}
 use Rattle.math_valued.specs.Degree.{Has, Lt}
-use Rattle.num_residue.specs.Residue.{Modulus}
+use Rattle.num_mod.specs.Residue.{IsModulus}
 use Rattle.math_rows.specs.Reading.{Reading}
 use Rattle.math_rows.specs.Made.{reading}
 use Rattle.math_rows.specs.Row.{Row, Size, row}
-use Rattle.poly_rows.specs.Terms.{Ready}
-use Rattle.basis_reduce.specs.Frame.{Short}
+use Rattle.num_mod.specs.Prepared.{Prepared}
+use Rattle.num_mod.specs.declared.Modulus.{Modulus}
+use Rattle.basis_parts.specs.Frame.{Short}
 
 -- u, of length n, leads with 1
 pub record Monic (p : ℕ) (u : List ℕ) (n : ℕ) : Type 0 where
@@ -23,15 +24,14 @@ pub record Monic (p : ℕ) (u : List ℕ) (n : ℕ) : Type 0 where
   pub pos : 0 < n
   pub lead : getD u (n - 1) 0 ≡ 1
 
-pub record LevelIn (p mul lim : ℕ) (u : List ℕ) (lu : ℕ) (k : List ℕ) (n : ℕ) (x : List ℕ) (top : ℕ) : Type 0 where
-  pub modulus : Modulus p
-  pub prime : Prime p
-  pub odd : p % 2 ≡ 1
-  pub ready : Ready p mul lim
-  pub monic : Monic p u lu
-  pub hk : Row p k
+pub record LevelIn (q : Modulus) (u : List ℕ) (lu : ℕ) (k : List ℕ) (n : ℕ) (x : List ℕ) (top : ℕ) : Type 0 where
+  pub modulus : Prepared q
+  pub prime : Prime (q .p)
+  pub odd : q .p % 2 ≡ 1
+  pub monic : Monic (q .p) u lu
+  pub hk : Row (q .p) k
   pub sk : Size k n
-  pub hx : Short p x top
+  pub hx : Short (q .p) x top
   pub low : lu ≤ top
   pub fits : top ≤ 32
 

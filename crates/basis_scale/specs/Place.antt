@@ -14,13 +14,14 @@ use Rattle.math_ring.specs.Ring.{Ops, CRing}
 use Rattle.math_fp.specs.Fp.{Prime}
 use Rattle.math_valued.specs.Val.{Valued}
 use Rattle.math_valued.specs.Degree.{Has, Lt}
-use Rattle.num_residue.specs.Residue.{Modulus}
+use Rattle.num_mod.specs.Residue.{IsModulus}
 use Rattle.math_rows.specs.Reading.{Reading}
 use Rattle.math_rows.specs.Made.{reading}
 use Rattle.math_rows.specs.Row.{row}
-use Rattle.poly_rows.specs.Terms.{Ready}
+use Rattle.num_mod.specs.Prepared.{Prepared}
+use Rattle.num_mod.specs.declared.Modulus.{Modulus}
 use Rattle.basis_record.specs.Record.{part}
-use Rattle.basis_reduce.specs.Frame.{Short}
+use Rattle.basis_parts.specs.Frame.{Short}
 use Rattle.basis_scale.specs.Levels.{Monic}
 use Rattle.basis_record.specs.Store.{Stored}
 use Rattle.basis_scale.specs.declared.Factors.{Factors}
@@ -29,33 +30,32 @@ use Rattle.basis_scale.specs.declared.Factors.{Factors}
 abbrev pub off : {A : Type 0} → Ops A → A → A → A → A → A → A
 off o x y a b c = o .add a (o .add (o .mul b x) (o .mul c y))
 
-pub record ElementIn (p mul lim top s : ℕ) (b c x x1 : List ℕ) (n1 : ℕ) (y1 : List ℕ) (n2 : ℕ) (u : List ℕ) (lu : ℕ) : Type 0 where
-  pub modulus : Modulus p
-  pub ready : Ready p mul lim
-  pub prime : Prime p
-  pub small : p ≤ 65535
-  pub odd : p % 2 ≡ 1
-  pub hs : s < p
+pub record ElementIn (q : Modulus) (top s : ℕ) (b c x x1 : List ℕ) (n1 : ℕ) (y1 : List ℕ) (n2 : ℕ) (u : List ℕ) (lu : ℕ) : Type 0 where
+  pub modulus : Prepared q
+  pub prime : Prime (q .p)
+  pub small : q .p ≤ 65535
+  pub odd : q .p % 2 ≡ 1
+  pub hs : s < q .p
   pub fits : top ≤ 17
   -- lengths, and room for the products
   pub lb : ℕ
   pub lc : ℕ
-  pub hb : Short p b lb
-  pub hc : Short p c lc
-  pub hx : Short p x top
+  pub hb : Short (q .p) b lb
+  pub hc : Short (q .p) c lc
+  pub hx : Short (q .p) x top
   pub low-b : lb ≤ top
   pub low-c : lc ≤ top
-  pub h1 : Short p x1 n1
-  pub h2 : Short p y1 n2
+  pub h1 : Short (q .p) x1 n1
+  pub h2 : Short (q .p) y1 n2
   pub fits-1 : n1 ≤ 32
   pub fits-2 : n2 ≤ 32
   pub room-b : lb + n1 ≤ 33
   pub room-c : lc + n2 ≤ 33
-  pub monic : Monic p u lu
+  pub monic : Monic (q .p) u lu
   pub low-u : lu ≤ top
 
-pub record PlaceIn (p mul lim i top s : ℕ) (b c x x1 : List ℕ) (n1 : ℕ) (y1 : List ℕ) (n2 : ℕ) (u : List ℕ) (lu : ℕ) (B : List ℕ) : Type 0 where
-  pub inp : ElementIn p mul lim top s b c x x1 n1 y1 n2 u lu
+pub record PlaceIn (q : Modulus) (i top s : ℕ) (b c x x1 : List ℕ) (n1 : ℕ) (y1 : List ℕ) (n2 : ℕ) (u : List ℕ) (lu : ℕ) (B : List ℕ) : Type 0 where
+  pub inp : ElementIn q top s b c x x1 n1 y1 n2 u lu
   pub at : i + 2 < 7
   pub size : length B ≡ 119
   pub blank : (k : ℕ) → 17 * i ≤ k → getD B k 0 ≡ 0
@@ -77,9 +77,9 @@ pub record Placed (p i s : ℕ) (b c x x1 y1 u B B′ : List ℕ) : Type 0 where
   pub at : (pr : Prime p) → PlacedAt (reading p pr) s b c x x1 y1 u (part i B′) (part (i + 1) B′) (part (i + 2) B′)
 
 -- ---- the whole record
-pub record FillIn (p mul lim top : ℕ) (k : Factors) (mb mc mx nb nc nx x1 : List ℕ) (n1 : ℕ) (y1 : List ℕ) (n2 : ℕ) (u : List ℕ) (lu : ℕ) : Type 0 where
-  pub m : ElementIn p mul lim top (k .m) mb mc mx x1 n1 y1 n2 u lu
-  pub n : ElementIn p mul lim top (k .n) nb nc nx x1 n1 y1 n2 u lu
+pub record FillIn (q : Modulus) (top : ℕ) (k : Factors) (mb mc mx nb nc nx x1 : List ℕ) (n1 : ℕ) (y1 : List ℕ) (n2 : ℕ) (u : List ℕ) (lu : ℕ) : Type 0 where
+  pub m : ElementIn q top (k .m) mb mc mx x1 n1 y1 n2 u lu
+  pub n : ElementIn q top (k .n) nb nc nx x1 n1 y1 n2 u lu
 
 pub record Filled (p : ℕ) (k : Factors) (mb mc mx nb nc nx x1 y1 u B : List ℕ) : Type 0 where
   pub B₁ : List ℕ

@@ -1,19 +1,18 @@
 // The basis record: seven rows of 17 coefficients, M0, M1, M2, N0, N1, N2, U. It starts as zeros and is filled row by row.
-use poly_rows::Rapid;
-use poly_rows::cross_in;
-use poly_rows::rapid_of;
-use poly_rows::scale_in;
-use poly_rows::size_from;
+use basis_parts::Bounds;
+use basis_parts::lead_of;
 use basis_record::stored;
-use basis_reduce::Bounds;
-use basis_reduce::lead_of;
 use basis_reduce::reduced;
-use num_residue::inverse;
+use num_mod::Modulus;
+use num_mod::inverse;
 use poly_lent::both_in;
 use poly_lent::mix_in;
 use poly_lent::quotient_in;
+use poly_rows::cross_in;
+use poly_rows::scale_in;
+use poly_rows::size_from;
 ghost use Prim.Native.Nat.{_+_, _*_, _-_, _%_, _<_, _≤_};
-ghost use Rattle.basis_reduce.specs.Given.{given};
+ghost use Rattle.basis_parts.specs.Given.{given};
 ghost use Rattle.basis_reduce.specs.Clear.{pair, ends};
 ghost use Rattle.basis_scale.specs.Based.{BasisBy, BasisOn, Based, FinishIn, Finished};
 ghost use Rattle.basis_scale.specs.First.{OrderIn, units, unit, nothing};
@@ -23,8 +22,7 @@ ghost use Rattle.basis_scale.specs.Scales.{ScalesIn, Scaling};
 
 // Row 0 of an element over the denominator u, which leads with 1: half of x - (k mod u), in place of x
 fn level(
-    p: u64,
-    q: Rapid,
+    q: Modulus,
     u: &[u64; 32],
     lu: usize,
     k: &mut [u64; 32],
@@ -32,14 +30,14 @@ fn level(
     x: &mut [u64; 32],
     top: usize,
 )
-    requires { ⌜ LevelIn p (q .m) (q .lim) (now u) lu (now k) n (now x) top ⌝ }
-    ensures { λ _. ⌜ Leveled p (now (u .entry)) (now (k .entry)) (now (x .entry)) top (now (x .exit)) ⌝ }
+    requires { ⌜ LevelIn q (now u) lu (now k) n (now x) top ⌝ }
+    ensures { λ _. ⌜ Leveled (q .p) (now (u .entry)) (now (k .entry)) (now (x .entry)) top (now (x .exit)) ⌝ }
 {
     let mut d: [u64; 32] = [0; 32];
-    let l = quotient_in(p, q, k, n, u, lu, 1, &mut d);
-    mix_in(p, q, true, &d, l, u, lu, k);
-    let h = (p + 1) / 2;
-    cross_in(p, q, h, x, h, 0, k, top);
+    let l = quotient_in(q, k, n, u, lu, 1, &mut d);
+    mix_in(q, true, &d, l, u, lu, k);
+    let h = (q.p + 1) / 2;
+    cross_in(q, h, x, h, 0, k, top);
 }
 
 // The factors by which U, m and n are scaled
@@ -69,8 +67,7 @@ fn factors_of(p: u64, a: u64, b: u64, c: u64) -> Factors
 fn placed(
     rows: &mut [u16; 119],
     i: usize,
-    p: u64,
-    q: Rapid,
+    q: Modulus,
     top: usize,
     s: u64,
     b: &mut [u64; 32],
@@ -83,32 +80,17 @@ fn placed(
     u: &[u64; 32],
     lu: usize,
 )
-    requires { ⌜ PlaceIn p (q .m) (q .lim) i top s (now b) (now c) (now x) (now x1) n1 (now y1) n2 (now u) lu (now rows) ⌝ }
-    ensures { λ _. ⌜ Placed p i s (now (b .entry)) (now (c .entry)) (now (x .entry)) (now (x1 .entry)) (now (y1 .entry)) (now (u .entry)) (now (rows .entry)) (now (rows .exit)) ⌝ }
+    requires { ⌜ PlaceIn q i top s (now b) (now c) (now x) (now x1) n1 (now y1) n2 (now u) lu (now rows) ⌝ }
+    ensures { λ _. ⌜ Placed (q .p) i s (now (b .entry)) (now (c .entry)) (now (x .entry)) (now (x1 .entry)) (now (y1 .entry)) (now (u .entry)) (now (rows .entry)) (now (rows .exit)) ⌝ }
 {
-    scale_in(p, q, s, b, top);
-    scale_in(p, q, s, c, top);
-    scale_in(p, q, s, x, top);
+    scale_in(q, s, b, top);
+    scale_in(q, s, c, top);
+    scale_in(q, s, x, top);
     let nb = size_from(b, top);
     let nc = size_from(c, top);
     let mut k = *x;
-    let n = both_in(
-        p,
-        q,
-        false,
-        b,
-        nb,
-        x1,
-        n1,
-        false,
-        c,
-        nc,
-        y1,
-        n2,
-        &mut k,
-        top,
-    );
-    level(p, q, u, lu, &mut k, n, x, top);
+    let n = both_in(q, false, b, nb, x1, n1, false, c, nc, y1, n2, &mut k, top);
+    level(q, u, lu, &mut k, n, x, top);
     stored(rows, i, x, top);
     stored(rows, i + 1, b, top);
     stored(rows, i + 2, c, top);
@@ -116,8 +98,7 @@ fn placed(
 
 // The record of the elements m and n, scaled by the factors of k, over u
 fn filled(
-    p: u64,
-    q: Rapid,
+    q: Modulus,
     top: usize,
     k: Factors,
     mb: &mut [u64; 32],
@@ -133,44 +114,12 @@ fn filled(
     u: &[u64; 32],
     lu: usize,
 ) -> [u16; 119]
-    requires { ⌜ FillIn p (q .m) (q .lim) top k (now mb) (now mc) (now mx) (now nb) (now nc) (now nx) (now x1) n1 (now y1) n2 (now u) lu ⌝ }
-    ensures { λ o. ⌜ Filled p k (now (mb .entry)) (now (mc .entry)) (now (mx .entry)) (now (nb .entry)) (now (nc .entry)) (now (nx .entry)) (now (x1 .entry)) (now (y1 .entry)) (now (u .entry)) o ⌝ }
+    requires { ⌜ FillIn q top k (now mb) (now mc) (now mx) (now nb) (now nc) (now nx) (now x1) n1 (now y1) n2 (now u) lu ⌝ }
+    ensures { λ o. ⌜ Filled (q .p) k (now (mb .entry)) (now (mc .entry)) (now (mx .entry)) (now (nb .entry)) (now (nc .entry)) (now (nx .entry)) (now (x1 .entry)) (now (y1 .entry)) (now (u .entry)) o ⌝ }
 {
     let mut rows: [u16; 119] = [0; 119];
-    placed(
-        &mut rows,
-        0,
-        p,
-        q,
-        top,
-        k.m,
-        mb,
-        mc,
-        mx,
-        x1,
-        n1,
-        y1,
-        n2,
-        u,
-        lu,
-    );
-    placed(
-        &mut rows,
-        3,
-        p,
-        q,
-        top,
-        k.n,
-        nb,
-        nc,
-        nx,
-        x1,
-        n1,
-        y1,
-        n2,
-        u,
-        lu,
-    );
+    placed(&mut rows, 0, q, top, k.m, mb, mc, mx, x1, n1, y1, n2, u, lu);
+    placed(&mut rows, 3, q, top, k.n, nb, nc, nx, x1, n1, y1, n2, u, lu);
     stored(&mut rows, 6, u, lu);
     rows
 }
@@ -178,7 +127,6 @@ fn filled(
 // The scaled basis from a reduced pair m, n on, with l the length of X(m): all rows are scaled in place.
 fn finished(
     f: Bounds,
-    q: Rapid,
     r: &[u64; 32],
     w: &[u64; 32],
     mb: &mut [u64; 32],
@@ -195,23 +143,22 @@ fn finished(
     y1: &mut [u64; 32],
     n2: usize,
 ) -> [u16; 119]
-    requires { ⌜ FinishIn (given f (now r) (now w)) (q .m) (q .lim) (f .top) (ends (now mb) (now mc) (now mx) (now nb) (now nc) (now nx) l) (now d) lu (now x1) n1 (now y1) n2 ⌝ }
+    requires { ⌜ FinishIn (given f (now r) (now w)) (f .top) (ends (now mb) (now mc) (now mx) (now nb) (now nc) (now nx) l) (now d) lu (now x1) n1 (now y1) n2 ⌝ }
     ensures { λ o. ⌜ Finished (given f (now (r .entry)) (now (w .entry))) (f .top) (ends (now (mb .entry)) (now (mc .entry)) (now (mx .entry)) (now (nb .entry)) (now (nc .entry)) (now (nx .entry)) l) (now (d .entry)) lu (now (x1 .entry)) (now (y1 .entry)) o ⌝ }
 {
-    let p = f.p;
+    let q = f.m;
     let top = f.top;
-    let y = lead_of(f, q, true, nb, nc, r, w);
-    let k = factors_of(p, d[lu - 1], mx[l - 1], y);
-    scale_in(p, q, k.u, d, lu);
-    scale_in(p, q, 2, x1, n1);
-    scale_in(p, q, 2, y1, n2);
-    filled(p, q, top, k, mb, mc, mx, nb, nc, nx, x1, n1, y1, n2, d, lu)
+    let y = lead_of(f, true, nb, nc, r, w);
+    let k = factors_of(q.p, d[lu - 1], mx[l - 1], y);
+    scale_in(q, k.u, d, lu);
+    scale_in(q, 2, x1, n1);
+    scale_in(q, 2, y1, n2);
+    filled(q, top, k, mb, mc, mx, nb, nc, nx, x1, n1, y1, n2, d, lu)
 }
 
 // The scaled basis of the lattice of 1 and of the elements over m, n by the denominator d; the polynomial parts of X go into mx and nx.
 fn basis_in(
     f: Bounds,
-    q: Rapid,
     r: &[u64; 32],
     w: &[u64; 32],
     mb: &mut [u64; 32],
@@ -227,22 +174,21 @@ fn basis_in(
     y1: &mut [u64; 32],
     n2: usize,
 ) -> [u16; 119]
-    requires { ⌜ BasisOn (given f (now r) (now w)) (q .m) (q .lim) (pair (now mb) (now mc) (now nb) (now nc)) (f .top) (now d) lu (now x1) n1 (now y1) n2 (now mx) (now nx) ⌝ }
+    requires { ⌜ BasisOn (given f (now r) (now w)) (pair (now mb) (now mc) (now nb) (now nc)) (f .top) (now d) lu (now x1) n1 (now y1) n2 (now mx) (now nx) ⌝ }
     ensures { λ o. ⌜ Based (given f (now (r .entry)) (now (w .entry))) (pair (now (mb .entry)) (now (mc .entry)) (now (nb .entry)) (now (nc .entry))) (now (d .entry)) (now (x1 .entry)) (now (y1 .entry)) o ⌝ }
 {
-    let o = reduced(f, q, r, w, mb, mc, mx, nb, nc, nx, lu);
+    let o = reduced(f, r, w, mb, mc, mx, nb, nc, nx, lu);
     let l = o.l;
     if o.swap {
-        finished(f, q, r, w, nb, nc, nx, mb, mc, mx, l, d, lu, x1, n1, y1, n2)
+        finished(f, r, w, nb, nc, nx, mb, mc, mx, l, d, lu, x1, n1, y1, n2)
     } else {
-        finished(f, q, r, w, mb, mc, mx, nb, nc, nx, l, d, lu, x1, n1, y1, n2)
+        finished(f, r, w, mb, mc, mx, nb, nc, nx, l, d, lu, x1, n1, y1, n2)
     }
 }
 
 // The same with rows of its own for the polynomial parts
 pub fn reduced_basis(
     f: Bounds,
-    q: Rapid,
     r: &[u64; 32],
     w: &[u64; 32],
     mb: &mut [u64; 32],
@@ -256,14 +202,13 @@ pub fn reduced_basis(
     y1: &mut [u64; 32],
     n2: usize,
 ) -> [u16; 119]
-    requires { ⌜ BasisBy (given f (now r) (now w)) (q .m) (q .lim) (pair (now mb) (now mc) (now nb) (now nc)) (f .top) (now d) lu (now x1) n1 (now y1) n2 ⌝ }
+    requires { ⌜ BasisBy (given f (now r) (now w)) (pair (now mb) (now mc) (now nb) (now nc)) (f .top) (now d) lu (now x1) n1 (now y1) n2 ⌝ }
     ensures { λ o. ⌜ Based (given f (now (r .entry)) (now (w .entry))) (pair (now (mb .entry)) (now (mc .entry)) (now (nb .entry)) (now (nc .entry))) (now (d .entry)) (now (x1 .entry)) (now (y1 .entry)) o ⌝ }
 {
     let mut mx: [u64; 32] = [0; 32];
     let mut nx: [u64; 32] = [0; 32];
     basis_in(
         f,
-        q,
         r,
         w,
         mb,
@@ -286,7 +231,6 @@ pub fn order(f: Bounds, r: &[u64; 32], w: &[u64; 32]) -> [u16; 119]
     requires { ⌜ OrderIn (given f (now r) (now w)) (f .top) ⌝ }
     ensures { λ o. ⌜ Based (given f (now (r .entry)) (now (w .entry))) units unit nothing nothing o ⌝ }
 {
-    let fast = rapid_of(f.p);
     let mut mb: [u64; 32] = [0; 32];
     mb[0] = 1;
     let mut nc = mb;
@@ -297,7 +241,6 @@ pub fn order(f: Bounds, r: &[u64; 32], w: &[u64; 32]) -> [u16; 119]
     let mut y: [u64; 32] = [0; 32];
     reduced_basis(
         f,
-        fast,
         r,
         w,
         &mut mb,

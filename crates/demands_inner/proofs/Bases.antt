@@ -29,7 +29,7 @@ use Rattle.math_rows.proofs.Unique.{list-unique}
 use Rattle.math_turns.proofs.Turn.{moved-back, moved-then}
 use Rattle.basis_record.specs.Record.{part}
 use Rattle.basis_record.proofs.Unique.{part-below}
-use Rattle.basis_reduce.specs.Frame.{Frame, Meaning, rd, rowμ, X, Y, Ltμ}
+use Rattle.basis_parts.specs.Frame.{Frame, Meaning, rd, rowμ, X, Y, Ltμ}
 use Rattle.basis_reduce.specs.Clear.{Pair}
 use Rattle.basis_record.specs.Store.{Stored, Loaded}
 use Rattle.basis_scale.specs.First.{nothing, unit, units, OrderIn}

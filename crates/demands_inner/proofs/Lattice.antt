@@ -1,12 +1,15 @@
 -- Crates basis_lattice and poly_content.
 --   lengths-of-one     the lengths of seven rows, and e
 --   coordinates-one    the coordinates of an element that has some, and their lengths
+--   member-one         an element lies in the lattice or does not
 --   taken-off-one      four polynomials without their common factor: settled up to one constant
 use mathlib.Core.Path.{_≡_, sym, ap, _∙_, subst}
+use mathlib.Core.Bool.{Bool}
 use mathlib.Core.List.{List, [], _∷_}
 use Prim.Native.Nat.{ℕ}
 use Prim.Native.Nat as N
 use native.Mathlib.Omega.{arith}
+use Rattle.num_mod.specs.declared.Modulus.{Modulus}
 use Rattle.math_fp.specs.Fp.{Prime}
 use Rattle.math_valued.specs.Polynomial.{polys, Poly, Divides, IsUnit}
 use Rattle.math_valued.proofs.Degree.{has-move}
@@ -17,8 +20,10 @@ use Rattle.math_rows.specs.Made.{reading}
 use Rattle.math_rows.specs.Row.{Size}
 use Rattle.poly_rows.specs.Polynomial.{polynomial}
 use Rattle.poly_content.specs.Common.{Four, Without}
+use Rattle.base_answers.proofs.Tests.{settled}
 use Rattle.basis_record.specs.Seven.{Seven, Three}
 use Rattle.basis_lattice.specs.Coordinates.{Found, CoordsIn, Coordinates}
+use Rattle.basis_lattice.specs.Lattice.{Member, MemberAt}
 use Rattle.basis_lattice.specs.declared.Lengths.{Lengths}
 use Rattle.basis_lattice.specs.declared.Spans.{Spans}
 use Rattle.demands_inner.proofs.Rows.{by-row}
@@ -31,16 +36,19 @@ lengths-of-one pr f g =
     let same : (i : ℕ) → _ = λ i. size-one (f .sizes i) (g .sizes i) in
     (x, λ i. record { m0 = same 0 i; m1 = same 1 i; m2 = same 2 i; n0 = same 3 i; n1 = same 4 i; n2 = same 5 i; u = same 6 i; e = y i })
 
-pub coordinates-one : {p mul lim : ℕ} {va : List ℕ} {na : ℕ} {vb : List ℕ} {nb : ℕ} {vc : List ℕ} {nc : ℕ} {b : Seven} {l : Lengths} {e : List ℕ} {ie : ℕ} {z t t′ : Three} {o o′ : Spans}
-    → CoordsIn p mul lim va na vb nb vc nc b l e ie z → Coordinates p va vb vc b e t o → Coordinates p va vb vc b e t′ o′ → (t ≡ t′) × (o ≡ o′)
-coordinates-one {p} i h k =
-    let ρ = reading p (i .prime) in
+pub coordinates-one : {M : Modulus} {va : List ℕ} {na : ℕ} {vb : List ℕ} {nb : ℕ} {vc : List ℕ} {nc : ℕ} {b : Seven} {l : Lengths} {e : List ℕ} {ie : ℕ} {z t t′ : Three} {o o′ : Spans}
+    → CoordsIn M va na vb nb vc nc b l e ie z → Coordinates (M .p) va vb vc b e t o → Coordinates (M .p) va vb vc b e t′ o′ → (t ≡ t′) × (o ≡ o′)
+coordinates-one {M} i h k =
+    let ρ = reading (M .p) (i .prime) in
     let (ha, hb, hc) = h .law (i .prime) (i .α) (i .β) (i .γ) (i .some) in
     let (ka, kb, kc) = k .law (i .prime) (i .α) (i .β) (i .γ) (i .some) in
     let (a, la) = both (by-row ρ (h .spans .ha) (k .spans .ha) ha ka) (h .spans .sa) (k .spans .sa) in
     let (b, lb) = both (by-row ρ (h .spans .hb) (k .spans .hb) hb kb) (h .spans .sb) (k .spans .sb) in
     let (c, lc) = both (by-row ρ (h .spans .hc) (k .spans .hc) hc kc) (h .spans .sc) (k .spans .sc) in
     ((λ i. record { a = a i; b = b i; c = c i }), (λ i. record { a = la i; b = lb i; c = lc i }))
+
+pub member-one : {p : ℕ} (pr : Prime p) {va vb vc : List ℕ} {b : Seven} {e : List ℕ} (o o′ : Bool) → Member p va vb vc b e o → Member p va vb vc b e o′ → o ≡ o′
+member-one pr {va} {vb} {vc} {b} {e} o o′ h k = settled o o′ (MemberAt pr va vb vc b e) (h pr) (k pr)
 
 -- ---- without the common factor
 pub record Multiples {p : ℕ} (pr : Prime p) (o o′ : Four) : Type 0 where

@@ -23,7 +23,7 @@ use Rattle.math_rows.proofs.Quotient.{division-unique}
 use Rattle.math_rows.proofs.Unique.{row-unique}
 use Rattle.num_prime.specs.Table.{PrimeTest}
 use Rattle.poly_rows.specs.Leaf.{Opposite, ScaleOut, Crossed, CrossOut, Product, Listed}
-use Rattle.poly_rows.specs.Terms.{More}
+use Rattle.num_mod.specs.Prepared.{Added}
 use Rattle.poly_rows.specs.Division.{DivIn, Quotient}
 use Rattle.poly_rows.specs.Polynomial.{polynomial}
 use Rattle.poly_factors.specs.Factors.{Over, OverBoth, Common, SquareTest, CoprimeTest}
@@ -45,8 +45,8 @@ pub from-list-one : {l r s : List ℕ} → Listed l r → Listed l s → r ≡ s
 from-list-one {l} {r} {s} h k = ext-getD 0 r s (h .size ∙ sym (k .size)) (λ i _. h .each i ∙ sym (k .each i))
 
 -- one class mod p
-pub more-one : {p s x y r r′ : ℕ} → More p s x y r → More p s x y r′ → r % p ≡ r′ % p
-more-one h k = h .law ∙ sym (k .law)
+pub add-product-one : {p s x y r r′ : ℕ} → Added p s x y r → Added p s x y r′ → r % p ≡ r′ % p
+add-product-one h k = h .law ∙ sym (k .law)
 
 -- ---- for a prime
 module _ {p : ℕ} (pr : Prime p) where

@@ -12,8 +12,8 @@ use Rattle.math_valued.proofs.Compare.{has-scale}
 use Rattle.math_rows.proofs.Floors.{floor-lt, floor-top, top-not}
 use Rattle.math_rows.proofs.Unique.{row-unique, cast-inj}
 use Rattle.math_turns.proofs.Turn.{moved-back, moved-then}
-use Rattle.basis_reduce.specs.Frame.{Frame, Meaning, rd, pt, side, X, Hasμ}
-use Rattle.basis_reduce.specs.Leaves.{Parted, Led}
+use Rattle.basis_parts.specs.Frame.{Frame, Meaning, rd, pt, side, X, Hasμ}
+use Rattle.basis_parts.specs.Leaves.{Parted, Led}
 use Rattle.basis_reduce.specs.Clear.{Pair, Ends, ClearIn, Reduced}
 use Rattle.demands_inner.proofs.Rows.{floor-one}
 use Rattle.demands_inner.specs.UpTo.{Scaled}

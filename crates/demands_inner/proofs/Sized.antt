@@ -3,6 +3,7 @@ use mathlib.Core.Path.{_≡_, sym, subst}
 use mathlib.Core.Bool.{Bool}
 use mathlib.Core.List.{List}
 use Prim.Native.Nat.{ℕ}
+use Rattle.num_mod.specs.declared.Modulus.{Modulus}
 use Rattle.math_fp.specs.Fp.{Prime}
 use Rattle.math_rows.specs.Made.{reading}
 use Rattle.math_rows.specs.Row.{Size}
@@ -13,6 +14,9 @@ use Rattle.demands_inner.proofs.Rows.{by-row}
 use Rattle.demands_inner.proofs.Poly.{size-one, mul-one, quotient-one}
 
 -- one row has one length
+abbrev of : ℕ → ℕ → ℕ → Modulus
+of p mul lim = record { p = p; m = mul; lim = lim }
+
 pub both : {o o′ : List ℕ} {l l′ : ℕ} → o ≡ o′ → Size o l → Size o′ l′ → (o ≡ o′) × (l ≡ l′)
 both {l = l} e s s′ = (e, size-one (subst (λ z. Size z l) e s) s′)
 
@@ -29,14 +33,14 @@ module _ {p : ℕ} (pr : Prime p) where
   pub det-in-one : {x y z v o o′ : List ℕ} {l l′ : ℕ} → DetOut p x y z v o l → DetOut p x y z v o′ l′ → (o ≡ o′) × (l ≡ l′)
   det-in-one h k = both (by-row (reading p pr) (h .is-row) (k .is-row) (h .law pr) (k .law pr)) (h .size) (k .size)
 
-  pub quotient-in-one : {mul lim : ℕ} {a : List ℕ} {n : ℕ} {b : List ℕ} {m il : ℕ} {r o o′ : List ℕ} {l l′ : ℕ} → QuotientBy p mul lim a n b m il r
+  pub quotient-in-one : {mul lim : ℕ} {a : List ℕ} {n : ℕ} {b : List ℕ} {m il : ℕ} {r o o′ : List ℕ} {l l′ : ℕ} → QuotientBy (of p mul lim) a n b m il r
       → QuotientOut p a b o l → QuotientOut p a b o′ l′ → (o ≡ o′) × (l ≡ l′)
   quotient-in-one g h k = both (quotient-one pr (g .inp) (h .quotient) (k .quotient)) (h .size) (k .size)
 
   pub less-in-one : {x y r o o′ : List ℕ} {l l′ : ℕ} → LessOut p x y r o l → LessOut p x y r o′ l′ → (o ≡ o′) × (l ≡ l′)
   less-in-one h k = both (by-row (reading p pr) (h .is-row) (k .is-row) (h .law pr) (k .law pr)) (h .size) (k .size)
 
-  pub divide-in-one : {mul lim : ℕ} {a : List ℕ} {n : ℕ} {b : List ℕ} {m il : ℕ} {o q q′ r r′ : List ℕ} {l l′ k k′ : ℕ} → QuotientBy p mul lim a n b m il o
+  pub divide-in-one : {mul lim : ℕ} {a : List ℕ} {n : ℕ} {b : List ℕ} {m il : ℕ} {o q q′ r r′ : List ℕ} {l l′ k k′ : ℕ} → QuotientBy (of p mul lim) a n b m il o
       → DivideOut p a b q r l k → DivideOut p a b q′ r′ l′ k′ → (q ≡ q′) × (r ≡ r′) × (l ≡ l′) × (k ≡ k′)
   divide-in-one {a = a} {b = b} {il = il} {q = q} {q′ = q′} {r = r} {r′ = r′} g d e =
       let (x, y) = divided-unique p pr a b il q r q′ r′ (g .inp) (d .divided) (e .divided) in

@@ -1,4 +1,4 @@
--- Crates closure and accepts, and the other answers that are tests: a statement has one answer (`decides-one`). An answer that holds at
+-- Crates basis_closed and basis_accept, and the other answers that are tests: a statement has one answer (`decides-one`). An answer that holds at
 -- each field is settled where there is one.
 use mathlib.Core.Path.{_≡_}
 use mathlib.Core.Bool.{Bool}
@@ -8,8 +8,8 @@ use Rattle.base_answers.specs.Decides.{Decides}
 use Rattle.base_answers.proofs.Tests.{settled}
 use Rattle.field_open.specs.Refusal.{Accepted}
 use Rattle.basis_record.specs.Seven.{Seven, Holds}
-use Rattle.basis_lattice.specs.Closed.{Under}
-use Rattle.basis_lattice.proofs.Closing as closing
+use Rattle.basis_closed.specs.Closed.{Under}
+use Rattle.basis_closed.proofs.Closing as closing
 use Rattle.field_series.specs.declared.Cubic.{Cubic}
 use Rattle.basis_field.specs.Known.{Known}
 use Rattle.basis_accept.specs.Answer.{Accepts}
@@ -19,10 +19,10 @@ use Rattle.basis_accept.proofs.Accepting as accepting
 pub decides-one : {A : Type 0} (r s : Bool) → Decides r A → Decides s A → r ≡ s
 decides-one {A} r s h k = settled r s A h k
 
--- ---- closure
+-- ---- basis_closed
 pub under-one : {p : ℕ} {g h gh G H : List ℕ} {b : Seven} (σ : Accepted p G H) → Holds σ g h gh → (r s : Bool) → Under p g h gh b r → Under p g h gh b s → r ≡ s
 under-one σ h r s = closing.under-one σ h r s
 
--- ---- accepts
+-- ---- basis_accept
 pub accepts-one : {c : Cubic} {B : List ℕ} (r s : Bool) → Known c → Accepts c B r → Accepts c B s → r ≡ s
 accepts-one r s g h k = accepting.accepts-one g r s h k

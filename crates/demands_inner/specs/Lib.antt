@@ -1,10 +1,9 @@
 -- Tightness: for each public function, by the crate that has it, the theorem that two outcomes which meet its contract at one input are
 -- equal: result, and contents of each lent slice after the call. Functions that are not named have a contract that is an equation.
---   residue       inverse, cube_root: inverse-one, cube-root-one (residue/proofs/Unique)
+--   num_mod       inverse, cube_root: inverse-one, cube-root-one (num_mod/proofs/Unique); add_product, mod p: add-product-one (Poly)
 --   prime         is_prime: is-prime-one (Poly)
 --   poly_rows     size_from, size: size-one; from_list: from-list-one; for a prime p: minus, mul: minus-one, mul-one;
---                 scale_in, cross_in: scale-in-one, cross-in-one; more, mod p: more-one (Poly);
---                 rapid_of settles nothing: its numbers only serve a remainder, which is settled
+--                 scale_in, cross_in: scale-in-one, cross-in-one (Poly)
 --   poly_factors  squarefree, coprime: squarefree-one, coprime-one; gcd, up to a constant: gcd-one (Poly)
 --   poly_lent     for a prime p: mix_in, both_in, times_in, det_in, quotient_in, less_in, divide_in: mix-in-one, both-in-one,
 --                 times-in-one, det-in-one, quotient-in-one, less-in-one, divide-in-one (Sized)
@@ -12,10 +11,12 @@
 --   field         list_length: list-one (field/proofs/Parts); refusal: refusal-one; open: opens-one (field/proofs)
 --   pairs         one_field: decides-one (Tests); paired, refusal, compare: pairs-one, refusals-one, compares-one (pairs/proofs/Once)
 --   series        series, open_with_series: answer-one, expands-one (series/proofs/Answer)
---   reduce        part: part-one; lead_of, where the size has a degree: lead-of-one; reduced, up to constants: reduced-one (Reduction)
+--   basis_parts   part: part-one; lead_of, where the size has a degree: lead-of-one (Reduction)
+--   basis_reduce  reduced, up to constants: reduced-one (Reduction)
 --   step_divide   divided, up to a constant: divided-one, and its lengths: divided-lengths (Generators)
 --   basis_record  load, stored: load-one, stored-one (Bases)
---   basis_lattice lengths_of, coordinates: lengths-of-one, coordinates-one (Lattice); under: under-one (Tests)
+--   basis_lattice lengths_of, coordinates, member: lengths-of-one, coordinates-one, member-one (Lattice)
+--   basis_closed  under: under-one (Tests)
 --   basis         reduced_basis, order: reduced-basis-one, order-one (Bases)
 --   shape         below, narrow, shape: decides-one (Tests)
 --   accepts       accepts: accepts-one (Tests)

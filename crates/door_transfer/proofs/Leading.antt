@@ -15,7 +15,7 @@ use Rattle.math_valued.specs.Val.{Valued}
 use Rattle.math_rows.specs.Reading.{Reading}
 use Rattle.math_rows.specs.Made.{reading}
 use Rattle.math_rows.proofs.Numbers.{cast-product, product-some}
-use Rattle.num_residue.specs.Residue.{Modulus, Two, Nonzero, Rooted, Inverse, CubeRoot}
+use Rattle.num_mod.specs.Residue.{IsModulus, Two, Nonzero, Rooted, Inverse, CubeRoot}
 use Rattle.pair_agree.specs.Rows.{Law}
 use Rattle.door_transfer.specs.Code.{Kind, Lead}
 use Rattle.pair_agree.proofs.Laws.{law-of}
@@ -32,7 +32,7 @@ module _ (p : ℕ) (k : Kind p) where
   open Ops (K .ops) using (mul as _*_, 𝟎 as 0ᵏ, 𝟏 as 1ᵏ)
 
   infixl 70 _*_
-  modulus : Modulus p
+  modulus : IsModulus p
   modulus = record { big = pr .big; small = omega (arith, k .small) }
 
   pub rest-below : (r n : ℕ) → r ≡ n % p → r < p

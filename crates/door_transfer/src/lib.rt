@@ -1,8 +1,8 @@
 // The rows of a unit carried over from one pair to another pair of the same field. specs/Transfer.antt says what the answer and the lent
 // slice are, specs/Code.antt what the parts do.
-use num_residue::cube_root;
-use num_residue::inverse;
-use num_residue::mul;
+use num_mod::cube_root;
+use num_mod::inverse;
+use num_mod::mul;
 use pair_agree::Pairing;
 use poly_long::scale;
 ghost use Rattle.pair_agree.specs.Rows.{Law};

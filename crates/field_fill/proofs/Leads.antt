@@ -10,10 +10,10 @@ use Rattle.math_fp.proofs.Ring.{mul-mod-mod, mod-mul-mod}
 use Rattle.math_fp.proofs.Field.{ppos}
 use Rattle.math_rows.specs.Made.{reading}
 use Rattle.math_rows.proofs.Numbers.{product-some}
-use Rattle.num_residue.specs.Residue.{Modulus, Nonzero, Inverse, CubeRoot}
+use Rattle.num_mod.specs.Residue.{IsModulus, Nonzero, Inverse, CubeRoot}
 use Rattle.field_fill.specs.Fill.{Leads, LeadRoot, ThriceInverse}
 
-pub modulus-of : {p g h : ℕ} → Leads p g h → Modulus p
+pub modulus-of : {p g h : ℕ} → Leads p g h → IsModulus p
 modulus-of l = record { big = l .prime .big; small = (omega (arith, l .small)) }
 
 module _ {p g h : ℕ} (l : Leads p g h) where

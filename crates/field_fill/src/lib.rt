@@ -135,7 +135,7 @@ fn lead_root(p: u64, g: u64, h: u64) -> u64
     requires { ⌜ Leads p g h ⌝ }
     ensures { λ c. ⌜ LeadRoot p g h c ⌝ }
 {
-    num_residue::cube_root(p, num_residue::mul(p, g, num_residue::mul(p, h, h)))
+    num_mod::cube_root(p, num_mod::mul(p, g, num_mod::mul(p, h, h)))
 }
 
 // The inverse of 3 c².
@@ -143,7 +143,7 @@ fn thrice_inverse(p: u64, c: u64) -> u64
     requires { ⌜ Leads p c c ⌝ }
     ensures { λ u. ⌜ ThriceInverse p c u ⌝ }
 {
-    num_residue::inverse(p, num_residue::mul(p, 3, num_residue::mul(p, c, c)))
+    num_mod::inverse(p, num_mod::mul(p, 3, num_mod::mul(p, c, c)))
 }
 
 // Both lists of an accepted field.

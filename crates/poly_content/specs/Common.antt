@@ -12,21 +12,26 @@ use lib.ListN.{replicate}
 use Rattle.math_fp.specs.Fp.{Prime}
 use Rattle.math_valued.specs.Degree.{Has}
 use Rattle.math_valued.specs.Polynomial.{polys, Poly, Divides, IsUnit}
-use Rattle.num_residue.specs.Residue.{Modulus}
+use Rattle.num_mod.specs.Residue.{IsModulus}
 use Rattle.math_rows.specs.Made.{reading}
 use Rattle.math_rows.specs.Row.{Row, Size}
 use Rattle.poly_rows.specs.Leaf.{Fits}
-use Rattle.poly_rows.specs.Terms.{Ready}
+use Rattle.num_mod.specs.Prepared.{Prepared}
+use Rattle.num_mod.specs.declared.Modulus.{Modulus}
 use Rattle.poly_rows.specs.Division.{DivIn, Exact}
 use Rattle.poly_rows.specs.Polynomial.{polynomial}
 
 pub record FourRows (p : ℕ) (x0 x2 y0 y2 : List ℕ) : Type 0 where
-  pub modulus : Modulus p
+  pub modulus : IsModulus p
   pub prime : Prime p
   pub h0 : Row p x0
   pub h2 : Row p x2
   pub k0 : Row p y0
   pub k2 : Row p y2
+
+pub record ContentIn (q : Modulus) (x0 x2 y0 y2 : List ℕ) : Type 0 where
+  pub rows : FourRows (q .p) x0 x2 y0 y2
+  pub modulus : Prepared q
 
 pub record Content (p : ℕ) (x0 x2 y0 y2 r : List ℕ) : Type 0 where
   pub is-row : Row p r
@@ -78,9 +83,9 @@ pub record CutOff (p : ℕ) (x0 x2 y0 y2 : List ℕ) (o : Four) : Type 0 where
   pub hd : Row p (o .d)
   pub law : (pr : Prime p) → Without p pr x0 x2 y0 y2 o
 
-pub record TakeIn (p mul lim : ℕ) (x0 : List ℕ) (a0 : ℕ) (x2 : List ℕ) (a2 : ℕ) (y0 : List ℕ) (b0 : ℕ) (y2 : List ℕ) (b2 : ℕ) (d : List ℕ) : Type 0 where
-  pub inp : CutIn p x0 x2 y0 y2
-  pub ready : Ready p mul lim
+pub record TakeIn (q : Modulus) (x0 : List ℕ) (a0 : ℕ) (x2 : List ℕ) (a2 : ℕ) (y0 : List ℕ) (b0 : ℕ) (y2 : List ℕ) (b2 : ℕ) (d : List ℕ) : Type 0 where
+  pub inp : CutIn (q .p) x0 x2 y0 y2
+  pub modulus : Prepared q
   pub sx0 : Size x0 a0
   pub sx2 : Size x2 a2
   pub sy0 : Size y0 b0
@@ -92,9 +97,9 @@ pub record Taken (p : ℕ) (x0 x2 y0 y2 : List ℕ) (o : Four) (l : ℕ) : Type 
   pub size : Size (o .d) l
 
 -- ---- in place
-pub record ShortenIn (p mul lim : ℕ) (x : List ℕ) (n : ℕ) (k : List ℕ) (m il : ℕ) : Type 0 where
-  pub inp : DivIn p x k il
-  pub ready : Ready p mul lim
+pub record ShortenIn (q : Modulus) (x : List ℕ) (n : ℕ) (k : List ℕ) (m il : ℕ) : Type 0 where
+  pub inp : DivIn (q .p) x k il
+  pub modulus : Prepared q
   pub sx : Size x n
   pub sk : Size k m
 

@@ -1,34 +1,34 @@
 // Four polynomials and their determinant without what the four have in common, in place.
-use num_residue::inverse;
+use num_mod::Modulus;
+use num_mod::inverse;
 use poly_factors::gcd;
 use poly_lent::det_in;
 use poly_lent::quotient_in;
-use poly_rows::Rapid;
 use poly_rows::size;
-ghost use Rattle.poly_content.specs.Common.{FourRows, Content, four, ShortenIn, Shortened, TakeIn, Taken};
+ghost use Rattle.poly_content.specs.Common.{ContentIn, Content, four, ShortenIn, Shortened, TakeIn, Taken};
 
 // A greatest common divisor of four. Usually the first two have none, and it ends there.
-fn content(p: u64, x0: &[u64; 32], x2: &[u64; 32], y0: &[u64; 32], y2: &[u64; 32]) -> [u64; 32]
-    requires { ⌜ FourRows p (now x0) (now x2) (now y0) (now y2) ⌝ }
-    ensures { λ r. ⌜ Content p (now (x0 .entry)) (now (x2 .entry)) (now (y0 .entry)) (now (y2 .entry)) r ⌝ }
+fn content(q: Modulus, x0: &[u64; 32], x2: &[u64; 32], y0: &[u64; 32], y2: &[u64; 32]) -> [u64; 32]
+    requires { ⌜ ContentIn q (now x0) (now x2) (now y0) (now y2) ⌝ }
+    ensures { λ r. ⌜ Content (q .p) (now (x0 .entry)) (now (x2 .entry)) (now (y0 .entry)) (now (y2 .entry)) r ⌝ }
 {
-    let g = gcd(p, x2, y2);
+    let g = gcd(q, x2, y2);
     let n = size(&g);
     if n == 1 {
         g
     } else {
-        let h = gcd(p, &g, y0);
-        gcd(p, &h, x0)
+        let h = gcd(q, &g, y0);
+        gcd(q, &h, x0)
     }
 }
 
 // x / k in place of x, where k divides x, and its length; n and m are the lengths of x and k.
-fn shorten(p: u64, q: Rapid, x: &mut [u64; 32], n: usize, k: &[u64; 32], m: usize, il: u64) -> usize
-    requires { ⌜ ShortenIn p (q .m) (q .lim) (now x) n (now k) m il ⌝ }
-    ensures { λ l. ⌜ Shortened p (now (x .entry)) (now (k .entry)) (now (x .exit)) l ⌝ }
+fn shorten(q: Modulus, x: &mut [u64; 32], n: usize, k: &[u64; 32], m: usize, il: u64) -> usize
+    requires { ⌜ ShortenIn q (now x) n (now k) m il ⌝ }
+    ensures { λ l. ⌜ Shortened (q .p) (now (x .entry)) (now (k .entry)) (now (x .exit)) l ⌝ }
 {
     let mut t: [u64; 32] = [0; 32];
-    let l = quotient_in(p, q, x, n, k, m, il, &mut t);
+    let l = quotient_in(q, x, n, k, m, il, &mut t);
     *x = t;
     l
 }
@@ -41,8 +41,7 @@ pub struct Off {
 
 // Four polynomials of known lengths, and their determinant x2 y0 - x0 y2 in the zero row d, without their common factor.
 pub fn taken_off(
-    p: u64,
-    q: Rapid,
+    q: Modulus,
     x0: &mut [u64; 32],
     a0: usize,
     x2: &mut [u64; 32],
@@ -53,22 +52,22 @@ pub fn taken_off(
     b2: usize,
     d: &mut [u64; 32],
 ) -> Off
-    requires { ⌜ TakeIn p (q .m) (q .lim) (now x0) a0 (now x2) a2 (now y0) b0 (now y2) b2 (now d) ⌝ }
-    ensures { λ o. ⌜ Taken p (now (x0 .entry)) (now (x2 .entry)) (now (y0 .entry)) (now (y2 .entry)) (four (now (x0 .exit)) (now (x2 .exit)) (now (y0 .exit)) (now (y2 .exit)) (now (d .exit)) (o .cut)) (o .d) ⌝ }
+    requires { ⌜ TakeIn q (now x0) a0 (now x2) a2 (now y0) b0 (now y2) b2 (now d) ⌝ }
+    ensures { λ o. ⌜ Taken (q .p) (now (x0 .entry)) (now (x2 .entry)) (now (y0 .entry)) (now (y2 .entry)) (four (now (x0 .exit)) (now (x2 .exit)) (now (y0 .exit)) (now (y2 .exit)) (now (d .exit)) (o .cut)) (o .d) ⌝ }
 {
-    let k = content(p, x0, x2, y0, y2);
-    let l = det_in(p, q, x2, a2, y0, b0, x0, a0, y2, b2, d);
+    let k = content(q, x0, x2, y0, y2);
+    let l = det_in(q, x2, a2, y0, b0, x0, a0, y2, b2, d);
     let m = size(&k);
     if m == 1 {
         Off { cut: 0, d: l }
     } else {
         let c = k[m - 1];
-        let il = inverse(p, c);
-        shorten(p, q, x0, a0, &k, m, il);
-        shorten(p, q, x2, a2, &k, m, il);
-        shorten(p, q, y0, b0, &k, m, il);
-        shorten(p, q, y2, b2, &k, m, il);
-        let n = shorten(p, q, d, l, &k, m, il);
+        let il = inverse(q.p, c);
+        shorten(q, x0, a0, &k, m, il);
+        shorten(q, x2, a2, &k, m, il);
+        shorten(q, y0, b0, &k, m, il);
+        shorten(q, y2, b2, &k, m, il);
+        let n = shorten(q, d, l, &k, m, il);
         Off { cut: m - 1, d: n }
     }
 }

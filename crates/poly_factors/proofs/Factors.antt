@@ -14,7 +14,8 @@ use Rattle.math_valued.specs.Gcd.{IsGcd}
 use Rattle.math_valued.proofs.Degree.{lt-eq}
 use Rattle.math_valued.proofs.Polynomial.{P-path, const-unit}
 use Rattle.math_valued.proofs.Coprime.{coprime-unit, common-nonconst, zero-square, zero-common, zero-divides}
-use Rattle.num_residue.specs.Residue.{Modulus}
+use Rattle.num_mod.specs.Prepared.{Prepared, PreparedOf}
+use Rattle.num_mod.specs.declared.Modulus.{Modulus}
 use Rattle.math_rows.specs.Made.{reading, derivation}
 use Rattle.math_rows.specs.Row.{tab, Row, Size, row}
 use Rattle.math_rows.proofs.Tab.{Begun, begun-end, tab-row}
@@ -25,9 +26,8 @@ use Rattle.math_rows.proofs.Derivative.{derivative-law}
 use Rattle.math_rows.proofs.Square.{∂, squarefree-unit, square-factor}
 use Rattle.math_turns.proofs.Euclid.{Span, span-start, span-swap, span-turn, span-gcd}
 use Rattle.poly_rows.specs.Leaf.{Cut, Given, CrossBy, Crossed}
-use Rattle.poly_rows.specs.Terms.{Ready}
 use Rattle.poly_rows.specs.Polynomial.{polynomial}
-use Rattle.poly_factors.specs.Factors.{Derived, OverBoth, Common, SquareTest, CoprimeTest}
+use Rattle.poly_factors.specs.Factors.{Derived, CommonIn, Common, SquareTest, CoprimeTest}
 use Rattle.poly_rows.proofs.Leaf.{cross-by}
 
 -- ---- the derivative
@@ -47,8 +47,8 @@ pub record Euclid (p : ℕ) (a b x y : List ℕ) (n m : ℕ) : Type 0 where
   pub sy : Size y m
   pub each : (pr : Prime p) → let ρ = reading p pr in Span ρ (row ρ a) (row ρ b) (row ρ x) (row ρ y)
 
-pub euclid-start : (p : ℕ) (a b : List ℕ) (n m : ℕ) → OverBoth p a b → Size a n → Size b m → Euclid p a b a b n m
-euclid-start p a b n m h s u = record { hx = h .hx; hy = h .hy; sx = s; sy = u; each = λ pr. span-start (reading p pr) (row (reading p pr) a) (row (reading p pr) b) }
+pub euclid-start : (p : ℕ) (a b : List ℕ) (n m : ℕ) → Row p a → Row p b → Size a n → Size b m → Euclid p a b a b n m
+euclid-start p a b n m h k s u = record { hx = h; hy = k; sx = s; sy = u; each = λ pr. span-start (reading p pr) (row (reading p pr) a) (row (reading p pr) b) }
 
 pub euclid-swap : {p : ℕ} {a b x y : List ℕ} {n m : ℕ} → Euclid p a b x y n m → Euclid p a b y x m n
 euclid-swap {p} i = record { hx = i .hy; hy = i .hx; sx = i .sy; sy = i .sx; each = λ pr. span-swap (reading p pr) (i .each pr) }
@@ -56,11 +56,6 @@ euclid-swap {p} i = record { hx = i .hy; hy = i .hx; sx = i .sy; sy = i .sx; eac
 module _ {p : ℕ} {a b x y : List ℕ} {n m : ℕ} (i : Euclid p a b x y n m) (pos : 0 < m) (le : m ≤ n) where
   room : m + (n - m) ≤ n × n ≤ 32
   room = let f : n ≤ length x = i .sx .fits in let g : length x ≡ 32 = i .hx .size in (omega arith, omega arith)
-
-  pub euclid-room : {mul lim : ℕ} → Modulus p → Ready p mul lim → CrossBy p mul lim (getD y (m - 1) 0) x (getD x (n - 1) 0) (n - m) y n
-  euclid-room h q =
-      let l : getD x (n - 1) 0 < p = i .hx .each (n - 1) in
-      cross-by n h q (i .hy .each (m - 1)) (omega arith) (i .hx) (i .hy) (i .sx) (i .sy) (omega arith) (room .0) (room .1)
 
   module _ (t : List ℕ) (o : Crossed p (getD y (m - 1) 0) x (getD x (n - 1) 0) (n - m) y t) (k : ℕ) (st : Size t k) where
     pub euclid-less : Prime p → k < n
@@ -85,6 +80,12 @@ module _ {p : ℕ} {a b x y : List ℕ} {n m : ℕ} (i : Euclid p a b x y n m) (
       let l : k < n = euclid-less t o k s pr in
       record { size = o .is-row .size; fits = omega (arith, room .1); above = λ j u. s .above j (omega arith) }
 
+pub euclid-room : {q : Modulus} {a b x y : List ℕ} {n m : ℕ} → Euclid (q .p) a b x y n m → 0 < m → m ≤ n → Prepared q → CrossBy q (getD y (m - 1) 0) x (getD x (n - 1) 0) (n - m) y n
+euclid-room {q} {x = x} {n = n} {m = m} i pos le h =
+    let r = room i pos le in
+    let l : getD x (n - 1) 0 < q .p = i .hx .each (n - 1) in
+    cross-by n h (i .hy .each (m - 1)) (omega arith) (i .hx) (i .hy) (i .sx) (i .sy) (omega arith) (r .0) (r .1)
+
 pub euclid-end : (p : ℕ) (a b x y : List ℕ) (n m : ℕ) → Euclid p a b x y n m → m ≤ 0 → Common p a b x
 euclid-end p a b x y n m i z = record {
   is-row = i .hx;
@@ -98,6 +99,18 @@ common-self p x d m h s e = record {
   is-row = h;
   law = λ pr. let R = reading p pr in span-gcd R (polynomial p pr x) (polynomial p pr d) (polynomial p pr x) (row R d) (span-start R (row R x) (row R d)) (zero-row R d (subst (λ j. Size d j) e s));
 }
+
+-- where q is prepared of p
+pub common-in : {p : ℕ} {q : Modulus} {x y : List ℕ} → PreparedOf p q → Prime p → Row p x → Row p y → CommonIn q x y
+common-in {x = x} {y = y} e pr hx hy = record {
+  modulus = e .prepared;
+  prime = subst Prime (sym (e .is)) pr;
+  hx = subst (λ k. Row k x) (sym (e .is)) hx;
+  hy = subst (λ k. Row k y) (sym (e .is)) hy;
+}
+
+pub common-of : {p : ℕ} {q : Modulus} {x y r : List ℕ} → PreparedOf p q → Common (q .p) x y r → Common p x y r
+common-of {x = x} {y = y} {r = r} e h = subst (λ k. Common k x y r) (e .is) h
 
 -- ---- the tests
 module _ (p : ℕ) (pr : Prime p) (g : List ℕ) (hg : Row p g) where

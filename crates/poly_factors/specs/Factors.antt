@@ -11,7 +11,9 @@ use Rattle.math_fp.specs.Fp.{Prime}
 use Rattle.math_valued.specs.Polynomial.{Squarefree, Coprime}
 use Rattle.math_valued.specs.Factor.{SquareFactor, CommonFactor}
 use Rattle.math_valued.specs.Gcd.{IsGcd}
-use Rattle.num_residue.specs.Residue.{Modulus}
+use Rattle.num_mod.specs.Residue.{IsModulus}
+use Rattle.num_mod.specs.Prepared.{Prepared}
+use Rattle.num_mod.specs.declared.Modulus.{Modulus}
 use Rattle.math_rows.specs.Made.{reading, derivation}
 use Rattle.math_rows.specs.Row.{Row, row}
 use Rattle.poly_rows.specs.Polynomial.{polynomial}
@@ -21,15 +23,22 @@ pub record Derived (p : ℕ) (x r : List ℕ) : Type 0 where
   pub law : (pr : Prime p) → row (reading p pr) r ≡ derivation p pr .D (row (reading p pr) x)
 
 pub record Over (p : ℕ) (x : List ℕ) : Type 0 where
-  pub modulus : Modulus p
+  pub modulus : IsModulus p
   pub prime : Prime p
   pub hx : Row p x
 
 pub record OverBoth (p : ℕ) (x y : List ℕ) : Type 0 where
-  pub modulus : Modulus p
+  pub modulus : IsModulus p
   pub prime : Prime p
   pub hx : Row p x
   pub hy : Row p y
+
+-- a prepared modulus that is prime, and two rows
+pub record CommonIn (q : Modulus) (x y : List ℕ) : Type 0 where
+  pub modulus : Prepared q
+  pub prime : Prime (q .p)
+  pub hx : Row (q .p) x
+  pub hy : Row (q .p) y
 
 pub record Common (p : ℕ) (x y r : List ℕ) : Type 0 where
   pub is-row : Row p r

@@ -1,10 +1,11 @@
 // Greatest common divisors of rows of 32 coefficients by Euclid, and the tests that they decide: squarefree, coprime. p is prime.
+use num_mod::Modulus;
+use num_mod::prepare;
 use poly_rows::cross_in;
-use poly_rows::rapid_of;
 use poly_rows::size;
 use poly_rows::size_from;
 ghost use Rattle.poly_rows.specs.Leaf.{Given};
-ghost use Rattle.poly_factors.specs.Factors.{Derived, Over, OverBoth, Common, SquareTest, CoprimeTest};
+ghost use Rattle.poly_factors.specs.Factors.{Derived, Over, OverBoth, CommonIn, Common, SquareTest, CoprimeTest};
 
 type Row = [u64; 32];
 
@@ -24,11 +25,10 @@ fn derivative(p: u64, x: &Row) -> Row
 }
 
 // A greatest common divisor, by Euclid: the longer of the two loses its leading term, until one is 0.
-pub fn gcd(p: u64, a: &Row, b: &Row) -> Row
-    requires { ⌜ OverBoth p (now a) (now b) ⌝ }
-    ensures { λ r. ⌜ Common p (now (a .entry)) (now (b .entry)) r ⌝ }
+pub fn gcd(q: Modulus, a: &Row, b: &Row) -> Row
+    requires { ⌜ CommonIn q (now a) (now b) ⌝ }
+    ensures { λ r. ⌜ Common (q .p) (now (a .entry)) (now (b .entry)) r ⌝ }
 {
-    let q = rapid_of(p);
     let mut x = *a;
     let mut y = *b;
     let mut n = size(a);
@@ -44,7 +44,7 @@ pub fn gcd(p: u64, a: &Row, b: &Row) -> Row
         } else {
             let s = y[m - 1];
             let c = x[n - 1];
-            cross_in(p, q, s, &mut x, c, n - m, &y, n);
+            cross_in(q, s, &mut x, c, n - m, &y, n);
             n = size_from(&x, n - 1);
         }
     }
@@ -62,7 +62,8 @@ pub fn squarefree(p: u64, x: &Row) -> bool
         let k = size(x);
         if k == 1 { true } else { false }
     } else {
-        let g = gcd(p, x, &d);
+        let q = prepare(p);
+        let g = gcd(q, x, &d);
         let n = size(&g);
         if n == 1 { true } else { false }
     }
@@ -73,7 +74,8 @@ pub fn coprime(p: u64, x: &Row, y: &Row) -> bool
     requires { ⌜ OverBoth p (now x) (now y) ⌝ }
     ensures { λ r. ⌜ CoprimeTest p (now (x .entry)) (now (y .entry)) r ⌝ }
 {
-    let g = gcd(p, x, y);
+    let q = prepare(p);
+    let g = gcd(q, x, y);
     let n = size(&g);
     if n == 1 { true } else { false }
 }

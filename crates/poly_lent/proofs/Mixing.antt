@@ -14,6 +14,8 @@ use lib.ListN.{length, getD, replicate}
 use Rattle.math_ring.specs.Ring.{Ops, CRing}
 use Rattle.math_ring.proofs.Laws as laws
 use Rattle.math_valued.specs.Val.{Valued}
+use Rattle.num_mod.specs.declared.Modulus.{Modulus}
+use Rattle.num_mod.proofs.Prepared.{bare}
 use Rattle.math_rows.specs.Reading.{Reading}
 use Rattle.math_rows.specs.Made.{reading}
 use Rattle.math_rows.specs.Row.{Row, Size, row}
@@ -30,37 +32,36 @@ pub size-cut : {p : ℕ} {x : List ℕ} {n : ℕ} → Row p x → Size x n → C
 size-cut {p} {x} {n} h s = let f : n ≤ length x = s .fits in let l : length x ≡ 32 = h .size in record { size = l; fits = omega arith; above = s .above }
 
 -- ---- r ± x y
-module _ {p mul lim : ℕ} {x : List ℕ} {n : ℕ} {y : List ℕ} {m : ℕ} {r : List ℕ} (h : MixIn p mul lim x n y m r) where
-  pub mix-gather : GatherIn p x n y m r
-  mix-gather = record { modulus = h .modulus; hx = h .hx; hy = h .hy; cx = size-cut (h .hx) (h .sx); cy = size-cut (h .hy) (h .sy); fits = h .fits; loose = loose-row (h .modulus .small) (h .hr) }
+module _ {M : Modulus} {x : List ℕ} {n : ℕ} {y : List ℕ} {m : ℕ} {r : List ℕ} (h : MixIn M x n y m r) where
+  pub mix-gather : GatherIn (M .p) x n y m r
+  mix-gather = record { modulus = bare (h .modulus); hx = h .hx; hy = h .hy; cx = size-cut (h .hx) (h .sx); cy = size-cut (h .hy) (h .sy); fits = h .fits; loose = loose-row (h .modulus .small) (h .hr) }
 
-  module _ {e : Bool} {g : List ℕ} {t : ℕ} (s : Gathered p e x n y m r g) (c : Reach (n + m) 0 t) where
-    pub mix-settle : SettleIn p mul lim g t
+  module _ {e : Bool} {g : List ℕ} {t : ℕ} (s : Gathered (M .p) e x n y m r g) (c : Reach (n + m) 0 t) where
+    pub mix-settle : SettleIn M g t
     mix-settle = record {
       modulus = h .modulus;
-      ready = h .ready;
       size = s .loose .size;
       fits = c .fits;
-      below = λ i u. let l : n + m ≤ t + 1 = c .past-a in let q : getD g i 0 ≡ getD r i 0 = s .above i (omega arith) in let b : getD r i 0 < p = h .hr .each i in omega arith;
+      below = λ i u. let l : n + m ≤ t + 1 = c .past-a in let q : getD g i 0 ≡ getD r i 0 = s .above i (omega arith) in let b : getD r i 0 < M .p = h .hr .each i in omega arith;
     }
 
-    pub mixed : {o : List ℕ} → Settled p g o → Mixed p e x n y m r o
+    pub mixed : {o : List ℕ} → Settled (M .p) g o → Mixed (M .p) e x n y m r o
     mixed {o} w = record {
       is-row = w .is-row;
       law = λ pr. w .law pr ∙ s .law pr;
-      above = λ i u. w .each i ∙ ap (λ a. a % p) (s .above i u) ∙ mod-eq-of-lt (h .hr .each i);
+      above = λ i u. w .each i ∙ ap (λ a. a % M .p) (s .above i u) ∙ mod-eq-of-lt (h .hr .each i);
     }
 
 -- ---- r ± x y ± z v
-module _ {p mul lim : ℕ} {x : List ℕ} {nx : ℕ} {y : List ℕ} {ny : ℕ} {z : List ℕ} {nz : ℕ} {v : List ℕ} {nv : ℕ} {r : List ℕ} {l : ℕ} (h : BothIn p mul lim x nx y ny z nz v nv r l) where
-  pub both-first : GatherIn p x nx y ny r
-  both-first = record { modulus = h .modulus; hx = h .hx; hy = h .hy; cx = h .cx; cy = h .cy; fits = h .left; loose = loose-row (h .modulus .small) (h .hr) }
+module _ {M : Modulus} {x : List ℕ} {nx : ℕ} {y : List ℕ} {ny : ℕ} {z : List ℕ} {nz : ℕ} {v : List ℕ} {nv : ℕ} {r : List ℕ} {l : ℕ} (h : BothIn M x nx y ny z nz v nv r l) where
+  pub both-first : GatherIn (M .p) x nx y ny r
+  both-first = record { modulus = bare (h .modulus); hx = h .hx; hy = h .hy; cx = h .cx; cy = h .cy; fits = h .left; loose = loose-row (h .modulus .small) (h .hr) }
 
-  module _ {e : Bool} {g : List ℕ} (s : Gathered p e x nx y ny r g) where
-    pub both-second : GatherIn p z nz v nv g
-    both-second = record { modulus = h .modulus; hx = h .hz; hy = h .hv; cx = h .cz; cy = h .cv; fits = h .right; loose = s .loose }
+  module _ {e : Bool} {g : List ℕ} (s : Gathered (M .p) e x nx y ny r g) where
+    pub both-second : GatherIn (M .p) z nz v nv g
+    both-second = record { modulus = bare (h .modulus); hx = h .hz; hy = h .hv; cx = h .cz; cy = h .cv; fits = h .right; loose = s .loose }
 
-    module _ {f : Bool} {w : List ℕ} {a t : ℕ} (u : Gathered p f z nz v nv g w) (b : Reach (nx + ny) (nz + nv) a) (c : Reach (a + 1) (l + 1) t) where
+    module _ {f : Bool} {w : List ℕ} {a t : ℕ} (u : Gathered (M .p) f z nz v nv g w) (b : Reach (nx + ny) (nz + nv) a) (c : Reach (a + 1) (l + 1) t) where
       none : (i : ℕ) → t ≤ i → getD w i 0 ≡ 0
       none i k =
           let b1 : nx + ny ≤ a + 1 = b .past-a in
@@ -69,23 +70,22 @@ module _ {p mul lim : ℕ} {x : List ℕ} {nx : ℕ} {y : List ℕ} {ny : ℕ} {
           let c2 : l + 1 ≤ t + 1 = c .past-b in
           u .above i (omega arith) ∙ s .above i (omega arith) ∙ h .cr .above i (omega arith)
 
-      pub both-settle : SettleIn p mul lim w t
+      pub both-settle : SettleIn M w t
       both-settle = record {
         modulus = h .modulus;
-        ready = h .ready;
         size = u .loose .size;
         fits = c .fits;
-        below = λ i k. let q : getD w i 0 ≡ 0 = none i k in let d : 1 < p = h .modulus .big in omega arith;
+        below = λ i k. let q : getD w i 0 ≡ 0 = none i k in let d : 1 < M .p = h .modulus .big in omega arith;
       }
 
-      module _ {o : List ℕ} (d : Settled p w o) where
+      module _ {o : List ℕ} (d : Settled (M .p) w o) where
         pub both-cut : Cut o t
-        both-cut = record { size = d .is-row .size; fits = c .fits; above = λ i k. d .each i ∙ ap (λ q. q % p) (none i k) ∙ zero-mod p }
+        both-cut = record { size = d .is-row .size; fits = c .fits; above = λ i k. d .each i ∙ ap (λ q. q % M .p) (none i k) ∙ zero-mod (M .p) }
 
-        pub both-made : {n : ℕ} → Size o n → BothOut p e x y f z v r o n
+        pub both-made : {n : ℕ} → Size o n → BothOut (M .p) e x y f z v r o n
         both-made k = record {
           is-row = d .is-row;
-          law = λ pr. let ρ = reading p pr in let o = ρ .𝓥 .L .ops in
+          law = λ pr. let ρ = reading (M .p) pr in let o = ρ .𝓥 .L .ops in
               d .law pr ∙ u .law pr ∙ ap (λ q. o .add q (signOf o f (o .mul (row ρ z) (row ρ v)))) (s .law pr);
           size = k;
         }
@@ -97,16 +97,16 @@ zeros-to b e = subst (Row _) (sym e) (zeros-row _ b)
 zeros-none : {p : ℕ} {r : List ℕ} (ρ : Reading p) → r ≡ replicate 32 0 → row ρ r ≡ ρ .𝓥 .L .ops .𝟎
 zeros-none ρ e = ap (row ρ) e ∙ zero-row ρ (replicate 32 0) zeros-size
 
-module _ {p mul lim : ℕ} {x : List ℕ} {n : ℕ} {y : List ℕ} {m : ℕ} {r : List ℕ} (h : TimesBy p mul lim x n y m r) where
-  pub times-first : MixIn p mul lim x n y m r
-  times-first = record { modulus = h .modulus; ready = h .ready; hx = h .hx; hy = h .hy; sx = h .sx; sy = h .sy; fits = h .fits; hr = zeros-to (h .modulus .big) (h .blank) }
+module _ {M : Modulus} {x : List ℕ} {n : ℕ} {y : List ℕ} {m : ℕ} {r : List ℕ} (h : TimesBy M x n y m r) where
+  pub times-first : MixIn M x n y m r
+  times-first = record { modulus = h .modulus; hx = h .hx; hy = h .hy; sx = h .sx; sy = h .sy; fits = h .fits; hr = zeros-to (h .modulus .big) (h .blank) }
 
-  module _ {o : List ℕ} (g : Mixed p false x n y m r o) where
-    pub times-product : Product p x y o
+  module _ {o : List ℕ} (g : Mixed (M .p) false x n y m r o) where
+    pub times-product : Product (M .p) x y o
     times-product = record {
       is-row = g .is-row;
-      law = λ pr. let R = reading p pr .𝓥 .L in
-          g .law pr ∙ ap (λ a. R .ops .add a (R .ops .mul (row (reading p pr) x) (row (reading p pr) y))) (zeros-none (reading p pr) (h .blank)) ∙ laws.zero-add′ R _;
+      law = λ pr. let R = reading (M .p) pr .𝓥 .L in
+          g .law pr ∙ ap (λ a. R .ops .add a (R .ops .mul (row (reading (M .p) pr) x) (row (reading (M .p) pr) y))) (zeros-none (reading (M .p) pr) (h .blank)) ∙ laws.zero-add′ R _;
     }
 
     pub times-cut : (t : ℕ) → Reach (n + m) 0 t → Cut o t
@@ -116,11 +116,10 @@ module _ {p mul lim : ℕ} {x : List ℕ} {n : ℕ} {y : List ℕ} {m : ℕ} {r 
       above = λ i u. let l : n + m ≤ t + 1 = c .past-a in g .above i (omega arith) ∙ ap (λ a. getD a i 0) (h .blank) ∙ zeros-at 32 i;
     }
 
-module _ {p mul lim : ℕ} {x : List ℕ} {nx : ℕ} {y : List ℕ} {ny : ℕ} {z : List ℕ} {nz : ℕ} {v : List ℕ} {nv : ℕ} {r : List ℕ} (h : DetBy p mul lim x nx y ny z nz v nv r) where
-  pub det-both : BothIn p mul lim x nx y ny z nz v nv r 0
+module _ {M : Modulus} {x : List ℕ} {nx : ℕ} {y : List ℕ} {ny : ℕ} {z : List ℕ} {nz : ℕ} {v : List ℕ} {nv : ℕ} {r : List ℕ} (h : DetBy M x nx y ny z nz v nv r) where
+  pub det-both : BothIn M x nx y ny z nz v nv r 0
   det-both = record {
     modulus = h .modulus;
-    ready = h .ready;
     hx = h .hx;
     hy = h .hy;
     hz = h .hz;
@@ -135,10 +134,10 @@ module _ {p mul lim : ℕ} {x : List ℕ} {nx : ℕ} {y : List ℕ} {ny : ℕ} {
     cr = record { size = ap length (h .blank); fits = omega arith; above = λ i u. ap (λ a. getD a i 0) (h .blank) ∙ zeros-at 32 i };
   }
 
-  pub det-made : {o : List ℕ} {l : ℕ} → BothOut p false x y true z v r o l → DetOut p x y z v o l
+  pub det-made : {o : List ℕ} {l : ℕ} → BothOut (M .p) false x y true z v r o l → DetOut (M .p) x y z v o l
   det-made g = record {
     is-row = g .is-row;
-    law = λ pr. let R = reading p pr .𝓥 .L in let ρ = reading p pr in
+    law = λ pr. let R = reading (M .p) pr .𝓥 .L in let ρ = reading (M .p) pr in
         g .law pr ∙ ap (λ a. R .ops .add a (R .ops .neg (R .ops .mul (row ρ z) (row ρ v)))) (ap (λ a. R .ops .add a (R .ops .mul (row ρ x) (row ρ y))) (zeros-none ρ (h .blank)) ∙ laws.zero-add′ R _);
     size = g .size;
   }

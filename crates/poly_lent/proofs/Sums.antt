@@ -23,7 +23,8 @@ use Rattle.math_rows.specs.Made.{reading}
 use Rattle.math_rows.specs.Row.{Row, row, coefs, tpow, psum}
 use Rattle.math_rows.proofs.Rows.{const-neg, psum-ext, row-32, row-upto, tpow-add}
 use Rattle.math_rows.proofs.Unique.{same-cast}
-use Rattle.poly_rows.specs.Terms.{More}
+use Rattle.num_mod.specs.Prepared.{Added}
+use Rattle.num_mod.specs.declared.Modulus.{Modulus}
 use Rattle.poly_lent.specs.Sized.{signOf}
 use Rattle.poly_lent.specs.Sums.{Loose, Signed, LayIn, Laid, GatherIn, Gathered, SettleIn, Settled}
 
@@ -92,7 +93,7 @@ module _ {p v : ℕ} {y : List ℕ} {m i : ℕ} {acc : List ℕ} (h : LayIn p v 
     above = λ k u. refl;
   }
 
-  pub laying-turn : {o : List ℕ} {j : ℕ} (a : ℕ) → Laying p v y m i acc o j → j < m → More p (getD o (N._+_ i j) 0) v (getD y j 0) a → Laying p v y m i acc (set o (N._+_ i j) a) (N._+_ j 1)
+  pub laying-turn : {o : List ℕ} {j : ℕ} (a : ℕ) → Laying p v y m i acc o j → j < m → Added p (getD o (N._+_ i j) 0) v (getD y j 0) a → Laying p v y m i acc (set o (N._+_ i j) a) (N._+_ j 1)
   laying-turn {o} {j} a g l w = record {
     loose = loose-set (N._+_ i j) a (g .loose) inside (w .low);
     law = λ pr. let ρ = reading p pr in let K = ρ .𝓥 .K .ops in let k = ρ .𝓥 .L .ops in let c = ρ .𝓥 .const in let s = getD o (N._+_ i j) 0 in
@@ -190,13 +191,13 @@ over-more n f r₀ r k v h l e = record {
     at j u (yes z) = ap (λ m. getD (set r k v) m 0) z ∙ getD-set-same r k v 0 (let s : length r ≡ n = h .size in omega arith) ∙ e ∙ ap f (sym z)
     at j u (no z) = getD-set-other r k j v 0 z ∙ h .done j (omega arith)
 
-pub settled : {p mul lim : ℕ} {acc : List ℕ} {t : ℕ} {o : List ℕ} (k : ℕ) → SettleIn p mul lim acc t → t ≤ k → Over 32 (λ j. getD acc j 0 % p) acc o k → Settled p acc o
-settled {p} {mul} {lim} {acc} {t} {o} k h e g = record {
-  is-row = record { size = g .size; each = λ i. let b : 1 < p = h .modulus .big in let q : getD o i 0 ≡ getD acc i 0 % p = at i in let w : getD acc i 0 % p < p = mod-lt (getD acc i 0) (omega arith) in omega arith };
-  law = λ pr. let ρ = reading p pr in
+pub settled : {q : Modulus} {acc : List ℕ} {t : ℕ} {o : List ℕ} (k : ℕ) → SettleIn q acc t → t ≤ k → Over 32 (λ j. getD acc j 0 % q .p) acc o k → Settled (q .p) acc o
+settled {q} {acc} {t} {o} k h e g = record {
+  is-row = record { size = g .size; each = λ i. let b : 1 < q .p = h .modulus .big in let u : getD o i 0 ≡ getD acc i 0 % q .p = at i in let w : getD acc i 0 % q .p < q .p = mod-lt (getD acc i 0) (omega arith) in omega arith };
+  law = λ pr. let ρ = reading (q .p) pr in
       row-32 ρ o (g .size) ∙ psum-ext ρ 32 (coefs ρ o) (coefs ρ acc) (λ i u. ap (ρ .cast) (at i) ∙ ρ .cast-mod (getD acc i 0)) ∙ sym (row-32 ρ acc (h .size));
   each = at;
 }
   where
-    at : (i : ℕ) → getD o i 0 ≡ getD acc i 0 % p
+    at : (i : ℕ) → getD o i 0 ≡ getD acc i 0 % q .p
     at i = elim (decLt i k) [ yes l ↦ g .done i l | no l ↦ g .rest i (omega arith) ∙ sym (mod-eq-of-lt (h .below i (omega arith))) ]

@@ -15,27 +15,27 @@ use lib.ListN.{getD, replicate}
 use Rattle.math_ring.specs.Ring.{Ops, CRing}
 use Rattle.math_fp.specs.Fp.{Prime}
 use Rattle.math_valued.specs.Val.{Valued}
-use Rattle.num_residue.specs.Residue.{Modulus}
+use Rattle.num_mod.specs.Residue.{IsModulus}
 use Rattle.math_rows.specs.Reading.{Reading}
 use Rattle.math_rows.specs.Made.{reading}
 use Rattle.math_rows.specs.Row.{Row, Size, row}
 use Rattle.poly_rows.specs.Leaf.{Cut, Product}
-use Rattle.poly_rows.specs.Terms.{Ready}
+use Rattle.num_mod.specs.Prepared.{Prepared}
+use Rattle.num_mod.specs.declared.Modulus.{Modulus}
 use Rattle.poly_rows.specs.Division.{DivIn, Quotient, Exact, Divided}
 
 abbrev pub signOf : {A : Type 0} → Ops A → Bool → A → A
 signOf o true z = o .neg z
 signOf o false z = z
 
-pub record MixIn (p mul lim : ℕ) (x : List ℕ) (n : ℕ) (y : List ℕ) (m : ℕ) (r : List ℕ) : Type 0 where
-  pub modulus : Modulus p
-  pub ready : Ready p mul lim
-  pub hx : Row p x
-  pub hy : Row p y
+pub record MixIn (q : Modulus) (x : List ℕ) (n : ℕ) (y : List ℕ) (m : ℕ) (r : List ℕ) : Type 0 where
+  pub modulus : Prepared q
+  pub hx : Row (q .p) x
+  pub hy : Row (q .p) y
   pub sx : Size x n
   pub sy : Size y m
   pub fits : n + m ≤ 33
-  pub hr : Row p r
+  pub hr : Row (q .p) r
 
 pub record Mixed (p : ℕ) (e : Bool) (x : List ℕ) (n : ℕ) (y : List ℕ) (m : ℕ) (r o : List ℕ) : Type 0 where
   pub is-row : Row p o
@@ -43,20 +43,19 @@ pub record Mixed (p : ℕ) (e : Bool) (x : List ℕ) (n : ℕ) (y : List ℕ) (m
       row ρ o ≡ k .add (row ρ r) (signOf k e (k .mul (row ρ x) (row ρ y)))
   pub above : (i : ℕ) → n + m ≤ i + 1 → getD o i 0 ≡ getD r i 0
 
-pub record BothIn (p mul lim : ℕ) (x : List ℕ) (nx : ℕ) (y : List ℕ) (ny : ℕ) (z : List ℕ) (nz : ℕ) (v : List ℕ) (nv : ℕ) (r : List ℕ) (l : ℕ) : Type 0 where
-  pub modulus : Modulus p
-  pub ready : Ready p mul lim
-  pub hx : Row p x
-  pub hy : Row p y
-  pub hz : Row p z
-  pub hv : Row p v
+pub record BothIn (q : Modulus) (x : List ℕ) (nx : ℕ) (y : List ℕ) (ny : ℕ) (z : List ℕ) (nz : ℕ) (v : List ℕ) (nv : ℕ) (r : List ℕ) (l : ℕ) : Type 0 where
+  pub modulus : Prepared q
+  pub hx : Row (q .p) x
+  pub hy : Row (q .p) y
+  pub hz : Row (q .p) z
+  pub hv : Row (q .p) v
   pub cx : Cut x nx
   pub cy : Cut y ny
   pub cz : Cut z nz
   pub cv : Cut v nv
   pub left : nx + ny ≤ 33
   pub right : nz + nv ≤ 33
-  pub hr : Row p r
+  pub hr : Row (q .p) r
   pub cr : Cut r l
 
 pub record BothOut (p : ℕ) (e : Bool) (x y : List ℕ) (f : Bool) (z v r o : List ℕ) (l : ℕ) : Type 0 where
@@ -65,11 +64,10 @@ pub record BothOut (p : ℕ) (e : Bool) (x y : List ℕ) (f : Bool) (z v r o : L
       row ρ o ≡ k .add (k .add (row ρ r) (signOf k e (k .mul (row ρ x) (row ρ y)))) (signOf k f (k .mul (row ρ z) (row ρ v)))
   pub size : Size o l
 
-pub record TimesBy (p mul lim : ℕ) (x : List ℕ) (n : ℕ) (y : List ℕ) (m : ℕ) (r : List ℕ) : Type 0 where
-  pub modulus : Modulus p
-  pub ready : Ready p mul lim
-  pub hx : Row p x
-  pub hy : Row p y
+pub record TimesBy (q : Modulus) (x : List ℕ) (n : ℕ) (y : List ℕ) (m : ℕ) (r : List ℕ) : Type 0 where
+  pub modulus : Prepared q
+  pub hx : Row (q .p) x
+  pub hy : Row (q .p) y
   pub sx : Size x n
   pub sy : Size y m
   pub fits : n + m ≤ 33
@@ -79,13 +77,12 @@ pub record TimesOut (p : ℕ) (x y o : List ℕ) (l : ℕ) : Type 0 where
   pub product : Product p x y o
   pub size : Size o l
 
-pub record DetBy (p mul lim : ℕ) (x : List ℕ) (nx : ℕ) (y : List ℕ) (ny : ℕ) (z : List ℕ) (nz : ℕ) (v : List ℕ) (nv : ℕ) (r : List ℕ) : Type 0 where
-  pub modulus : Modulus p
-  pub ready : Ready p mul lim
-  pub hx : Row p x
-  pub hy : Row p y
-  pub hz : Row p z
-  pub hv : Row p v
+pub record DetBy (q : Modulus) (x : List ℕ) (nx : ℕ) (y : List ℕ) (ny : ℕ) (z : List ℕ) (nz : ℕ) (v : List ℕ) (nv : ℕ) (r : List ℕ) : Type 0 where
+  pub modulus : Prepared q
+  pub hx : Row (q .p) x
+  pub hy : Row (q .p) y
+  pub hz : Row (q .p) z
+  pub hv : Row (q .p) v
   pub sx : Size x nx
   pub sy : Size y ny
   pub sz : Size z nz
@@ -100,9 +97,9 @@ pub record DetOut (p : ℕ) (x y z v o : List ℕ) (l : ℕ) : Type 0 where
       row ρ o ≡ k .add (k .mul (row ρ x) (row ρ y)) (k .neg (k .mul (row ρ z) (row ρ v)))
   pub size : Size o l
 
-pub record QuotientBy (p mul lim : ℕ) (a : List ℕ) (n : ℕ) (b : List ℕ) (m il : ℕ) (r : List ℕ) : Type 0 where
-  pub inp : DivIn p a b il
-  pub ready : Ready p mul lim
+pub record QuotientBy (q : Modulus) (a : List ℕ) (n : ℕ) (b : List ℕ) (m il : ℕ) (r : List ℕ) : Type 0 where
+  pub inp : DivIn (q .p) a b il
+  pub modulus : Prepared q
   pub sa : Size a n
   pub sb : Size b m
   pub blank : r ≡ replicate 32 0

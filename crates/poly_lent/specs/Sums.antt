@@ -13,12 +13,13 @@ use lib.ListN.{length, getD}
 use Rattle.math_ring.specs.Ring.{Ops, CRing}
 use Rattle.math_fp.specs.Fp.{Prime}
 use Rattle.math_valued.specs.Val.{Valued}
-use Rattle.num_residue.specs.Residue.{Modulus}
+use Rattle.num_mod.specs.Residue.{IsModulus}
 use Rattle.math_rows.specs.Reading.{Reading}
 use Rattle.math_rows.specs.Made.{reading}
 use Rattle.math_rows.specs.Row.{Row, row, tpow}
 use Rattle.poly_rows.specs.Leaf.{Cut}
-use Rattle.poly_rows.specs.Terms.{Ready}
+use Rattle.num_mod.specs.Prepared.{Prepared}
+use Rattle.num_mod.specs.declared.Modulus.{Modulus}
 use Rattle.poly_lent.specs.Sized.{signOf}
 
 pub record Loose (l : List ℕ) : Type 0 where
@@ -26,7 +27,7 @@ pub record Loose (l : List ℕ) : Type 0 where
   pub low : (i : ℕ) → getD l i 0 < 9223372036854775808
 
 pub record SignIn (p v : ℕ) : Type 0 where
-  pub modulus : Modulus p
+  pub modulus : IsModulus p
   pub below : v < p
 
 pub record Signed (p : ℕ) (e : Bool) (v r : ℕ) : Type 0 where
@@ -34,7 +35,7 @@ pub record Signed (p : ℕ) (e : Bool) (v r : ℕ) : Type 0 where
   pub law : (pr : Prime p) → let ρ = reading p pr in ρ .cast r ≡ signOf (ρ .𝓥 .K .ops) e (ρ .cast v)
 
 pub record LayIn (p v : ℕ) (y : List ℕ) (m i : ℕ) (acc : List ℕ) : Type 0 where
-  pub modulus : Modulus p
+  pub modulus : IsModulus p
   pub hv : v < p
   pub hy : Row p y
   pub cy : Cut y m
@@ -48,7 +49,7 @@ pub record Laid (p v : ℕ) (y : List ℕ) (m i : ℕ) (acc o : List ℕ) : Type
   pub above : (k : ℕ) → i + m ≤ k → getD o k 0 ≡ getD acc k 0
 
 pub record GatherIn (p : ℕ) (x : List ℕ) (n : ℕ) (y : List ℕ) (m : ℕ) (acc : List ℕ) : Type 0 where
-  pub modulus : Modulus p
+  pub modulus : IsModulus p
   pub hx : Row p x
   pub hy : Row p y
   pub cx : Cut x n
@@ -62,12 +63,11 @@ pub record Gathered (p : ℕ) (e : Bool) (x : List ℕ) (n : ℕ) (y : List ℕ)
       row ρ o ≡ k .add (row ρ acc) (signOf k e (k .mul (row ρ x) (row ρ y)))
   pub above : (k : ℕ) → n + m ≤ k + 1 → getD o k 0 ≡ getD acc k 0
 
-pub record SettleIn (p mul lim : ℕ) (acc : List ℕ) (t : ℕ) : Type 0 where
-  pub modulus : Modulus p
-  pub ready : Ready p mul lim
+pub record SettleIn (q : Modulus) (acc : List ℕ) (t : ℕ) : Type 0 where
+  pub modulus : Prepared q
   pub size : length acc ≡ 32
   pub fits : t ≤ 32
-  pub below : (i : ℕ) → t ≤ i → getD acc i 0 < p
+  pub below : (i : ℕ) → t ≤ i → getD acc i 0 < (q .p)
 
 pub record Settled (p : ℕ) (acc o : List ℕ) : Type 0 where
   pub is-row : Row p o

@@ -1,10 +1,10 @@
 // Products and quotients of rows whose trimmed lengths are known, into lent rows. specs/Sized.antt has the contracts, specs/Sums.antt
 // those of the inner functions: products are gathered in 64 bits, row by row, and each coefficient is reduced once at the end.
-use poly_rows::Rapid;
-use poly_rows::digit;
-use poly_rows::more;
-use poly_rows::once;
-use poly_rows::rest;
+use num_mod::Modulus;
+use num_mod::add_product;
+use num_mod::reduce;
+use num_mod::reduce_once;
+use poly_rows::quotient_coefficient;
 use poly_rows::size;
 use poly_rows::size_from;
 ghost use mathlib.Core.Path.{_≡_};
@@ -16,7 +16,7 @@ fn signed(p: u64, minus: bool, v: u64) -> u64
     requires { ⌜ SignIn p v ⌝ }
     ensures { λ r. ⌜ Signed p minus v r ⌝ }
 {
-    if minus { once(p, p - v) } else { v }
+    if minus { reduce_once(p, p - v) } else { v }
 }
 
 // acc + v t^i y up to multiples of p, in place of acc; y ends before m.
@@ -26,7 +26,7 @@ fn laid(p: u64, v: u64, y: &[u64; 32], m: usize, i: usize, acc: &mut [u64; 32])
 {
     let mut j: usize = 0;
     while j < m {
-        let a = more(p, acc[i + j], v, y[j]);
+        let a = add_product(p, acc[i + j], v, y[j]);
         acc[i + j] = a;
         j += 1;
     }
@@ -54,13 +54,13 @@ fn gather(
 }
 
 // Each coefficient mod p, in place; those from t on are below p as they are.
-fn settle(p: u64, q: Rapid, acc: &mut [u64; 32], t: usize)
-    requires { ⌜ SettleIn p (q .m) (q .lim) (now acc) t ⌝ }
-    ensures { λ _. ⌜ Settled p (now (acc .entry)) (now (acc .exit)) ⌝ }
+fn settle(q: Modulus, acc: &mut [u64; 32], t: usize)
+    requires { ⌜ SettleIn q (now acc) t ⌝ }
+    ensures { λ _. ⌜ Settled (q .p) (now (acc .entry)) (now (acc .exit)) ⌝ }
 {
     let mut k: usize = 0;
     while k < t {
-        let v = rest(p, q, acc[k]);
+        let v = reduce(q, acc[k]);
         acc[k] = v;
         k += 1;
     }
@@ -77,8 +77,7 @@ fn reach(a: usize, b: usize) -> usize
 
 // r + x y, or r - x y, in place of r; n and m are the lengths of x and y.
 pub fn mix_in(
-    p: u64,
-    q: Rapid,
+    q: Modulus,
     minus: bool,
     x: &[u64; 32],
     n: usize,
@@ -86,18 +85,17 @@ pub fn mix_in(
     m: usize,
     r: &mut [u64; 32],
 )
-    requires { ⌜ MixIn p (q .m) (q .lim) (now x) n (now y) m (now r) ⌝ }
-    ensures { λ _. ⌜ Mixed p minus (now (x .entry)) n (now (y .entry)) m (now (r .entry)) (now (r .exit)) ⌝ }
+    requires { ⌜ MixIn q (now x) n (now y) m (now r) ⌝ }
+    ensures { λ _. ⌜ Mixed (q .p) minus (now (x .entry)) n (now (y .entry)) m (now (r .entry)) (now (r .exit)) ⌝ }
 {
-    gather(p, minus, x, n, y, m, r);
+    gather(q.p, minus, x, n, y, m, r);
     let t = reach(n + m, 0);
-    settle(p, q, r, t);
+    settle(q, r, t);
 }
 
 // r ± x y ± z v in place of r, and its length: x y is taken off where minus is true, z v where less is. r ends before l.
 pub fn both_in(
-    p: u64,
-    q: Rapid,
+    q: Modulus,
     minus: bool,
     x: &[u64; 32],
     nx: usize,
@@ -111,39 +109,37 @@ pub fn both_in(
     r: &mut [u64; 32],
     l: usize,
 ) -> usize
-    requires { ⌜ BothIn p (q .m) (q .lim) (now x) nx (now y) ny (now z) nz (now v) nv (now r) l ⌝ }
-    ensures { λ n. ⌜ BothOut p minus (now (x .entry)) (now (y .entry)) less (now (z .entry)) (now (v .entry)) (now (r .entry)) (now (r .exit)) n ⌝ }
+    requires { ⌜ BothIn q (now x) nx (now y) ny (now z) nz (now v) nv (now r) l ⌝ }
+    ensures { λ n. ⌜ BothOut (q .p) minus (now (x .entry)) (now (y .entry)) less (now (z .entry)) (now (v .entry)) (now (r .entry)) (now (r .exit)) n ⌝ }
 {
-    gather(p, minus, x, nx, y, ny, r);
-    gather(p, less, z, nz, v, nv, r);
+    gather(q.p, minus, x, nx, y, ny, r);
+    gather(q.p, less, z, nz, v, nv, r);
     let s = reach(nx + ny, nz + nv);
     let t = reach(s + 1, l + 1);
-    settle(p, q, r, t);
+    settle(q, r, t);
     size_from(r, t)
 }
 
 // x y into the zero row r; its length.
 pub fn times_in(
-    p: u64,
-    q: Rapid,
+    q: Modulus,
     x: &[u64; 32],
     n: usize,
     y: &[u64; 32],
     m: usize,
     r: &mut [u64; 32],
 ) -> usize
-    requires { ⌜ TimesBy p (q .m) (q .lim) (now x) n (now y) m (now r) ⌝ }
-    ensures { λ l. ⌜ TimesOut p (now (x .entry)) (now (y .entry)) (now (r .exit)) l ⌝ }
+    requires { ⌜ TimesBy q (now x) n (now y) m (now r) ⌝ }
+    ensures { λ l. ⌜ TimesOut (q .p) (now (x .entry)) (now (y .entry)) (now (r .exit)) l ⌝ }
 {
-    mix_in(p, q, false, x, n, y, m, r);
+    mix_in(q, false, x, n, y, m, r);
     let t = reach(n + m, 0);
     size_from(r, t)
 }
 
 // x y - z v into the zero row r; its length.
 pub fn det_in(
-    p: u64,
-    q: Rapid,
+    q: Modulus,
     x: &[u64; 32],
     nx: usize,
     y: &[u64; 32],
@@ -154,16 +150,15 @@ pub fn det_in(
     nv: usize,
     r: &mut [u64; 32],
 ) -> usize
-    requires { ⌜ DetBy p (q .m) (q .lim) (now x) nx (now y) ny (now z) nz (now v) nv (now r) ⌝ }
-    ensures { λ l. ⌜ DetOut p (now (x .entry)) (now (y .entry)) (now (z .entry)) (now (v .entry)) (now (r .exit)) l ⌝ }
+    requires { ⌜ DetBy q (now x) nx (now y) ny (now z) nz (now v) nv (now r) ⌝ }
+    ensures { λ l. ⌜ DetOut (q .p) (now (x .entry)) (now (y .entry)) (now (z .entry)) (now (v .entry)) (now (r .exit)) l ⌝ }
 {
-    both_in(p, q, false, x, nx, y, ny, true, z, nz, v, nv, r, 0)
+    both_in(q, false, x, nx, y, ny, true, z, nz, v, nv, r, 0)
 }
 
 // The quotient of a by b from the top into the zero row r, and its length; il is the inverse of b's leading coefficient.
 pub fn quotient_in(
-    p: u64,
-    q: Rapid,
+    q: Modulus,
     a: &[u64; 32],
     n: usize,
     b: &[u64; 32],
@@ -171,14 +166,14 @@ pub fn quotient_in(
     il: u64,
     r: &mut [u64; 32],
 ) -> usize
-    requires { ⌜ QuotientBy p (q .m) (q .lim) (now a) n (now b) m il (now r) ⌝ }
-    ensures { λ l. ⌜ QuotientOut p (now (a .entry)) (now (b .entry)) (now (r .exit)) l ⌝ }
+    requires { ⌜ QuotientBy q (now a) n (now b) m il (now r) ⌝ }
+    ensures { λ l. ⌜ QuotientOut (q .p) (now (a .entry)) (now (b .entry)) (now (r .exit)) l ⌝ }
 {
     let top = if n < m { 0 } else { n + 1 - m };
     let mut k = top;
     while k > 0 {
         k -= 1;
-        let v = digit(p, q, a, r, b, m, il, top, k);
+        let v = quotient_coefficient(q, a, r, b, m, il, top, k);
         r[k] = v;
     }
     size_from(r, top)
@@ -186,18 +181,17 @@ pub fn quotient_in(
 
 // r - x y in place of r, and its length; n and m are the lengths of x and y.
 pub fn less_in(
-    p: u64,
-    q: Rapid,
+    q: Modulus,
     x: &[u64; 32],
     n: usize,
     y: &[u64; 32],
     m: usize,
     r: &mut [u64; 32],
 ) -> usize
-    requires { ⌜ MixIn p (q .m) (q .lim) (now x) n (now y) m (now r) ⌝ }
-    ensures { λ l. ⌜ LessOut p (now (x .entry)) (now (y .entry)) (now (r .entry)) (now (r .exit)) l ⌝ }
+    requires { ⌜ MixIn q (now x) n (now y) m (now r) ⌝ }
+    ensures { λ l. ⌜ LessOut (q .p) (now (x .entry)) (now (y .entry)) (now (r .entry)) (now (r .exit)) l ⌝ }
 {
-    mix_in(p, q, true, x, n, y, m, r);
+    mix_in(q, true, x, n, y, m, r);
     size(r)
 }
 
@@ -209,8 +203,7 @@ pub struct Halves {
 
 // The quotient of a by b into the zero row r, and the remainder in place of a, with their lengths.
 pub fn divide_in(
-    p: u64,
-    q: Rapid,
+    q: Modulus,
     a: &mut [u64; 32],
     n: usize,
     b: &[u64; 32],
@@ -218,10 +211,10 @@ pub fn divide_in(
     il: u64,
     r: &mut [u64; 32],
 ) -> Halves
-    requires { ⌜ QuotientBy p (q .m) (q .lim) (now a) n (now b) m il (now r) ⌝ }
-    ensures { λ o. ⌜ DivideOut p (now (a .entry)) (now (b .entry)) (now (r .exit)) (now (a .exit)) (o .q) (o .r) ⌝ }
+    requires { ⌜ QuotientBy q (now a) n (now b) m il (now r) ⌝ }
+    ensures { λ o. ⌜ DivideOut (q .p) (now (a .entry)) (now (b .entry)) (now (r .exit)) (now (a .exit)) (o .q) (o .r) ⌝ }
 {
-    let l = quotient_in(p, q, a, n, b, m, il, r);
-    let k = less_in(p, q, r, l, b, m, a);
+    let l = quotient_in(q, a, n, b, m, il, r);
+    let k = less_in(q, r, l, b, m, a);
     Halves { q: l, r: k }
 }

@@ -21,24 +21,25 @@ use Rattle.math_rows.proofs.Floors.{sized}
 use Rattle.math_rows.proofs.Product.{sum-none, sum-skip}
 use Rattle.math_rows.proofs.Quotient.{Agree, agree-more, agree-end, exact-law, division-unique}
 use Rattle.math_rows.proofs.Unique.{row-unique}
-use Rattle.poly_rows.specs.Terms.{Ready}
+use Rattle.num_mod.specs.Prepared.{Prepared}
+use Rattle.num_mod.specs.declared.Modulus.{Modulus}
 use Rattle.poly_rows.specs.Division.{DivIn, Quotient, Exact, Divided, DigitIn, Digit}
 use Rattle.poly_rows.proofs.Leaf.{size-one, zeros-row}
-use Rattle.poly_rows.proofs.Terms.{term-past}
+use Rattle.poly_rows.proofs.Coefficients.{term-past}
 
 -- the terms of a product where q is 0
 term-zero : (q b : List ℕ) (k i : ℕ) → getD q i 0 ≡ 0 → termAt q b k i ≡ 0
 term-zero q b k i z = ap (λ x. x * shiftAt b i k) z ∙ zero-mul (shiftAt b i k)
 
 -- the run of terms that the code adds is the whole sum
-pub digit-sum : (p mul lim : ℕ) (a q b : List ℕ) (m il top k to r : ℕ) → DigitIn p mul lim a q b m il top k → to ≤ 32 → min (k + (m - 1) + 1) top ≤ to
-    → (sumTo (termAt q b (k + (m - 1))) (k + 1) + r) % p ≡ sumTo (termAt q b (k + (m - 1))) to % p → r % p ≡ sumTo (termAt q b (k + (m - 1))) 32 % p
-digit-sum p mul lim a q b m il top k to r h l u g =
+pub digit-sum : (s : Modulus) (a q b : List ℕ) (m il top k to r : ℕ) → DigitIn s a q b m il top k → to ≤ 32 → min (k + (m - 1) + 1) top ≤ to
+    → (sumTo (termAt q b (k + (m - 1))) (k + 1) + r) % s .p ≡ sumTo (termAt q b (k + (m - 1))) to % s .p → r % s .p ≡ sumTo (termAt q b (k + (m - 1))) 32 % s .p
+digit-sum s a q b m il top k to r h l u g =
     let f = termAt q b (k + (m - 1)) in
     let e : sumTo f (k + 1) ≡ 0 = sum-none f (k + 1) (λ i w. term-zero q b (k + (m - 1)) i (h .low i (omega arith))) in
-    ap (λ z. z % p) (let o : r ≡ sumTo f (k + 1) + r = omega arith in o)
+    ap (λ z. z % s .p) (let o : r ≡ sumTo f (k + 1) + r = omega arith in o)
     ∙ g
-    ∙ ap (λ z. z % p) (sym (sum-skip f to 32 l (λ i v w. elim (decLt (k + (m - 1)) i) [ yes o ↦ term-past q b (k + (m - 1)) i o | no o ↦ term-zero q b (k + (m - 1)) i (h .high i (omega arith)) ])))
+    ∙ ap (λ z. z % s .p) (sym (sum-skip f to 32 l (λ i v w. elim (decLt (k + (m - 1)) i) [ yes o ↦ term-past q b (k + (m - 1)) i o | no o ↦ term-zero q b (k + (m - 1)) i (h .high i (omega arith)) ])))
 
 pub div-pos : (p : ℕ) (a b : List ℕ) (il m : ℕ) → DivIn p a b il → Size b m → 0 < m
 div-pos p a b il zero h s =
@@ -71,23 +72,22 @@ dividing-start p a b il n m top h sa sb l fits =
       agree = λ pr j u. ap (reading p pr .cast) (sa .above j (omega arith) ∙ sym (sum-none (termAt (replicate 32 0) b j) 32 (λ i w. term-zero (replicate 32 0) b j i (zeros-at 32 i))));
     }
 
-module _ {p : ℕ} {a b : List ℕ} {il m top : ℕ} {q : List ℕ} {k : ℕ} (h : DivIn p a b il) (d : Dividing p a b il m top q k) (u : 0 < k) where
-  pub dividing-digit : (mul lim : ℕ) → Ready p mul lim → DigitIn p mul lim a q b m il top (k - 1)
-  dividing-digit mul lim ready = record {
-    modulus = h .modulus;
-    ready = ready;
-    ha = h .ha;
-    hq = d .hq;
-    hb = h .hb;
-    hi = h .hi;
-    sb = d .sb;
-    pos = d .pos;
-    at = let l : k ≤ top = d .upto in omega arith;
-    fits = d .fits;
-    low = λ i w. d .low i (omega arith);
-    high = d .high;
-  }
+pub dividing-digit : {s : Modulus} {a b : List ℕ} {il m top : ℕ} {q : List ℕ} {k : ℕ} → DivIn (s .p) a b il → Dividing (s .p) a b il m top q k → 0 < k → Prepared s → DigitIn s a q b m il top (k - 1)
+dividing-digit {top = top} {k = k} h d u g = record {
+  modulus = g;
+  ha = h .ha;
+  hq = d .hq;
+  hb = h .hb;
+  hi = h .hi;
+  sb = d .sb;
+  pos = d .pos;
+  at = let l : k ≤ top = d .upto in omega arith;
+  fits = d .fits;
+  low = λ i w. d .low i (omega arith);
+  high = d .high;
+}
 
+module _ {p : ℕ} {a b : List ℕ} {il m top : ℕ} {q : List ℕ} {k : ℕ} (h : DivIn p a b il) (d : Dividing p a b il m top q k) (u : 0 < k) where
   pub dividing-turn : (v : ℕ) → Digit p a q b m il (k - 1) v → Dividing p a b il m top (set q (k - 1) v) (k - 1)
   dividing-turn v e =
       let g : 1 < p = h .modulus .big in

@@ -2,24 +2,21 @@
 use mathlib.Core.Path.{_≡_, refl, sym, ap, ap₂, _∙_, subst}
 use mathlib.Core.List.{List}
 use Prim.Native.Nat.{ℕ, _+_, _*_, _-_, _%_, _<_, _≤_}
-use native.Mathlib.Nat.{mod-lt, mul-zero, zero-mod, mul-le-mul}
+use native.Mathlib.Nat.{mod-lt, mul-zero, zero-mod}
 use native.Mathlib.Omega.{arith}
 use native.Mathlib.Decide.{decLt}
 use lib.ListN.{length, getD, set, replicate, List·getD-eq-default}
 use lib.Seq.{getD-set-other}
 use Rattle.math_ring.proofs.Laws as laws
-use Rattle.num_residue.specs.Residue.{Modulus}
+use Rattle.num_mod.proofs.Quick.{small-mul}
 use Rattle.math_rows.specs.Made.{reading}
 use Rattle.math_rows.specs.Row.{tab, Row, Size, row, coefs, shiftAt}
 use Rattle.math_rows.proofs.Tab.{zeros-at, tab-row, crossAt, cross-row, Filled, filled-start, filled-more, Begun, begun-end, shift-high, shift-small}
 use Rattle.math_rows.proofs.Rows.{sub-law, scale-law, cross-law, row-32, row-upto, psum-ext}
 use Rattle.math_rows.proofs.Floors.{zero-row, sized}
 use Rattle.poly_rows.specs.Leaf.{Given, Opposite, Short, ScaleBy, ScaleOut, CrossBy, CrossOut, Listed}
-use Rattle.poly_rows.specs.Terms.{Ready}
-
--- a product of two numbers at most 2^31
-pub small-mul : (a b : ℕ) → a ≤ 2147483648 → b ≤ 2147483648 → a * b ≤ 4611686018427387904
-small-mul a b l h = mul-le-mul l h
+use Rattle.num_mod.specs.Prepared.{Prepared}
+use Rattle.num_mod.specs.declared.Modulus.{Modulus}
 
 pub zeros-row : (p : ℕ) → 1 < p → Row p (replicate 32 0)
 zeros-row p h = record { size = refl; each = λ i. let e : _≡_ {A = ℕ} (getD (replicate 32 0) i 0) 0 = zeros-at 32 i in omega arith }
@@ -58,24 +55,24 @@ swept-more n f r₀ r i v h l e = record { filled = filled-more n f r i v (h .fi
 swept-begun : {p n i : ℕ} {f : ℕ → ℕ} {x r : List ℕ} → Short p x n → n ≤ i → Swept 32 f x r i → Begun 32 f r i
 swept-begun h l s = record { size = s .filled .size; done = s .filled .done; rest = λ k u. s .rest k u ∙ h .above k (omega arith) }
 
-pub scaled : {p mul lim c : ℕ} {x : List ℕ} {n i : ℕ} {r : List ℕ} → ScaleBy p mul lim c x n → i ≡ n → Swept 32 (λ i. (c * getD x i 0) % p) x r i → ScaleOut p c x n r
-scaled {p} {mul} {lim} {c} {x} {n} {i} {r} h l s =
+pub scaled : {q : Modulus} {c : ℕ} {x : List ℕ} {n i : ℕ} {r : List ℕ} → ScaleBy q c x n → i ≡ n → Swept 32 (λ i. (c * getD x i 0) % q .p) x r i → ScaleOut (q .p) c x n r
+scaled {q} {c} {x} {n} {i} {r} h l s =
     let b = swept-begun (h .hx) (omega arith) s in
-    let e : r ≡ tab 32 (λ i. (c * getD x i 0) % p) = begun-end 32 (λ i. (c * getD x i 0) % p) r i b (λ k u v. ap (λ a. (c * a) % p) (h .hx .above k (omega arith)) ∙ ap (λ a. a % p) (mul-zero c) ∙ zero-mod p) in
-    let w = mod-row p (λ i. c * getD x i 0) (h .modulus .big) e in record {
+    let e : r ≡ tab 32 (λ i. (c * getD x i 0) % q .p) = begun-end 32 (λ i. (c * getD x i 0) % q .p) r i b (λ k u v. ap (λ a. (c * a) % q .p) (h .hx .above k (omega arith)) ∙ ap (λ a. a % q .p) (mul-zero c) ∙ zero-mod (q .p)) in
+    let w = mod-row (q .p) (λ i. c * getD x i 0) (h .modulus .big) e in record {
       short = record { is-row = w; above = λ k u. b .rest k (omega arith) };
-      scaled = record { is-row = w; law = λ pr. ap (row (reading p pr)) e ∙ scale-law (reading p pr) c x (h .hx .is-row .size) };
+      scaled = record { is-row = w; law = λ pr. ap (row (reading (q .p) pr)) e ∙ scale-law (reading (q .p) pr) c x (h .hx .is-row .size) };
     }
 
 -- what cross_in takes the remainder of, where a and z are the coefficients of x and of t^k y at i
-pub cross-low : {p mul lim s : ℕ} {x : List ℕ} {c k : ℕ} {y : List ℕ} {n : ℕ} → CrossBy p mul lim s x c k y n → (i a z : ℕ) → a ≡ getD x i 0 → z ≡ shiftAt y k i → s * a + (p - c) * z ≤ 9223372036854775808
-cross-low {p} {s = s} {x = x} {c = c} {k = k} {y = y} h i a z e f =
-    let b : 1 < p = h .modulus .big in
-    let m : p < 2147483648 = h .modulus .small in
-    let u : s < p = h .hs in
-    let v : getD x i 0 < p = h .hx .is-row .each i in
-    let w : shiftAt y k i < p = shift-small p y k i (omega arith) (h .hy) in
-    omega (arith, small-mul s a (omega arith) (omega arith), small-mul (p - c) z (omega arith) (omega arith))
+pub cross-low : {q : Modulus} {s : ℕ} {x : List ℕ} {c k : ℕ} {y : List ℕ} {n : ℕ} → CrossBy q s x c k y n → (i a z : ℕ) → a ≡ getD x i 0 → z ≡ shiftAt y k i → s * a + (q .p - c) * z ≤ 9223372036854775808
+cross-low {q} {s = s} {x = x} {c = c} {k = k} {y = y} h i a z e f =
+    let b : 1 < q .p = h .modulus .big in
+    let m : q .p < 2147483648 = h .modulus .small in
+    let u : s < q .p = h .hs in
+    let v : getD x i 0 < q .p = h .hx .is-row .each i in
+    let w : shiftAt y k i < q .p = shift-small (q .p) y k i (omega arith) (h .hy) in
+    omega (arith, small-mul s a (omega arith) (omega arith), small-mul (q .p - c) z (omega arith) (omega arith))
 
 -- y ends so that t^k y fits
 shift-room : {y : List ℕ} {m : ℕ} (n k : ℕ) → Size y m → n ≤ 32 → k ≤ 32 → ((i : ℕ) → n ≤ i → shiftAt y k i ≡ 0) → m + k ≤ 32
@@ -86,29 +83,28 @@ shift-room {y} {m} n k s f l h = elim (decLt 32 (m + k)) [
   | no u ↦ omega arith
 ]
 
-pub crossed : {p mul lim s : ℕ} {x : List ℕ} {c k : ℕ} {y : List ℕ} {n i : ℕ} {r : List ℕ} → CrossBy p mul lim s x c k y n → i ≡ n → Swept 32 (crossAt p s x c k y) x r i → CrossOut p s x c k y n r
-crossed {p} {mul} {lim} {s} {x} {c} {k} {y} {n} {i} {r} h l w =
+pub crossed : {q : Modulus} {s : ℕ} {x : List ℕ} {c k : ℕ} {y : List ℕ} {n i : ℕ} {r : List ℕ} → CrossBy q s x c k y n → i ≡ n → Swept 32 (crossAt (q .p) s x c k y) x r i → CrossOut (q .p) s x c k y n r
+crossed {q} {s} {x} {c} {k} {y} {n} {i} {r} h l w =
     let b = swept-begun (h .hx) (omega arith) w in
-    let e : r ≡ tab 32 (crossAt p s x c k y) = begun-end 32 (crossAt p s x c k y) r i b (λ j u v. none j (omega arith)) in
-    let g = subst (λ u. Row p u) (sym e) (cross-row p s x c k y (let z : 1 < p = h .modulus .big in omega arith)) in
+    let e : r ≡ tab 32 (crossAt (q .p) s x c k y) = begun-end 32 (crossAt (q .p) s x c k y) r i b (λ j u v. none j (omega arith)) in
+    let g = subst (λ u. Row (q .p) u) (sym e) (cross-row (q .p) s x c k y (let z : 1 < q .p = h .modulus .big in omega arith)) in
     let (m, sy) = sized y in record {
       short = record { is-row = g; above = λ j u. b .rest j (omega arith) };
-      crossed = record { is-row = g; law = λ pr. ap (row (reading p pr)) e ∙ cross-law (reading p pr) s x c k y m (h .hc) (h .hx .is-row .size) sy (shift-room n k sy (h .fits) (h .low) (h .above)) };
+      crossed = record { is-row = g; law = λ pr. ap (row (reading (q .p) pr)) e ∙ cross-law (reading (q .p) pr) s x c k y m (h .hc) (h .hx .is-row .size) sy (shift-room n k sy (h .fits) (h .low) (h .above)) };
     }
   where
-    none : (j : ℕ) → n ≤ j → crossAt p s x c k y j ≡ 0
+    none : (j : ℕ) → n ≤ j → crossAt (q .p) s x c k y j ≡ 0
     none j u =
-        ap₂ (λ a z. (s * a + (p - c) * z) % p) (h .hx .above j u) (h .above j u) ∙ ap (λ z. z % p) (let o : s * 0 + (p - c) * 0 ≡ 0 = omega (arith, mul-zero s, mul-zero (p - c)) in o) ∙ zero-mod p
+        ap₂ (λ a z. (s * a + (q .p - c) * z) % q .p) (h .hx .above j u) (h .above j u) ∙ ap (λ z. z % q .p) (let o : s * 0 + (q .p - c) * 0 ≡ 0 = omega (arith, mul-zero s, mul-zero (q .p - c)) in o) ∙ zero-mod (q .p)
 
 -- ---- what `cross_in` asks, by lengths
 size-short : {p : ℕ} {x : List ℕ} {n : ℕ} (m : ℕ) → Row p x → Size x n → n ≤ m → Short p x m
 size-short m h s l = record { is-row = h; above = λ i u. s .above i (omega arith) }
 
-pub cross-by : {p mul lim s : ℕ} {x : List ℕ} {c k : ℕ} {y : List ℕ} {n m : ℕ} (top : ℕ) → Modulus p → Ready p mul lim → s < p → c ≤ p → Row p x → Row p y → Size x n → Size y m
-    → n ≤ top → m + k ≤ top → top ≤ 32 → CrossBy p mul lim s x c k y top
-cross-by {k = k} {y = y} {n = n} {m = m} top h q hs hc hx hy sx sy u v w = record {
+pub cross-by : {q : Modulus} {s : ℕ} {x : List ℕ} {c k : ℕ} {y : List ℕ} {n m : ℕ} (top : ℕ) → Prepared q → s < q .p → c ≤ q .p → Row (q .p) x → Row (q .p) y → Size x n → Size y m
+    → n ≤ top → m + k ≤ top → top ≤ 32 → CrossBy q s x c k y top
+cross-by {k = k} {y = y} {n = n} {m = m} top h hs hc hx hy sx sy u v w = record {
   modulus = h;
-  ready = q;
   hs = hs;
   hx = size-short top hx sx u;
   hc = hc;

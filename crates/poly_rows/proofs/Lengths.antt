@@ -18,7 +18,7 @@ use Rattle.math_valued.specs.Degree.{Has, Lt, Leads}
 use Rattle.math_valued.proofs.Degree.{lt-eq, lt-up, has-eq, above, same, lead-eq}
 use Rattle.math_valued.proofs.Compare.{has-scale, leads-unique}
 use Rattle.math_valued.proofs.Polynomial.{not-zero}
-use Rattle.num_residue.specs.Residue.{Modulus}
+use Rattle.num_mod.specs.Residue.{IsModulus}
 use Rattle.math_rows.specs.Reading.{Reading}
 use Rattle.math_rows.specs.Made.{reading}
 use Rattle.math_rows.specs.Row.{Row, Size, row}
@@ -116,7 +116,7 @@ inverts-has {p} pr {b} {il} hb h = go (sized b)
         absurd (omega (arith, f, g))
     go (suc n, s) = (n, size-has (reading p pr) hb s)
 
-pub by-inverse : {p il : ℕ} {a b : List ℕ} → Modulus p → Row p a → Row p b → Inverts p b il → DivIn p a b il
+pub by-inverse : {p il : ℕ} {a b : List ℕ} → IsModulus p → Row p a → Row p b → Inverts p b il → DivIn p a b il
 by-inverse m ha hb h = record { modulus = m; ha = ha; hb = hb; hi = h .below; inv = h .law }
 
 pub odd-prime : (p : ℕ) → Prime p → 5 ≤ p → p % 2 ≡ 1

@@ -10,18 +10,19 @@ use Prim.Native.Nat.{ℕ, _+_, _-_, _*_, _%_, _<_, _≤_}
 use lib.ListN.{getD}
 use Rattle.math_fp.specs.Fp.{Prime}
 use Rattle.math_valued.specs.Degree.{Has, Lt}
-use Rattle.num_residue.specs.Residue.{Modulus}
+use Rattle.num_mod.specs.Residue.{IsModulus}
 use Rattle.math_rows.specs.Made.{reading}
 use Rattle.math_rows.specs.Row.{Row, Size, row}
 use Rattle.math_rows.specs.Sum.{sumTo, termAt}
-use Rattle.poly_rows.specs.Terms.{Ready}
+use Rattle.num_mod.specs.Prepared.{Prepared}
+use Rattle.num_mod.specs.declared.Modulus.{Modulus}
 
 pub record Inverts (p : ℕ) (b : List ℕ) (il : ℕ) : Type 0 where
   pub below : il < p
   pub law : (n : ℕ) → Size b n → (il * getD b (n - 1) 0) % p ≡ 1
 
 pub record DivIn (p : ℕ) (a b : List ℕ) (il : ℕ) : Type 0 where
-  pub modulus : Modulus p
+  pub modulus : IsModulus p
   pub ha : Row p a
   pub hb : Row p b
   pub hi : il < p
@@ -44,13 +45,12 @@ pub record Divided (p : ℕ) (a b q r : List ℕ) : Type 0 where
   pub low : (pr : Prime p) (n : ℕ) → let ρ = reading p pr in Has (ρ .𝓥) (row ρ b) n → Lt (ρ .𝓥) (row ρ r) n
 
 -- ---- one coefficient of the quotient, q_k, from those above it; the quotient has no more than top
-pub record DigitIn (p mul lim : ℕ) (a q b : List ℕ) (m il top k : ℕ) : Type 0 where
-  pub modulus : Modulus p
-  pub ready : Ready p mul lim
-  pub ha : Row p a
-  pub hq : Row p q
-  pub hb : Row p b
-  pub hi : il < p
+pub record DigitIn (s : Modulus) (a q b : List ℕ) (m il top k : ℕ) : Type 0 where
+  pub modulus : Prepared s
+  pub ha : Row (s .p) a
+  pub hq : Row (s .p) q
+  pub hb : Row (s .p) b
+  pub hi : il < s .p
   pub sb : Size b m
   pub pos : 0 < m
   pub at : k < top

@@ -11,10 +11,11 @@ use mathlib.Core.List.{List}
 use Prim.Native.Nat.{ℕ, _+_, _-_, _<_, _≤_}
 use lib.ListN.{length, getD}
 use Rattle.math_fp.specs.Fp.{Prime}
-use Rattle.num_residue.specs.Residue.{Modulus}
+use Rattle.num_mod.specs.Residue.{IsModulus}
 use Rattle.math_rows.specs.Made.{reading}
 use Rattle.math_rows.specs.Row.{Row, Size, row, shiftAt, comb}
-use Rattle.poly_rows.specs.Terms.{Ready}
+use Rattle.num_mod.specs.Prepared.{Prepared}
+use Rattle.num_mod.specs.declared.Modulus.{Modulus}
 
 -- ---- lengths
 pub record Cut (x : List ℕ) (n : ℕ) : Type 0 where
@@ -28,12 +29,8 @@ pub record Short (p : ℕ) (x : List ℕ) (n : ℕ) : Type 0 where
   pub above : (i : ℕ) → n ≤ i → getD x i 0 ≡ 0
 
 -- ---- sums
-pub record Once (p v : ℕ) : Type 0 where
-  pub modulus : Modulus p
-  pub low : v < p + p
-
 pub record Given (p : ℕ) (x : List ℕ) : Type 0 where
-  pub modulus : Modulus p
+  pub modulus : IsModulus p
   pub hx : Row p x
 
 pub record Opposite (p : ℕ) (x r : List ℕ) : Type 0 where
@@ -44,11 +41,10 @@ pub record Scaled (p c : ℕ) (x r : List ℕ) : Type 0 where
   pub is-row : Row p r
   pub law : (pr : Prime p) → let ρ = reading p pr in row ρ r ≡ ρ .𝓥 .L .ops .mul (ρ .𝓥 .const (ρ .cast c)) (row ρ x)
 
-pub record ScaleBy (p mul lim c : ℕ) (x : List ℕ) (n : ℕ) : Type 0 where
-  pub modulus : Modulus p
-  pub ready : Ready p mul lim
-  pub hc : c < p
-  pub hx : Short p x n
+pub record ScaleBy (q : Modulus) (c : ℕ) (x : List ℕ) (n : ℕ) : Type 0 where
+  pub modulus : Prepared q
+  pub hc : c < q .p
+  pub hx : Short (q .p) x n
   pub fits : n ≤ 32
 
 pub record ScaleOut (p c : ℕ) (x : List ℕ) (n : ℕ) (r : List ℕ) : Type 0 where
@@ -60,13 +56,12 @@ pub record Crossed (p s : ℕ) (x : List ℕ) (c k : ℕ) (y r : List ℕ) : Typ
   pub is-row : Row p r
   pub law : (pr : Prime p) → let ρ = reading p pr in row ρ r ≡ comb ρ (ρ .cast s) (ρ .cast c) k (row ρ x) (row ρ y)
 
-pub record CrossBy (p mul lim s : ℕ) (x : List ℕ) (c k : ℕ) (y : List ℕ) (n : ℕ) : Type 0 where
-  pub modulus : Modulus p
-  pub ready : Ready p mul lim
-  pub hs : s < p
-  pub hx : Short p x n
-  pub hc : c ≤ p
-  pub hy : Row p y
+pub record CrossBy (q : Modulus) (s : ℕ) (x : List ℕ) (c k : ℕ) (y : List ℕ) (n : ℕ) : Type 0 where
+  pub modulus : Prepared q
+  pub hs : s < q .p
+  pub hx : Short (q .p) x n
+  pub hc : c ≤ q .p
+  pub hy : Row (q .p) y
   pub fits : n ≤ 32
   pub low : k ≤ 32
   pub above : (i : ℕ) → n ≤ i → shiftAt y k i ≡ 0
@@ -80,7 +75,7 @@ abbrev pub Fits : List ℕ → List ℕ → Type 0
 Fits x y = (n m : ℕ) → Size x n → Size y m → n + m ≤ 33
 
 pub record MulIn (p : ℕ) (x y : List ℕ) : Type 0 where
-  pub modulus : Modulus p
+  pub modulus : IsModulus p
   pub hx : Row p x
   pub hy : Row p y
   pub room : Fits x y

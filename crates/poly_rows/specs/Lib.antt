@@ -1,4 +1,4 @@
 pub mod Leaf
-pub mod Terms
+pub mod Coefficients
 pub mod Division
 pub mod Polynomial

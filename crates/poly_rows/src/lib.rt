@@ -1,15 +1,18 @@
 // Polynomials mod p as rows of 32 coefficients, lowest first, each below p, zeros above the degree; lent, turned in place or handed out.
 // Every contract speaks of the polynomial that a row stands for (`row` of crate math_rows). Loops stop at true lengths. Sums are taken in 64
-// bits with one remainder for each coefficient, for every p below 2^31; below 2^16 it is a multiplication by what `rapid_of` makes of p.
-use num_remainder::remainder;
+// bits with one remainder for each coefficient, for every p below 2^31, by the prepared modulus of crate num_mod.
+use num_mod::Modulus;
+use num_mod::add_product;
+use num_mod::prepare;
+use num_mod::reduce;
+use num_mod::reduce_once;
 ghost use mathlib.Core.Path.{_≡_};
 ghost use Prim.Native.Nat.{_+_, _*_, _-_, _%_, _<_, _≤_};
 ghost use lib.ListN.{length};
 ghost use Rattle.math_rows.specs.Row.{Size, shiftAt};
-ghost use Rattle.poly_rows.specs.Leaf.{Cut, Once, Given, Opposite, ScaleBy, ScaleOut};
+ghost use Rattle.poly_rows.specs.Leaf.{Cut, Given, Opposite, ScaleBy, ScaleOut};
 ghost use Rattle.poly_rows.specs.Leaf.{CrossBy, CrossOut, MulIn, Product, Listed};
-ghost use Rattle.poly_rows.specs.Terms.{Ready, RestIn, MoreIn, More, PartIn, Part, PlaceIn};
-ghost use Rattle.num_residue.specs.Residue.{Modulus};
+ghost use Rattle.poly_rows.specs.Coefficients.{PartIn, Part, PlaceIn};
 ghost use Rattle.poly_rows.specs.Division.{DigitIn, Digit};
 ghost use Rattle.math_rows.specs.Sum.{sumTo, termAt};
 
@@ -38,43 +41,6 @@ pub fn size(x: &Row) -> usize
     size_from(x, 32)
 }
 
-// What `rest` needs of p: below lim, one multiplication by m finds a remainder.
-pub struct Rapid {
-    pub m: u64,
-    pub lim: u64,
-}
-
-pub fn rapid_of(p: u64) -> Rapid
-    requires { ⌜ Modulus p ⌝ }
-    ensures { λ s. ⌜ Ready p (s .m) (s .lim) ⌝ }
-{
-    if p < 65536 {
-        let m = num_remainder::scale_of(p);
-        let lim = 64 * (p * p);
-        Rapid { m, lim }
-    } else {
-        Rapid { m: 0, lim: 0 }
-    }
-}
-
-// x mod p
-pub fn rest(p: u64, s: Rapid, x: u64) -> u64
-    requires { ⌜ RestIn p (s .m) (s .lim) ⌝ }
-    ensures { λ r. ⌜ r ≡ x % p ⌝ }
-{
-    let m = s.m;
-    let lim = s.lim;
-    if x < lim { remainder(p, m, x) } else { x % p }
-}
-
-// v mod p, for v below 2 p
-pub fn once(p: u64, v: u64) -> u64
-    requires { ⌜ Once p v ⌝ }
-    ensures { λ r. ⌜ r ≡ v % p ⌝ }
-{
-    if v < p { v } else { v - p }
-}
-
 // - x
 pub fn minus(p: u64, x: &Row) -> Row
     requires { ⌜ Given p (now x) ⌝ }
@@ -83,20 +49,20 @@ pub fn minus(p: u64, x: &Row) -> Row
     let mut r: Row = [0; 32];
     let mut i: usize = 0;
     while i < 32 {
-        r[i] = once(p, p - x[i]);
+        r[i] = reduce_once(p, p - x[i]);
         i += 1;
     }
     r
 }
 
 // c x in place of x, which ends before n.
-pub fn scale_in(p: u64, q: Rapid, c: u64, x: &mut Row, n: usize)
-    requires { ⌜ ScaleBy p (q .m) (q .lim) c (now x) n ⌝ }
-    ensures { λ _. ⌜ ScaleOut p c (now (x .entry)) n (now (x .exit)) ⌝ }
+pub fn scale_in(q: Modulus, c: u64, x: &mut Row, n: usize)
+    requires { ⌜ ScaleBy q c (now x) n ⌝ }
+    ensures { λ _. ⌜ ScaleOut (q .p) c (now (x .entry)) n (now (x .exit)) ⌝ }
 {
     let mut i: usize = 0;
     while i < n {
-        let v = rest(p, q, c * x[i]);
+        let v = reduce(q, c * x[i]);
         x[i] = v;
         i += 1;
     }
@@ -111,27 +77,18 @@ fn shifted(y: &Row, k: usize, i: usize) -> u64
 }
 
 // s x - c t^k y, of n terms, in place of x.
-pub fn cross_in(p: u64, q: Rapid, s: u64, x: &mut Row, c: u64, k: usize, y: &Row, n: usize)
-    requires { ⌜ CrossBy p (q .m) (q .lim) s (now x) c k (now y) n ⌝ }
-    ensures { λ _. ⌜ CrossOut p s (now (x .entry)) c k (now (y .entry)) n (now (x .exit)) ⌝ }
+pub fn cross_in(q: Modulus, s: u64, x: &mut Row, c: u64, k: usize, y: &Row, n: usize)
+    requires { ⌜ CrossBy q s (now x) c k (now y) n ⌝ }
+    ensures { λ _. ⌜ CrossOut (q .p) s (now (x .entry)) c k (now (y .entry)) n (now (x .exit)) ⌝ }
 {
-    let d = p - c;
+    let d = q.p - c;
     let mut i: usize = 0;
     while i < n {
         let z = shifted(y, k, i);
-        let a = rest(p, q, s * x[i] + d * z);
+        let a = reduce(q, s * x[i] + d * z);
         x[i] = a;
         i += 1;
     }
-}
-
-// s + x y up to a multiple of p, kept below 2^63.
-pub fn more(p: u64, s: u64, x: u64, y: u64) -> u64
-    requires { ⌜ MoreIn p s x y ⌝ }
-    ensures { λ r. ⌜ More p s x y r ⌝ }
-{
-    let v = s + x * y;
-    if v < 9223372036854775808 { v } else { v % p }
 }
 
 // The terms from .. to - 1 of coefficient k of x y, up to a multiple of p.
@@ -142,14 +99,14 @@ fn folded(p: u64, x: &Row, y: &Row, from: usize, to: usize, k: usize) -> u64
     let mut s: u64 = 0;
     let mut i = from;
     while i < to {
-        s = more(p, s, x[i], y[k - i]);
+        s = add_product(p, s, x[i], y[k - i]);
         i += 1;
     }
     s
 }
 
 // The same: below 2^28 the sum fits as it is.
-fn part(p: u64, x: &Row, y: &Row, from: usize, to: usize, k: usize) -> u64
+fn terms(p: u64, x: &Row, y: &Row, from: usize, to: usize, k: usize) -> u64
     requires { ⌜ PartIn p (now x) (now y) from to k ⌝ }
     ensures { λ r. ⌜ Part p (now (x .entry)) (now (y .entry)) from to k r ⌝ }
 {
@@ -167,14 +124,14 @@ fn part(p: u64, x: &Row, y: &Row, from: usize, to: usize, k: usize) -> u64
 }
 
 // Coefficient k of x y, from the trimmed lengths n and m.
-fn place(p: u64, q: Rapid, x: &Row, n: usize, y: &Row, m: usize, k: usize) -> u64
-    requires { ⌜ PlaceIn p (q .m) (q .lim) (now x) n (now y) m k ⌝ }
-    ensures { λ r. ⌜ r ≡ sumTo (termAt (now (x .entry)) (now (y .entry)) k) n % p ⌝ }
+fn product_coefficient(q: Modulus, x: &Row, n: usize, y: &Row, m: usize, k: usize) -> u64
+    requires { ⌜ PlaceIn q (now x) n (now y) m k ⌝ }
+    ensures { λ r. ⌜ r ≡ sumTo (termAt (now (x .entry)) (now (y .entry)) k) n % (q .p) ⌝ }
 {
     let from = if k < m { 0 } else { k + 1 - m };
     let to = if k < n { k + 1 } else { n };
-    let v = part(p, x, y, from, to, k);
-    rest(p, q, v)
+    let v = terms(q.p, x, y, from, to, k);
+    reduce(q, v)
 }
 
 // x y, where the product fits.
@@ -182,13 +139,13 @@ pub fn mul(p: u64, x: &Row, y: &Row) -> Row
     requires { ⌜ MulIn p (now x) (now y) ⌝ }
     ensures { λ r. ⌜ Product p (now (x .entry)) (now (y .entry)) r ⌝ }
 {
-    let q = rapid_of(p);
+    let q = prepare(p);
     let n = size(x);
     let m = size(y);
     let mut r: Row = [0; 32];
     let mut k: usize = 0;
     while k + 1 < n + m {
-        r[k] = place(p, q, x, n, y, m, k);
+        r[k] = product_coefficient(q, x, n, y, m, k);
         k += 1;
     }
     r
@@ -209,9 +166,8 @@ pub fn from_list(s: &[u64]) -> Row
 }
 
 // The coefficient of a / b at k, where q holds those above, up to top.
-pub fn digit(
-    p: u64,
-    s: Rapid,
+pub fn quotient_coefficient(
+    s: Modulus,
     a: &Row,
     q: &Row,
     b: &Row,
@@ -220,12 +176,12 @@ pub fn digit(
     top: usize,
     k: usize,
 ) -> u64
-    requires { ⌜ DigitIn p (s .m) (s .lim) (now a) (now q) (now b) m il top k ⌝ }
-    ensures { λ v. ⌜ Digit p (now (a .entry)) (now (q .entry)) (now (b .entry)) m il k v ⌝ }
+    requires { ⌜ DigitIn s (now a) (now q) (now b) m il top k ⌝ }
+    ensures { λ v. ⌜ Digit (s .p) (now (a .entry)) (now (q .entry)) (now (b .entry)) m il k v ⌝ }
 {
     let at = k + (m - 1);
     let to = if at < top { at + 1 } else { top };
-    let u = part(p, q, b, k + 1, to, at);
-    let v = rest(p, s, u);
-    rest(p, s, (a[at] + (p - v)) * il)
+    let u = terms(s.p, q, b, k + 1, to, at);
+    let v = reduce(s, u);
+    reduce(s, (a[at] + (s.p - v)) * il)
 }

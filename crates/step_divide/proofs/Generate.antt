@@ -22,7 +22,8 @@ use Rattle.math_rows.specs.Made.{reading}
 use Rattle.math_rows.specs.Row.{Size, row}
 use Rattle.math_rows.proofs.Rows.{size-le}
 use Rattle.poly_rows.specs.Leaf.{Product}
-use Rattle.poly_rows.specs.Terms.{Ready}
+use Rattle.num_mod.specs.Prepared.{Prepared}
+use Rattle.num_mod.specs.declared.Modulus.{Modulus}
 use Rattle.math_ideals.specs.Basis.{Good}
 use Rattle.math_ideals.proofs.Degrees.{small}
 use Rattle.math_chain.specs.Parts.{Parts, Cut, base}
@@ -43,6 +44,9 @@ use Rattle.step_divide.specs.declared.Cuts.{Cuts}
 use Rattle.step_divide.proofs.Coordinates.{Narrow, r-narrow, w-narrow}
 use Rattle.step_divide.proofs.Products.{Sizes, sizes, modulus, g-lt, h-lt, by-e, by-u, quot-r, quot-w}
 
+abbrev of : ℕ → ℕ → ℕ → Modulus
+of p mul lim = record { p = p; m = mul; lim = lim }
+
 module _ {p cap : ℕ} {g h gh : List ℕ} {ie : ℕ} {b : Seven} (i : GeneratorsIn p cap g h gh ie b) where
   abbrev ρ : Reading p
   ρ = reading p (i .σ .prime)
@@ -62,8 +66,8 @@ module _ {p cap : ℕ} {g h gh : List ℕ} {ie : ℕ} {b : Seven} (i : Generator
   w-near : Narrow (setting (i .σ)) (rowsOf (i .σ) b) (small (setting (i .σ)) (rowsOf (i .σ) b) (i .good)) (setting (i .σ) .roots .dw) (k .of-w .α) (k .of-w .β) (k .of-w .γ)
   w-near = w-narrow (setting (i .σ)) (rowsOf (i .σ) b) (small (setting (i .σ)) (rowsOf (i .σ) b) (i .good)) (i .good) (k .of-w)
 
-  pub turn-in : {mul lim lk : ℕ} {e : List ℕ} {l : Lengths} {o : Three} → Ready p mul lim → Size gh lk → Found p b e l → Blank o → TurnIn p mul lim g h gh lk b l e ie o
-  turn-in r s f k = record { cap = cap; inp = i; ready = r; sk = s; found = f; blank = k }
+  pub turn-in : {mul lim lk : ℕ} {e : List ℕ} {l : Lengths} {o : Three} → Prepared (of p mul lim) → Size gh lk → Found p b e l → Blank o → TurnIn (of p mul lim) g h gh lk b l e ie o
+  turn-in r s f k = record { cap = cap; inp = i; modulus = r; sk = s; found = f; blank = k }
 
   -- ---- r m
   module _ {e : List ℕ} {l : Lengths} (f : Found p b e l) {xx zz : List ℕ} {nx nz : ℕ} (tx : TimesOut p (b .m2) gh xx nx) (tz : TimesOut p (b .m1) h zz nz) where
@@ -76,11 +80,10 @@ module _ {p cap : ℕ} {g h gh : List ℕ} {ie : ℕ} {b : Seven} (i : Generator
     z-lt : Lt (ρ .𝓥) (row ρ zz) (suc (setting (i .σ) .roots .dr + setting (i .σ) .roots .dr))
     z-lt = d.lt-eq (ρ .𝓥) (d.lt-up (ρ .𝓥) (suc (setting (i .σ) .roots .dr + setting (i .σ) .roots .dr)) (lt-mul-sharp (ρ .𝓥) (z .rows 1) (h-lt i)) (omega (arith, z .two-r))) (sym (hz .law (i .σ .prime)))
 
-    pub x-in : {mul lim : ℕ} {o : Three} → Ready p mul lim → Blank o → CoordsIn p mul lim xx nx (b .m0) (l .m0) zz nz b l e ie o
+    pub x-in : {mul lim : ℕ} {o : Three} → Prepared (of p mul lim) → Blank o → CoordsIn (of p mul lim) xx nx (b .m0) (l .m0) zz nz b l e ie o
     x-in w t = record {
       inp = record {
-        modulus = modulus i;
-        ready = w;
+        modulus = w;
         ha = hx .is-row;
         hb = i .rows 0;
         hc = hz .is-row;
@@ -129,11 +132,10 @@ module _ {p cap : ℕ} {g h gh : List ℕ} {ie : ℕ} {b : Seven} (i : Generator
     y-lt : Lt (ρ .𝓥) (row ρ yy) (suc (setting (i .σ) .roots .dw + setting (i .σ) .roots .dw))
     y-lt = d.lt-eq (ρ .𝓥) (d.lt-up (ρ .𝓥) (suc (setting (i .σ) .roots .dw + setting (i .σ) .roots .dw)) (lt-mul-sharp (ρ .𝓥) (z .rows 2) (g-lt i)) (omega (arith, z .two-r, z .both))) (sym (hy .law (i .σ .prime)))
 
-    pub y-in : {mul lim : ℕ} {o : Three} → Ready p mul lim → Blank o → CoordsIn p mul lim xx nx yy ny (b .m0) (l .m0) b l e ie o
+    pub y-in : {mul lim : ℕ} {o : Three} → Prepared (of p mul lim) → Blank o → CoordsIn (of p mul lim) xx nx yy ny (b .m0) (l .m0) b l e ie o
     y-in w t = record {
       inp = record {
-        modulus = modulus i;
-        ready = w;
+        modulus = w;
         ha = kx .is-row;
         hb = hy .is-row;
         hc = i .rows 0;
@@ -202,8 +204,8 @@ module _ {p cap : ℕ} {g h gh : List ℕ} {ie : ℕ} {b : Seven} (i : Generator
               ap (λ s. s .0) (ap₂ (λ s u. o .add s (o .neg u)) (ap₂ (o .mul) (sym ec) (sym fa)) (ap₂ (o .mul) (sym ea) (sym fc)) ∙ sym (signs (i .σ .prime))) ∙ t);
         }
 
-    pub take-in : {mul lim : ℕ} {d : List ℕ} → Ready p mul lim → d ≡ replicate 32 0 → TakeIn p mul lim xa (ox .a) (x .c) (ox .c) (y .a) (oy .a) yc (oy .c) d
-    take-in r e = record { inp = cut-in; ready = r; sx0 = na .size; sx2 = tx .spans .sc; sy0 = ty .spans .sa; sy2 = nc .size; blank = e }
+    pub take-in : {mul lim : ℕ} {d : List ℕ} → Prepared (of p mul lim) → d ≡ replicate 32 0 → TakeIn (of p mul lim) xa (ox .a) (x .c) (ox .c) (y .a) (oy .a) yc (oy .c) d
+    take-in r e = record { inp = cut-in; modulus = r; sx0 = na .size; sx2 = tx .spans .sc; sy0 = ty .spans .sa; sy2 = nc .size; blank = e }
 
     -- ---- the generators
     module _ {nc′ mc nb mb u : List ℕ} {c l : ℕ} (t : Taken p xa (x .c) (y .a) yc (four nc′ mc nb mb u c) l) where

@@ -9,14 +9,15 @@ use Rattle.math_ring.proofs.Solve.{var, hyp, one as one₁, minus, _:*_, solve-
 use Rattle.math_valued.specs.Degree.{Has, Lt}
 use Rattle.math_valued.proofs.Degree as d
 use Rattle.math_valued.proofs.Polynomial.{not-zero}
-use Rattle.num_residue.specs.Residue.{Modulus}
+use Rattle.num_mod.specs.Residue.{IsModulus}
 use Rattle.math_rows.specs.Reading.{Reading}
 use Rattle.math_rows.specs.Made.{reading}
 use Rattle.math_rows.specs.Row.{Row, Size, row}
 use Rattle.math_rows.proofs.Rows.{size-le, size-lead, size-top, size-has, cast-sub}
 use Rattle.math_rows.proofs.Floors.{sized, zero-row}
 use Rattle.poly_rows.specs.Leaf.{Cut, Product}
-use Rattle.poly_rows.specs.Terms.{Ready}
+use Rattle.num_mod.specs.Prepared.{Prepared}
+use Rattle.num_mod.specs.declared.Modulus.{Modulus}
 use Rattle.poly_rows.specs.Division.{Inverts}
 use Rattle.poly_rows.proofs.Lengths.{one-mod, fits-of, monic-inverts}
 use Rattle.poly_lent.specs.Sized.{TimesBy, DetOut}
@@ -34,6 +35,9 @@ use Rattle.basis_lattice.proofs.Elements.{quot-of, times-g-is, times-h-is, time
 use Rattle.step_divide.specs.Generated.{GeneratorsIn}
 
 -- how large the i-th row of a good basis can be
+abbrev of : ℕ → ℕ → ℕ → Modulus
+of p mul lim = record { p = p; m = mul; lim = lim }
+
 abbrev pub bound : Setting → ℕ → ℕ
 bound S zero = suc (dGH S)
 bound S (suc zero) = suc (S .dw)
@@ -93,7 +97,7 @@ module _ {p cap : ℕ} {g h gh : List ℕ} {ie : ℕ} {b : Seven} (i : Generator
   z : Sizes (i .σ) b
   z = sizes (i .σ) b (i .good)
 
-  pub modulus : Modulus p
+  pub modulus : IsModulus p
   modulus = record { big = i .σ .prime .big; small = (let l : p ≤ 65535 = i .σ .high in omega arith) }
 
   pub g-lt : Lt (ρ .𝓥) (row ρ g) (suc (i .σ .degG))
@@ -119,14 +123,14 @@ module _ {p cap : ℕ} {g h gh : List ℕ} {ie : ℕ} {b : Seven} (i : Generator
   pub by-gh : Factor gh
   by-gh = record { is-row = i .hgh; low = d.has-up (ρ .𝓥) (suc (i .σ .degG + i .σ .degH)) gh-has (omega arith) }
 
-  times-by : {mul lim : ℕ} {x y r : List ℕ} {n m : ℕ} (j k : ℕ) → Ready p mul lim → Row p x → Factor y → Lt (ρ .𝓥) (row ρ x) j → suc (i .σ .degG + i .σ .degH) ≤ k → j + k ≤ 33
-      → Size x n → Size y m → r ≡ replicate 32 0 → TimesBy p mul lim x n y m r
-  times-by j k w hx f lx u l sx sy t = record { modulus = modulus; ready = w; hx = hx; hy = f .is-row; sx = sx; sy = sy; fits = fits-of ρ j k hx (f .is-row) lx (d.lt-up (ρ .𝓥) k (f .low) u) l _ _ sx sy; blank = t }
+  times-by : {mul lim : ℕ} {x y r : List ℕ} {n m : ℕ} (j k : ℕ) → Prepared (of p mul lim) → Row p x → Factor y → Lt (ρ .𝓥) (row ρ x) j → suc (i .σ .degG + i .σ .degH) ≤ k → j + k ≤ 33
+      → Size x n → Size y m → r ≡ replicate 32 0 → TimesBy (of p mul lim) x n y m r
+  times-by j k w hx f lx u l sx sy t = record { modulus = w; hx = hx; hy = f .is-row; sx = sx; sy = sy; fits = fits-of ρ j k hx (f .is-row) lx (d.lt-up (ρ .𝓥) k (f .low) u) l _ _ sx sy; blank = t }
 
-  pub m1-by : {mul lim : ℕ} {y r : List ℕ} {n m : ℕ} → Ready p mul lim → Factor y → Size (b .m1) n → Size y m → r ≡ replicate 32 0 → TimesBy p mul lim (b .m1) n y m r
+  pub m1-by : {mul lim : ℕ} {y r : List ℕ} {n m : ℕ} → Prepared (of p mul lim) → Factor y → Size (b .m1) n → Size y m → r ≡ replicate 32 0 → TimesBy (of p mul lim) (b .m1) n y m r
   m1-by w f = times-by (suc (setting (i .σ) .roots .dw)) (suc (i .σ .degG + i .σ .degH)) w (i .rows 1) f (z .rows 1) (omega arith) (omega (arith, z .both, z .r-pos, z .all))
 
-  pub m2-by : {mul lim : ℕ} {y r : List ℕ} {n m : ℕ} → Ready p mul lim → Factor y → Size (b .m2) n → Size y m → r ≡ replicate 32 0 → TimesBy p mul lim (b .m2) n y m r
+  pub m2-by : {mul lim : ℕ} {y r : List ℕ} {n m : ℕ} → Prepared (of p mul lim) → Factor y → Size (b .m2) n → Size y m → r ≡ replicate 32 0 → TimesBy (of p mul lim) (b .m2) n y m r
   m2-by w f = times-by (suc (setting (i .σ) .roots .dr)) (suc (i .σ .degG + i .σ .degH)) w (i .rows 2) f (z .rows 2) (omega arith) (omega (arith, z .both, z .w-pos, z .all))
 
   -- ---- every row ends before cap
@@ -136,10 +140,9 @@ module _ {p cap : ℕ} {g h gh : List ℕ} {ie : ℕ} {b : Seven} (i : Generator
       let q : n ≤ bound (setting (i .σ)) j = size-le ρ (bound (setting (i .σ)) j) (i .rows j) s (z .rows j) in
       record { size = i .rows j .size; fits = i .fits; above = λ k w. s .above k (omega (arith, bound-low (setting (i .σ)) j, i .past)) }
 
-  pub lengths-in : {mul lim : ℕ} {e : List ℕ} → Ready p mul lim → e ≡ replicate 32 0 → LengthsIn p mul lim cap b e
+  pub lengths-in : {mul lim : ℕ} {e : List ℕ} → Prepared (of p mul lim) → e ≡ replicate 32 0 → LengthsIn (of p mul lim) cap b e
   lengths-in w t = record {
-    modulus = modulus;
-    ready = w;
+    modulus = w;
     rows = i .rows;
     ends = ends;
     left = fits-of ρ (suc (setting (i .σ) .roots .dw)) (setting (i .σ) .roots .dr) (i .rows 1) (i .rows 5) (z .rows 1) (z .rows 5) (omega (arith, z .both, z .all));

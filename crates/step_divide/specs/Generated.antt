@@ -11,7 +11,8 @@ use Prim.Native.Nat.{ℕ, _+_, _-_, _<_, _≤_}
 use lib.ListN.{getD, replicate}
 use Rattle.math_valued.specs.Degree.{Has}
 use Rattle.math_rows.specs.Row.{Row, Size, row}
-use Rattle.poly_rows.specs.Terms.{Ready}
+use Rattle.num_mod.specs.Prepared.{Prepared}
+use Rattle.num_mod.specs.declared.Modulus.{Modulus}
 use Rattle.math_ideals.specs.Basis.{Good}
 use Rattle.math_chain.specs.Parts.{Parts, Cut, x1, y1, base}
 use Rattle.field_open.specs.Refusal.{Accepted}
@@ -69,9 +70,9 @@ pub record AreGenerators (p : ℕ) (g h gh : List ℕ) (b : Seven) (o : Generato
   pub hu : Row p (o .u)
   pub each : {G H : List ℕ} (σ : Accepted p G H) → Holds σ g h gh → Good (setting σ) (rowsOf σ b) → Generated σ b o
 
-pub record DividedIn (p mul lim cap : ℕ) (g : List ℕ) (lg : ℕ) (h : List ℕ) (lh : ℕ) (gh : List ℕ) (ie : ℕ) (b : Seven) (x y : Three) (d : List ℕ) : Type 0 where
-  pub inp : GeneratorsIn p cap g h gh ie b
-  pub ready : Ready p mul lim
+pub record DividedIn (q : Modulus) (cap : ℕ) (g : List ℕ) (lg : ℕ) (h : List ℕ) (lh : ℕ) (gh : List ℕ) (ie : ℕ) (b : Seven) (x y : Three) (d : List ℕ) : Type 0 where
+  pub inp : GeneratorsIn (q .p) cap g h gh ie b
+  pub modulus : Prepared q
   pub sg : Size g lg
   pub sh : Size h lh
   pub sgh : Size gh cap

@@ -6,10 +6,11 @@
 use mathlib.Core.Path.{_≡_}
 use mathlib.Core.List.{List}
 use Prim.Native.Nat.{ℕ}
-use Rattle.num_residue.specs.Residue.{Modulus}
+use Rattle.num_mod.specs.Residue.{IsModulus}
 use Rattle.math_rows.specs.Row.{Row, Size}
 use Rattle.poly_rows.specs.Leaf.{Opposite}
-use Rattle.poly_rows.specs.Terms.{Ready}
+use Rattle.num_mod.specs.Prepared.{Prepared}
+use Rattle.num_mod.specs.declared.Modulus.{Modulus}
 use Rattle.math_ideals.specs.Element.{O, times-r, times-w}
 use Rattle.math_ideals.specs.Ideal.{Coords}
 use Rattle.field_open.specs.Refusal.{Accepted}
@@ -20,19 +21,19 @@ use Rattle.basis_lattice.specs.declared.Spans.{Spans}
 use Rattle.basis_lattice.specs.declared.Lengths.{Lengths}
 use Rattle.step_divide.specs.Generated.{GeneratorsIn}
 
-pub record TurnIn (p mul lim : ℕ) (g h gh : List ℕ) (lk : ℕ) (b : Seven) (l : Lengths) (e : List ℕ) (ie : ℕ) (o : Three) : Type 0 where
+pub record TurnIn (q : Modulus) (g h gh : List ℕ) (lk : ℕ) (b : Seven) (l : Lengths) (e : List ℕ) (ie : ℕ) (o : Three) : Type 0 where
   pub cap : ℕ
-  pub inp : GeneratorsIn p cap g h gh ie b
-  pub ready : Ready p mul lim
+  pub inp : GeneratorsIn (q .p) cap g h gh ie b
+  pub modulus : Prepared q
   pub sk : Size gh lk
-  pub found : Found p b e l
+  pub found : Found (q .p) b e l
   pub blank : Blank o
 
-abbrev pub TurnRIn : (p mul lim : ℕ) (h : List ℕ) (lh : ℕ) (gh : List ℕ) → ℕ → Seven → Lengths → List ℕ → ℕ → Three → Type 0
-TurnRIn p mul lim h lh gh lk b l e ie o = (g : List ℕ) × TurnIn p mul lim g h gh lk b l e ie o × Size h lh
+abbrev pub TurnRIn : (q : Modulus) (h : List ℕ) (lh : ℕ) (gh : List ℕ) → ℕ → Seven → Lengths → List ℕ → ℕ → Three → Type 0
+TurnRIn q h lh gh lk b l e ie o = (g : List ℕ) × TurnIn q g h gh lk b l e ie o × Size h lh
 
-abbrev pub TurnWIn : (p mul lim : ℕ) (g : List ℕ) (lg : ℕ) (gh : List ℕ) → ℕ → Seven → Lengths → List ℕ → ℕ → Three → Type 0
-TurnWIn p mul lim g lg gh lk b l e ie o = (h : List ℕ) × TurnIn p mul lim g h gh lk b l e ie o × Size g lg
+abbrev pub TurnWIn : (q : Modulus) (g : List ℕ) (lg : ℕ) (gh : List ℕ) → ℕ → Seven → Lengths → List ℕ → ℕ → Three → Type 0
+TurnWIn q g lg gh lk b l e ie o = (h : List ℕ) × TurnIn q g h gh lk b l e ie o × Size g lg
 
 abbrev pub Says : {p : ℕ} {G H : List ℕ} (σ : Accepted p G H) (b : Seven) → O (setting σ) .El → Three → Type 0
 Says σ b v t = (q : Coords (setting σ) (rowsOf σ b) v) → (polyOf σ (t .a) ≡ q .α) × (polyOf σ (t .b) ≡ q .β) × (polyOf σ (t .c) ≡ q .γ)
@@ -47,7 +48,7 @@ pub record TurnedW (p : ℕ) (g gh : List ℕ) (b : Seven) (t : Three) (o : Span
 
 -- ---- in place
 pub record NegateIn (p : ℕ) (x : List ℕ) (n : ℕ) : Type 0 where
-  pub modulus : Modulus p
+  pub modulus : IsModulus p
   pub hx : Row p x
   pub sx : Size x n
 

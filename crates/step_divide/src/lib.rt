@@ -3,10 +3,10 @@ use basis_lattice::Lengths;
 use basis_lattice::Spans;
 use basis_lattice::coordinates;
 use basis_lattice::lengths_of;
+use num_mod::Modulus;
+use num_mod::reduce_once;
 use poly_content::taken_off;
 use poly_lent::times_in;
-use poly_rows::Rapid;
-use poly_rows::once;
 ghost use mathlib.Core.Path.{_≡_};
 ghost use Rattle.basis_record.specs.Seven.{seven, three};
 ghost use Rattle.step_divide.specs.Turns.{TurnRIn, TurnedR, TurnWIn, TurnedW, NegateIn, Negated};
@@ -14,8 +14,7 @@ ghost use Rattle.step_divide.specs.Generated.{generators, DividedIn, Div
 
 // r m = M2 G H + M0 r + M1 H w in coordinates.
 fn turned_r(
-    p: u64,
-    q: Rapid,
+    q: Modulus,
     h: &[u64; 32],
     lh: usize,
     gh: &[u64; 32],
@@ -34,15 +33,14 @@ fn turned_r(
     b: &mut [u64; 32],
     c: &mut [u64; 32],
 ) -> Spans
-    requires { ⌜ TurnRIn p (q .m) (q .lim) (now h) lh (now gh) lk (seven (now m0) (now m1) (now m2) (now n0) (now n1) (now n2) (now u)) l (now e) ie (three (now a) (now b) (now c)) ⌝ }
-    ensures { λ o. ⌜ TurnedR p (now (h .entry)) (now (gh .entry)) (seven (now (m0 .entry)) (now (m1 .entry)) (now (m2 .entry)) (now (n0 .entry)) (now (n1 .entry)) (now (n2 .entry)) (now (u .entry))) (three (now (a .exit)) (now (b .exit)) (now (c .exit))) o ⌝ }
+    requires { ⌜ TurnRIn q (now h) lh (now gh) lk (seven (now m0) (now m1) (now m2) (now n0) (now n1) (now n2) (now u)) l (now e) ie (three (now a) (now b) (now c)) ⌝ }
+    ensures { λ o. ⌜ TurnedR (q .p) (now (h .entry)) (now (gh .entry)) (seven (now (m0 .entry)) (now (m1 .entry)) (now (m2 .entry)) (now (n0 .entry)) (now (n1 .entry)) (now (n2 .entry)) (now (u .entry))) (three (now (a .exit)) (now (b .exit)) (now (c .exit))) o ⌝ }
 {
     let mut x: [u64; 32] = [0; 32];
     let mut z: [u64; 32] = [0; 32];
-    let nx = times_in(p, q, m2, l.m2, gh, lk, &mut x);
-    let nz = times_in(p, q, m1, l.m1, h, lh, &mut z);
+    let nx = times_in(q, m2, l.m2, gh, lk, &mut x);
+    let nz = times_in(q, m1, l.m1, h, lh, &mut z);
     coordinates(
-        p,
         q,
         &mut x,
         nx,
@@ -68,8 +66,7 @@ fn turned_r(
 
 // w m = M1 G H + M2 G r + M0 w in coordinates.
 fn turned_w(
-    p: u64,
-    q: Rapid,
+    q: Modulus,
     g: &[u64; 32],
     lg: usize,
     gh: &[u64; 32],
@@ -88,15 +85,14 @@ fn turned_w(
     b: &mut [u64; 32],
     c: &mut [u64; 32],
 ) -> Spans
-    requires { ⌜ TurnWIn p (q .m) (q .lim) (now g) lg (now gh) lk (seven (now m0) (now m1) (now m2) (now n0) (now n1) (now n2) (now u)) l (now e) ie (three (now a) (now b) (now c)) ⌝ }
-    ensures { λ o. ⌜ TurnedW p (now (g .entry)) (now (gh .entry)) (seven (now (m0 .entry)) (now (m1 .entry)) (now (m2 .entry)) (now (n0 .entry)) (now (n1 .entry)) (now (n2 .entry)) (now (u .entry))) (three (now (a .exit)) (now (b .exit)) (now (c .exit))) o ⌝ }
+    requires { ⌜ TurnWIn q (now g) lg (now gh) lk (seven (now m0) (now m1) (now m2) (now n0) (now n1) (now n2) (now u)) l (now e) ie (three (now a) (now b) (now c)) ⌝ }
+    ensures { λ o. ⌜ TurnedW (q .p) (now (g .entry)) (now (gh .entry)) (seven (now (m0 .entry)) (now (m1 .entry)) (now (m2 .entry)) (now (n0 .entry)) (now (n1 .entry)) (now (n2 .entry)) (now (u .entry))) (three (now (a .exit)) (now (b .exit)) (now (c .exit))) o ⌝ }
 {
     let mut x: [u64; 32] = [0; 32];
     let mut y: [u64; 32] = [0; 32];
-    let nx = times_in(p, q, m1, l.m1, gh, lk, &mut x);
-    let ny = times_in(p, q, m2, l.m2, g, lg, &mut y);
+    let nx = times_in(q, m1, l.m1, gh, lk, &mut x);
+    let ny = times_in(q, m2, l.m2, g, lg, &mut y);
     coordinates(
-        p,
         q,
         &mut x,
         nx,
@@ -127,7 +123,7 @@ fn negate(p: u64, x: &mut [u64; 32], n: usize)
 {
     let mut i: usize = 0;
     while i < n {
-        let v = once(p, p - x[i]);
+        let v = reduce_once(p, p - x[i]);
         x[i] = v;
         i += 1;
     }
@@ -147,8 +143,7 @@ pub struct Cuts {
 // have in common, and the denominator d = (x2 y0 - x0 y2)/k. The pairs (-y2, x2)/k and (y0, -x0)/k are the generators P and Q. lg, lh and
 // cap are the lengths of G, H and G H, and all rows lent end before cap; ie = -lead(G H) is the inverse of the leading coefficient of e.
 pub fn divided(
-    p: u64,
-    q: Rapid,
+    q: Modulus,
     cap: usize,
     g: &[u64; 32],
     lg: usize,
@@ -171,16 +166,54 @@ pub fn divided(
     yc: &mut [u64; 32],
     d: &mut [u64; 32],
 ) -> Cuts
-    requires { ⌜ DividedIn p (q .m) (q .lim) cap (now g) lg (now h) lh (now gh) ie (seven (now m0) (now m1) (now m2) (now n0) (now n1) (now n2) (now u)) (three (now xa) (now xb) (now xc)) (three (now ya) (now yb) (now yc)) (now d) ⌝ }
-    ensures { λ o. ⌜ Divided p (now (g .entry)) (now (h .entry)) (now (gh .entry)) (seven (now (m0 .entry)) (now (m1 .entry)) (now (m2 .entry)) (now (n0 .entry)) (now (n1 .entry)) (now (n2 .entry)) (now (u .entry))) (generators (now (xb .exit)) (now (yb .exit)) (now (yc .exit)) (now (xc .exit)) (now (ya .exit)) (now (xa .exit)) (now (d .exit)) (o .cut)) o ⌝ }
+    requires { ⌜ DividedIn q cap (now g) lg (now h) lh (now gh) ie (seven (now m0) (now m1) (now m2) (now n0) (now n1) (now n2) (now u)) (three (now xa) (now xb) (now xc)) (three (now ya) (now yb) (now yc)) (now d) ⌝ }
+    ensures { λ o. ⌜ Divided (q .p) (now (g .entry)) (now (h .entry)) (now (gh .entry)) (seven (now (m0 .entry)) (now (m1 .entry)) (now (m2 .entry)) (now (n0 .entry)) (now (n1 .entry)) (now (n2 .entry)) (now (u .entry))) (generators (now (xb .exit)) (now (yb .exit)) (now (yc .exit)) (now (xc .exit)) (now (ya .exit)) (now (xa .exit)) (now (d .exit)) (o .cut)) o ⌝ }
 {
     let mut e: [u64; 32] = [0; 32];
-    let l = lengths_of(p, q, cap, m0, m1, m2, n0, n1, n2, u, &mut e);
-    let x = turned_r(p, q, h, lh, gh, cap, m0, m1, m2, n0, n1, n2, u, l, &e, ie, xa, xb, xc);
-    let y = turned_w(p, q, g, lg, gh, cap, m0, m1, m2, n0, n1, n2, u, l, &e, ie, ya, yb, yc);
-    negate(p, xa, x.a);
-    negate(p, yc, y.c);
-    let o = taken_off(p, q, xa, x.a, xc, x.c, ya, y.a, yc, y.c, d);
+    let l = lengths_of(q, cap, m0, m1, m2, n0, n1, n2, u, &mut e);
+    let x = turned_r(
+        q,
+        h,
+        lh,
+        gh,
+        cap,
+        m0,
+        m1,
+        m2,
+        n0,
+        n1,
+        n2,
+        u,
+        l,
+        &e,
+        ie,
+        xa,
+        xb,
+        xc,
+    );
+    let y = turned_w(
+        q,
+        g,
+        lg,
+        gh,
+        cap,
+        m0,
+        m1,
+        m2,
+        n0,
+        n1,
+        n2,
+        u,
+        l,
+        &e,
+        ie,
+        ya,
+        yb,
+        yc,
+    );
+    negate(q.p, xa, x.a);
+    negate(q.p, yc, y.c);
+    let o = taken_off(q, xa, x.a, xc, x.c, ya, y.a, yc, y.c, d);
     Cuts {
         cut: o.cut,
         x: x.b,

@@ -7,7 +7,9 @@ use lib.ListN.{getD}
 use Rattle.math_valued.specs.Val.{Valued}
 use Rattle.math_valued.proofs.Degree as d
 use Rattle.math_valued.proofs.Polynomial.{P-path, const-unit}
-use Rattle.num_residue.specs.Residue.{Modulus}
+use Rattle.num_mod.specs.Residue.{IsModulus}
+use Rattle.num_mod.specs.Prepared.{PreparedOf, ready}
+use Rattle.num_mod.specs.declared.Modulus.{Modulus}
 use Rattle.math_rows.specs.Made.{reading}
 use Rattle.math_rows.specs.Row.{Size}
 use Rattle.poly_rows.proofs.Leaf.{size-one}
@@ -27,7 +29,8 @@ use Rattle.basis_record.specs.Record.{setting, polyOf, basisOf}
 use Rattle.basis_record.specs.Seven.{Seven, seven, AreRows, rowsOf}
 use Rattle.step_divide.proofs.Products.{sizes}
 use Rattle.step_divide.specs.Generated.{Generators, Generated, GeneratorsIn, AreGenerators}
-use Rattle.basis_reduce.specs.Frame.{frame}
+use Rattle.basis_parts.specs.Frame.{frame}
+use Rattle.basis_reduce.specs.Clear as reduced
 use Rattle.basis_record.specs.Store.{SevenLoaded}
 use Rattle.basis_scale.specs.Based.{BasisIn, BasedAt, Based}
 use Rattle.basis_record.proofs.Loads.{rows-are, rows-path, rows-good}
@@ -89,8 +92,22 @@ degree-of {p} A b rows good lm lu sm su =
     (omega arith, record { x = s .x; u = s .u; M-deg = ev-M (setting A) (rowsOf A b) s; U-deg = s .U-has; eq = omega arith })
 
 -- ---- what `advanced` asks and makes
-pub field-modulus : {p : ℕ} {g h gh : List ℕ} {n dr dw : ℕ} {r w B : List ℕ} → AdvanceIn p g h gh n dr dw r w B → Modulus p
+pub field-modulus : {p : ℕ} {g h gh : List ℕ} {n dr dw : ℕ} {r w B : List ℕ} → AdvanceIn p g h gh n dr dw r w B → IsModulus p
 field-modulus {p} i = let A = i .keeps .accepted in record { big = A .prime .big; small = (let l : p ≤ 65535 = A .high in omega arith) }
+
+-- the prepared modulus in place of its number
+module _ {q : Modulus} (e : PreparedOf (q .p) q) {r w : List ℕ} {dr dw : ℕ} {o : reduced.Pair} {d x y : List ℕ} where
+  pub basis-by : {top : ℕ} → BasisIn (frame (ready (q .p)) r w dr dw) o top d x y → BasisIn (frame q r w dr dw) o top d x y
+  basis-by {top} h = subst (λ m. BasisIn (frame m r w dr dw) o top d x y) (sym (e .same)) h
+
+  pub based-by : {B : List ℕ} → Based (frame q r w dr dw) o d x y B → Based (frame (ready (q .p)) r w dr dw) o d x y B
+  based-by {B} h = subst (λ m. Based (frame m r w dr dw) o d x y B) (e .same) h
+
+pub advance-by : {p : ℕ} {q : Modulus} {g h gh : List ℕ} {n dr dw : ℕ} {r w B : List ℕ} → PreparedOf p q → AdvanceIn p g h gh n dr dw r w B → AdvanceIn (q .p) g h gh n dr dw r w B
+advance-by {g = g} {h = h} {gh = gh} {n = n} {dr = dr} {dw = dw} {r = r} {w = w} {B = B} e i = subst (λ p. AdvanceIn p g h gh n dr dw r w B) (sym (e .is)) i
+
+pub advanced-by : {p : ℕ} {q : Modulus} {g h gh : List ℕ} {n dr dw : ℕ} {r w B : List ℕ} {a : Advance} → PreparedOf p q → Advanced (q .p) g h gh n dr dw r w B a → Advanced p g h gh n dr dw r w B a
+advanced-by {g = g} {h = h} {gh = gh} {n = n} {dr = dr} {dw = dw} {r = r} {w = w} {B = B} {a = a} e i = subst (λ p. Advanced p g h gh n dr dw r w B a) (e .is) i
 
 module _ {p : ℕ} {g h gh : List ℕ} {n dr dw : ℕ} {r w B : List ℕ} (i : AdvanceIn p g h gh n dr dw r w B) {b : Seven} (l : SevenLoaded B b) where
   abbrev A : Accepted p (i .G) (i .H)
@@ -159,11 +176,11 @@ module _ {p : ℕ} {g h gh : List ℕ} {n dr dw : ℕ} {r w B : List ℕ} (i : A
   pub cut-fits : {o : Generators} → AreGenerators p g h gh b o → o .cut ≤ n
   cut-fits ho = cut-low A (i .keeps) b good-rows (generator-rows ho) (ho .each A (i .keeps .known A .holds) good-rows)
 
-  pub reduced-in : {o : Generators} → AreGenerators p g h gh b o → BasisIn (frame p r w dr dw) (pairOf o) (n + 1 - o .cut) (o .u) (o .x) (o .y)
+  pub reduced-in : {o : Generators} → AreGenerators p g h gh b o → BasisIn (frame (ready p) r w dr dw) (pairOf o) (n + 1 - o .cut) (o .u) (o .x) (o .y)
   reduced-in ho = basis-in A (i .keeps) b good-rows (generator-rows ho) (ho .each A (i .keeps .known A .holds) good-rows)
 
   pub advanced-of : {o : Generators} → AreGenerators p g h gh b o → (lm lu : ℕ) → Size (b .m0) lm → Size (b .u) lu
-      → (a : Advance) → Based (frame p r w dr dw) (pairOf o) (o .u) (o .x) (o .y) (a .basis) → a .degree ≡ lm - lu → Advanced p g h gh n dr dw r w B a
+      → (a : Advance) → Based (frame (ready p) r w dr dw) (pairOf o) (o .u) (o .x) (o .y) (a .basis) → a .degree ≡ lm - lu → Advanced p g h gh n dr dw r w B a
   advanced-of {o} ho lm lu sm su a hb e = λ G H kp rec.
       let goodAt : (A : Accepted p G H) → Good (setting A) (rowsOf A b) = λ A. rows-good A l (rec .good A) in
       let step : (A : Accepted p G H) → Good (setting A) (basisOf A (a .basis)) × Next (setting A) (rowsOf A b) (basisOf A (a .basis)) =

@@ -9,6 +9,8 @@ use Rattle.math_valued.specs.Degree.{Has, Lt}
 use Rattle.math_valued.specs.Polynomial.{polys, Poly}
 use Rattle.math_valued.proofs.Degree as d
 use Rattle.math_valued.proofs.Polynomial.{view, not-zero}
+use Rattle.num_mod.specs.Prepared.{ready}
+use Rattle.num_mod.proofs.Prepared.{ready-prepared}
 use Rattle.math_rows.specs.Reading.{Reading}
 use Rattle.math_rows.specs.Made.{reading}
 use Rattle.math_rows.specs.Row.{Row, row}
@@ -26,7 +28,7 @@ use Rattle.basis_record.specs.Seven.{Seven, rowsOf}
 use Rattle.step_divide.specs.Generated.{Generators, Generated}
 use Rattle.step_divide.proofs.Coordinates.{r-narrow, w-narrow}
 use Rattle.step_divide.proofs.Products.{sizes}
-use Rattle.basis_reduce.specs.Frame.{frame, Meaning, Short}
+use Rattle.basis_parts.specs.Frame.{frame, Meaning, Short}
 use Rattle.basis_reduce.specs.Clear.{Pair, pair, ClearIn}
 use Rattle.basis_scale.specs.Based.{BasisIn}
 use Rattle.poly_rows.proofs.Lengths.{row-short, size-of, odd-prime}
@@ -46,7 +48,7 @@ pub record RowsOf (p : ℕ) (o : Generators) : Type 0 where
   pub hu : Row p (o .u)
 
 module _ {p : ℕ} {G H : List ℕ} (A : Accepted p G H) {g h gh : List ℕ} {n dr dw : ℕ} {r w : List ℕ} (k : Known A g h gh n dr dw r w) where
-  abbrev pub meaning : Meaning (frame p r w dr dw)
+  abbrev pub meaning : Meaning (frame (ready p) r w dr dw)
   meaning = record {
     prime = A .prime;
     r = setting A .roots .r;
@@ -113,7 +115,7 @@ module _ {p : ℕ} {G H : List ℕ} (A : Accepted p G H) {g h gh : List ℕ} {n 
         ]
       ]
 
-  abbrev μ : Meaning (frame p r w dr dw)
+  abbrev μ : Meaning (frame (ready p) r w dr dw)
   μ = meaning A (kp .known A)
 
   -- the sizes of the two elements
@@ -195,11 +197,11 @@ module _ {p : ℕ} {G H : List ℕ} (A : Accepted p G H) {g h gh : List ℕ} {n 
   short-c x y {i} hy l lx ly = row-short ρ (suc (rm .s) - dw) hy
       (c-lt ρ (setting A .roots .r) (setting A .roots .w) {a = at x y} dw (suc (rm .s) - dw) (setting A .roots .two≢) (μ .w-deg) lx ly (let q : dw ≤ suc (rm .s) = dw-low in omega arith))
 
-  clear-in : ClearIn (frame p r w dr dw) (pairOf o) (suc (rm .s)) (suc (rm .u))
+  clear-in : ClearIn (frame (ready p) r w dr dw) (pairOf o) (suc (rm .s)) (suc (rm .u))
   clear-in = record {
     room = record {
       fine = record {
-        modulus = record { big = A .prime .big; small = (let l : p ≤ 65535 = A .high in omega arith) };
+        modulus = ready-prepared p (record { big = A .prime .big; small = (let l : p ≤ 65535 = A .high in omega arith) });
         hr = kp .hr;
         hw = kp .hw;
       };
@@ -235,7 +237,7 @@ module _ {p : ℕ} {G H : List ℕ} (A : Accepted p G H) {g h gh : List ℕ} {n 
   u-has : Has (ρ .𝓥) (row ρ (o .u)) (rm .u)
   u-has = d.has-eq (ρ .𝓥) (rm .d-has) (sym (ap (λ t. t .0) (m .u-is)))
 
-  basis-in′ : BasisIn (frame p r w dr dw) (pairOf o) (suc (rm .s)) (o .u) (o .x) (o .y)
+  basis-in′ : BasisIn (frame (ready p) r w dr dw) (pairOf o) (suc (rm .s)) (o .u) (o .x) (o .y)
   basis-in′ =
       let nx = r-narrow (setting A) (rowsOf A b) (small (setting A) (rowsOf A b) good) good (m .k .of-r) in
       let ny = w-narrow (setting A) (rowsOf A b) (small (setting A) (rowsOf A b) good) good (m .k .of-w) in
@@ -255,5 +257,5 @@ module _ {p : ℕ} {G H : List ℕ} (A : Accepted p G H) {g h gh : List ℕ} {n 
         clear = clear-in;
       }
 
-  pub basis-in : BasisIn (frame p r w dr dw) (pairOf o) (n + 1 - o .cut) (o .u) (o .x) (o .y)
-  basis-in = subst (λ j. BasisIn (frame p r w dr dw) (pairOf o) j (o .u) (o .x) (o .y)) whole basis-in′
+  pub basis-in : BasisIn (frame (ready p) r w dr dw) (pairOf o) (n + 1 - o .cut) (o .u) (o .x) (o .y)
+  basis-in = subst (λ j. BasisIn (frame (ready p) r w dr dw) (pairOf o) j (o .u) (o .x) (o .y)) whole basis-in′

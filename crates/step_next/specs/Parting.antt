@@ -1,29 +1,30 @@
 -- A step on rows, and its first half: from the record to the generators of the ideal divided by m.
---   AdvanceOn   what `advanced` asks, and seven zero rows
+--   AdvanceOn   what `advanced` asks, the modulus prepared, and seven zero rows
 --   PartIn      the same for some series r, w of the degrees dr, dw
 --   Parting     the generators (`Divided` of crate step_divide) of the seven rows of the record, and the degree of m
 use mathlib.Core.Path.{_≡_}
 use mathlib.Core.List.{List}
 use Prim.Native.Nat.{ℕ, _-_}
 use lib.ListN.{replicate}
-use Rattle.poly_rows.specs.Terms.{Ready}
+use Rattle.num_mod.specs.Prepared.{PreparedOf}
+use Rattle.num_mod.specs.declared.Modulus.{Modulus}
 use Rattle.basis_record.specs.Seven.{Seven, Three, Blank}
 use Rattle.step_divide.specs.Generated.{Generators, Divided}
 use Rattle.basis_record.specs.Store.{SevenLoaded}
 use Rattle.step_next.specs.Steps.{AdvanceIn}
 use Rattle.step_next.specs.declared.Measures.{Measures}
 
-pub record AdvanceOn (p mul lim : ℕ) (g h gh : List ℕ) (n dr dw : ℕ) (r w B : List ℕ) (x y : Three) (d : List ℕ) : Type 0 where
-  pub inp : AdvanceIn p g h gh n dr dw r w B
-  pub ready : Ready p mul lim
+pub record AdvanceOn (q : Modulus) (g h gh : List ℕ) (n dr dw : ℕ) (r w B : List ℕ) (x y : Three) (d : List ℕ) : Type 0 where
+  pub inp : AdvanceIn (q .p) g h gh n dr dw r w B
+  pub modulus : PreparedOf (q .p) q
   pub blank-x : Blank x
   pub blank-y : Blank y
   pub blank-d : d ≡ replicate 32 0
 
-pub record PartIn (p mul lim : ℕ) (g h gh : List ℕ) (n dr dw : ℕ) (B : List ℕ) (x y : Three) (d : List ℕ) : Type 0 where
+pub record PartIn (q : Modulus) (g h gh : List ℕ) (n dr dw : ℕ) (B : List ℕ) (x y : Three) (d : List ℕ) : Type 0 where
   pub r : List ℕ
   pub w : List ℕ
-  pub on : AdvanceOn p mul lim g h gh n dr dw r w B x y d
+  pub on : AdvanceOn q g h gh n dr dw r w B x y d
 
 pub record Parting (p : ℕ) (g h gh B : List ℕ) (o : Generators) (k : Measures) : Type 0 where
   pub b : Seven

@@ -1,9 +1,10 @@
 // The step: from the record of a reduced ideal to that of the ideal divided by m, with the degree of m.
+use basis_parts::Bounds;
 use basis_record::load;
 use basis_scale::reduced_basis;
-use poly_rows::Rapid;
-use poly_rows::rapid_of;
-use basis_reduce::Bounds;
+use num_mod::Modulus;
+use num_mod::prepare;
+use step_divide::divided;
 ghost use Rattle.basis_record.specs.Seven.{three};
 ghost use Rattle.step_divide.specs.Generated.{generators};
 ghost use Rattle.step_next.specs.Steps.{AdvanceIn, Advanced};
@@ -22,8 +23,7 @@ pub struct Measures {
 // The generators of the ideal divided by m, into seven zero rows. The rows of the record end before n + 1, which is the length of G H.
 // The lengths of G and H follow from the degrees of r and w: these are (deg G + 2 deg H)/3 and (2 deg G + deg H)/3.
 fn parted(
-    p: u64,
-    q: Rapid,
+    q: Modulus,
     g: &[u64; 32],
     h: &[u64; 32],
     gh: &[u64; 32],
@@ -39,8 +39,8 @@ fn parted(
     mb: &mut [u64; 32],
     d: &mut [u64; 32],
 ) -> Measures
-    requires { ⌜ PartIn p (q .m) (q .lim) (now g) (now h) (now gh) n dr dw (now b) (three (now nc) (now x) (now mc)) (three (now nb) (now y) (now mb)) (now d) ⌝ }
-    ensures { λ o. ⌜ Parting p (now (g .entry)) (now (h .entry)) (now (gh .entry)) (now (b .entry)) (generators (now (x .exit)) (now (y .exit)) (now (mb .exit)) (now (mc .exit)) (now (nb .exit)) (now (nc .exit)) (now (d .exit)) (o .cut)) o ⌝ }
+    requires { ⌜ PartIn q (now g) (now h) (now gh) n dr dw (now b) (three (now nc) (now x) (now mc)) (three (now nb) (now y) (now mb)) (now d) ⌝ }
+    ensures { λ o. ⌜ Parting (q .p) (now (g .entry)) (now (h .entry)) (now (gh .entry)) (now (b .entry)) (generators (now (x .exit)) (now (y .exit)) (now (mb .exit)) (now (mc .exit)) (now (nb .exit)) (now (nc .exit)) (now (d .exit)) (o .cut)) o ⌝ }
 {
     let m0 = load(b, 0);
     let m1 = load(b, 1);
@@ -51,7 +51,6 @@ fn parted(
     let u = load(b, 6);
     let l = gh[n];
     let k = divided(
-        p,
         q,
         n + 1,
         g,
@@ -59,7 +58,7 @@ fn parted(
         h,
         2 * dr + 1 - dw,
         gh,
-        p - l,
+        q.p - l,
         &m0,
         &m1,
         &m2,
@@ -92,8 +91,7 @@ pub struct Advance {
 
 // The step, on seven zero rows for the generators, which are turned in place.
 fn advance_in(
-    p: u64,
-    q: Rapid,
+    q: Modulus,
     g: &[u64; 32],
     h: &[u64; 32],
     gh: &[u64; 32],
@@ -111,17 +109,17 @@ fn advance_in(
     mb: &mut [u64; 32],
     d: &mut [u64; 32],
 ) -> Advance
-    requires { ⌜ AdvanceOn p (q .m) (q .lim) (now g) (now h) (now gh) n dr dw (now r) (now w) (now b) (three (now nc) (now x) (now mc)) (three (now nb) (now y) (now mb)) (now d) ⌝ }
-    ensures { λ o. ⌜ Advanced p (now (g .entry)) (now (h .entry)) (now (gh .entry)) n dr dw (now (r .entry)) (now (w .entry)) (now (b .entry)) o ⌝ }
+    requires { ⌜ AdvanceOn q (now g) (now h) (now gh) n dr dw (now r) (now w) (now b) (three (now nc) (now x) (now mc)) (three (now nb) (now y) (now mb)) (now d) ⌝ }
+    ensures { λ o. ⌜ Advanced (q .p) (now (g .entry)) (now (h .entry)) (now (gh .entry)) n dr dw (now (r .entry)) (now (w .entry)) (now (b .entry)) o ⌝ }
 {
-    let k = parted(p, q, g, h, gh, n, dr, dw, b, nc, x, mc, nb, y, mb, d);
+    let k = parted(q, g, h, gh, n, dr, dw, b, nc, x, mc, nb, y, mb, d);
     let f = Bounds {
-        p,
+        m: q,
         dr,
         dw,
         top: n + 1 - k.cut,
     };
-    let o = reduced_basis(f, q, r, w, mb, mc, nb, nc, d, k.d, x, k.x, y, k.y);
+    let o = reduced_basis(f, r, w, mb, mc, nb, nc, d, k.d, x, k.x, y, k.y);
     Advance {
         degree: k.degree as u64,
         basis: o,
@@ -144,7 +142,7 @@ pub fn advanced(
     requires { ⌜ AdvanceIn p (now g) (now h) (now gh) n dr dw (now r) (now w) (now b) ⌝ }
     ensures { λ o. ⌜ Advanced p (now (g .entry)) (now (h .entry)) (now (gh .entry)) n dr dw (now (r .entry)) (now (w .entry)) (now (b .entry)) o ⌝ }
 {
-    let q = rapid_of(p);
+    let q = prepare(p);
     let mut nc: [u64; 32] = [0; 32];
     let mut x: [u64; 32] = [0; 32];
     let mut mc: [u64; 32] = [0; 32];
@@ -153,7 +151,6 @@ pub fn advanced(
     let mut mb: [u64; 32] = [0; 32];
     let mut d: [u64; 32] = [0; 32];
     advance_in(
-        p,
         q,
         g,
         h,

@@ -1,9 +1,9 @@
 // The rows F0, F1, F2 of the inverse, after those of E in the lent slice of crate unit_rows.
+use base_lists::wide;
+use num_mod::inverse;
 use poly_long::clear;
 use poly_long::mix;
 use poly_long::scale;
-use num_residue::inverse;
-use base_lists::wide;
 ghost use Rattle.unit_inverse.specs.Inverse.{PairIn, Pair, CofactorIn, Cofactor, NormIn, Norm, InvertIn, Inverted};
 
 // The low k coefficients of the products of the rows at x and y and of those at v and w, one after the other.

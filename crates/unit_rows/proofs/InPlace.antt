@@ -7,7 +7,7 @@ use lib.ListN.{length, getD, take, drop, replicate}
 use lib.Seq.{getD-take, getD-drop}
 use Rattle.math_rows.specs.Made.{reading}
 use Rattle.math_rows.specs.Row.{row}
-use Rattle.num_residue.specs.Residue.{Inverse, Nonzero}
+use Rattle.num_mod.specs.Residue.{Inverse, Nonzero}
 use Rattle.poly_long.specs.Long.{Scaled}
 use Rattle.base_lists.specs.Pieces.{cut, between}
 use Rattle.unit_rows.specs.Six.{TimesIn, Times, TurnIn, Turn, MonicIn, MonicMade}

@@ -1,11 +1,11 @@
 // The six rows of a unit and its inverse, in one lent slice: E0, E1, E2, F0, F1, F2 of c coefficients each. Here the rows of E.
+use base_lists::wide;
+use num_mod::inverse;
 use poly_long::clear;
 use poly_long::copy;
 use poly_long::quotient;
 use poly_long::scale;
 use poly_long::size;
-use base_lists::wide;
-use num_residue::inverse;
 ghost use mathlib.Core.Path.{_≡_};
 ghost use Rattle.unit_rows.specs.Six.{ByIn, By, CoordinateIn, Coordinate, TimesIn, Times, TurnIn, Turn, MonicIn, MonicMade};
 ghost use lib.ListN.{length, replicate};

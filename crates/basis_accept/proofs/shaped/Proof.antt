@@ -15,18 +15,15 @@ part-requires-3 c κs = part-n (c .before .before .pre)
 part-requires-4 : tie.Need-part-requires-4
 part-requires-4 c κs = part-n (c .before .before .before .pre)
 
-rapid-of-requires : tie.Need-rapid-of-requires
-rapid-of-requires c κs = c .before .before .before .before .pre .fine .modulus
-
 cross-in-requires : tie.Need-cross-in-requires
 cross-in-requires c κs =
     let i = c .before .before .before .before .before .before .before .pre in
-    twice-in i (c .before .before .rapid-of .ensures) (i .rows 0) (c .before .before .before .before .before .before .part .ensures .short .is-row)
+    twice-in i (i .rows 0) (c .before .before .before .before .before .before .part .ensures .short .is-row)
 
 cross-in-requires-2 : tie.Need-cross-in-requires-2
 cross-in-requires-2 c κs =
     let i = c .before .before .before .before .before .before .before .before .before .before .pre in
-    twice-in i (c .before .before .before .before .before .rapid-of .ensures) (i .rows 3) (c .before .before .before .before .before .before .before .part3 .ensures .short .is-row)
+    twice-in i (i .rows 3) (c .before .before .before .before .before .before .before .part3 .ensures .short .is-row)
 
 shape-requires : tie.Need-shape-requires
 shape-requires c κs = record {
@@ -56,7 +53,6 @@ shaped-spec =
     part-requires-2
     part-requires-3
     part-requires-4
-    rapid-of-requires
     cross-in-requires
     cross-in-requires-2
     shape-requires

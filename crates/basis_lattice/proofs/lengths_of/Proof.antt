@@ -32,10 +32,17 @@ det-in-requires c κs =
     let n1 = c .before .before .before .size-from5 .ensures in
     let n2 = c .before .before .size-from6 .ensures in
     record {
-      modulus = i .modulus; ready = i .ready;
-      hx = i .rows 1; hy = i .rows 5; hz = i .rows 2; hv = i .rows 4;
-      sx = m1; sy = n2; sz = m2; sv = n1;
-      left = i .left _ _ m1 n2; right = i .right _ _ m2 n1;
+      modulus = i .modulus;
+      hx = i .rows 1;
+      hy = i .rows 5;
+      hz = i .rows 2;
+      hv = i .rows 4;
+      sx = m1;
+      sy = n2;
+      sz = m2;
+      sv = n1;
+      left = i .left _ _ m1 n2;
+      right = i .right _ _ m2 n1;
       blank = i .blank;
     }
 

@@ -6,32 +6,39 @@ use Rattle.basis_reduce.proofs.canceled.Statement.{statement}
 use Rattle.basis_reduce.proofs.canceled.Tie as tie
 
 sub-k : tie.Need-sub-k
-sub-k c = c .before .before .pre .inp .over
+sub-k c = c .before .before .before .pre .over
 
 sub-cross-in : tie.Need-sub-cross-in
-sub-cross-in c = c .before .before .before .pre .inp .room .low-r
+sub-cross-in c = c .before .before .before .before .pre .room .low-r
 
 cross-in-requires : tie.Need-cross-in-requires
-cross-in-requires c κs = cancel-b (c .before .before .before .pre .inp) (c .before .before .before .pre .ready)
+cross-in-requires c κs = cancel-b (c .before .before .before .before .pre)
 
 sub-cross-in-2 : tie.Need-sub-cross-in-2
-sub-cross-in-2 c = c .before .before .before .before .before .pre .inp .room .low-w
+sub-cross-in-2 c = c .before .before .before .before .before .before .pre .room .low-w
 
 cross-in-requires-2 : tie.Need-cross-in-requires-2
-cross-in-requires-2 c κs = cancel-c (c .before .before .before .before .before .pre .inp) (c .before .before .before .before .before .pre .ready)
+cross-in-requires-2 c κs = cancel-c (c .before .before .before .before .before .before .pre)
 
 sub-top-of : tie.Need-sub-top-of
 sub-top-of c =
-    let s = c .before .before .before .before .before .before .before .before .before in
-    let u : s .args .low < s .args .b .n = s .pre .inp .past in
-    let v : s .args .b .n ≤ s .args .a .n = s .pre .inp .over in
+    let s = c .before .before .before .before .before .before .before .before .before .before in
+    let u : s .args .low < s .args .b .n = s .pre .past in
+    let v : s .args .b .n ≤ s .args .a .n = s .pre .over in
     omega arith
 
 top-of-requires : tie.Need-top-of-requires
-top-of-requires c κs = cancel-top (c .before .before .before .before .before .before .before .before .before .pre .inp) (c .before .before .before .before .before .cross-in .ensures) (c .before .before .before .cross-in2 .ensures) (c .before .before .before .before .before .before .before .before .before .pre .ready)
+top-of-requires c κs =
+    let at5 = c .before .before .before .before .before in
+    let at10 = at5 .before .before .before .before .before in
+    cancel-top (at10 .pre) (at5 .cross-in .ensures) (c .before .before .before .cross-in2 .ensures)
 
 returns : tie.Need-returns
-returns c = cancel-made (c .before .before .before .before .before .before .before .before .before .before .pre .inp) (c .before .before .before .before .before .before .cross-in .ensures) (c .before .before .before .before .cross-in2 .ensures) (c .top-of .ensures)
+returns c =
+    let at4 = c .before .before .before .before in
+    let at6 = at4 .before .before in
+    let at11 = at6 .before .before .before .before .before in
+    cancel-made (at11 .pre) (at6 .cross-in .ensures) (at4 .cross-in2 .ensures) (c .top-of .ensures)
 
 pub canceled-spec : {M : Type 1} → statement M
 canceled-spec =

@@ -1,7 +1,7 @@
 -- `basis_reduce::clear_x` meets its contract: each turn is `shear-turn`; the length of X(n) falls.
 use Prim.Native.Nat.{_-_, _<_}
 use native.Mathlib.Omega.{arith}
-use Rattle.basis_reduce.specs.Given.{given}
+use Rattle.basis_parts.specs.Given.{given}
 use Rattle.basis_reduce.specs.Clear.{Shearing, pair}
 use Rattle.basis_reduce.proofs.Clearing.{part-in, part-below}
 use Rattle.basis_reduce.proofs.Shearing.{shear-pos, shear-low, shear-top, shear-start, shear-turn-in, shear-less, shear-turn, shear-end}
@@ -9,13 +9,13 @@ use Rattle.basis_reduce.proofs.clear_x.Statement.{statement}
 use Rattle.basis_reduce.proofs.clear_x.Tie as tie
 
 abbrev Inv-loop : tie.InvT-loop
-Inv-loop f fast r w mb mc mx nb₀ nc₀ nx top l low x1 x2₀ nb nc x2 = Shearing (given f r w) (pair mb mc nb₀ nc₀) (f .top) nb nc x1 x2
+Inv-loop f r w mb mc mx nb₀ nc₀ nx top l low x1 x2₀ nb nc x2 = Shearing (given f r w) (pair mb mc nb₀ nc₀) (f .top) nb nc x1 x2
 
 abbrev μ-loop : tie.MeasureT-loop
-μ-loop f fast r w mb mc mx nb₀ nc₀ nx top l low x1 x2₀ nb nc x2 = x2 .n
+μ-loop f r w mb mc mx nb₀ nc₀ nx top l low x1 x2₀ nb nc x2 = x2 .n
 
 part-in-requires : tie.Need-part-in-requires Inv-loop μ-loop
-part-in-requires c κs = let g = c .before .pre in record { inp = part-in (g .inp .room) (g .inp .hm); ready = g .ready; hz = g .hmx }
+part-in-requires c κs = let g = c .before .pre in record { inp = part-in (g .inp .room) (g .inp .hm); hz = g .hmx }
 
 size-from-requires : tie.Need-size-from-requires Inv-loop μ-loop
 size-from-requires c κs = part-below (c .before .before .before .pre .inp .room) (c .before .part-in .ensures)
@@ -23,20 +23,30 @@ size-from-requires c κs = part-below (c .before .before .before .pre .inp .room
 sub-low : tie.Need-sub-low Inv-loop μ-loop
 sub-low c = shear-pos (c .before .before .before .before .pre .inp) (c .before .before .part-in .ensures) _ (c .size-from .ensures)
 
-mul-t20 : tie.Need-mul-t20 Inv-loop μ-loop
-mul-t20 c = let l : c .size-from .result - 1 < 32 = shear-low (c .before .before .before .before .pre .inp) (c .before .before .part-in .ensures) _ (c .size-from .ensures) in record { fits = omega arith }
+mul-t19 : tie.Need-mul-t19 Inv-loop μ-loop
+mul-t19 c =
+    let at4 = c .before .before .before .before in
+    let l : c .size-from .result - 1 < 32 = shear-low (at4 .pre .inp) (c .before .before .part-in .ensures) _ (c .size-from .ensures) in
+    record { fits = omega arith }
 
-element-copy-out-t23 : tie.Need-element-copy-out-t23 Inv-loop μ-loop
-element-copy-out-t23 c = shear-low (c .before .before .before .before .pre .inp) (c .before .before .part-in .ensures) _ (c .size-from .ensures)
+element-copy-out-t22 : tie.Need-element-copy-out-t22 Inv-loop μ-loop
+element-copy-out-t22 c = shear-low (c .before .before .before .before .pre .inp) (c .before .before .part-in .ensures) _ (c .size-from .ensures)
 
 top-of-requires : tie.Need-top-of-requires Inv-loop μ-loop
-top-of-requires c κs = shear-top (c .before .before .before .before .before .before .before .pre .inp) (c .before .before .before .before .before .part-in .ensures) _ (c .before .before .before .size-from .ensures) (c .before .before .before .before .before .before .before .pre .ready)
+top-of-requires c κs =
+    let at5 = c .before .before .before .before .before in
+    let at7 = at5 .before .before in
+    shear-top (at7 .pre .inp) (at5 .part-in .ensures) _ (c .before .before .before .size-from .ensures)
 
 loop-holds : tie.Need-loop-holds Inv-loop μ-loop
-loop-holds c = shear-start (c .before .before .before .before .before .before .before .before .pre .inp) (c .before .before .before .before .before .before .part-in .ensures) _ (c .before .before .before .before .size-from .ensures) (c .top-of .ensures)
+loop-holds c =
+    let at4 = c .before .before .before .before in
+    let at6 = at4 .before .before in
+    let at8 = at6 .before .before in
+    shear-start (at8 .pre .inp) (at6 .part-in .ensures) _ (at4 .size-from .ensures) (c .top-of .ensures)
 
 canceled-requires : tie.Need-canceled-requires Inv-loop μ-loop
-canceled-requires c κs = record { inp = shear-turn-in (c .before .before .before .before .loop .inv) (c .before .before .if1 .taken); ready = c .before .before .before .before .before .before .before .before .before .before .before .before .before .pre .ready }
+canceled-requires c κs = shear-turn-in (c .before .before .before .before .loop .inv) (c .before .before .if1 .taken)
 
 loop-less : tie.Need-loop-less Inv-loop μ-loop
 loop-less c = shear-less (c .before .before .before .before .before .loop .inv) (c .before .before .before .if1 .taken) (c .canceled .ensures)
@@ -45,10 +55,17 @@ loop-again : tie.Need-loop-again Inv-loop μ-loop
 loop-again c = shear-turn (c .before .before .before .before .before .loop .inv) (c .before .before .before .if1 .taken) (c .canceled .ensures)
 
 part-in-requires-2 : tie.Need-part-in-requires-2 Inv-loop μ-loop
-part-in-requires-2 c κs = record { inp = part-in (c .before .before .before .before .before .loop .inv .room) (c .before .before .before .before .before .loop .inv .hn); ready = c .before .before .before .before .before .before .before .before .before .before .before .before .before .before .pre .ready; hz = c .before .before .before .before .before .before .before .before .before .before .before .before .before .before .pre .hnx }
+part-in-requires-2 c κs =
+    let at5 = c .before .before .before .before .before in
+    let at14 = at5 .before .before .before .before .before .before .before .before .before in
+    record { inp = part-in (at5 .loop .inv .room) (at5 .loop .inv .hn); hz = at14 .pre .hnx }
 
 returns : tie.Need-returns Inv-loop μ-loop
-returns c = shear-end (c .before .before .before .before .before .before .loop .inv) (omega arith) (c .before .before .before .before .before .before .before .before .before .before .before .before .before .part-in .ensures) (c .before .before .before .before .before .before .before .before .before .before .before .size-from .ensures) (c .part-in2 .ensures)
+returns c =
+    let at6 = c .before .before .before .before .before .before in
+    let at11 = at6 .before .before .before .before .before in
+    let at13 = at11 .before .before in
+    shear-end (at6 .loop .inv) (omega arith) (at13 .part-in .ensures) (at11 .size-from .ensures) (c .part-in2 .ensures)
 
 pub clear-x-spec : {M : Type 1} → statement M
 clear-x-spec =
@@ -59,8 +76,8 @@ clear-x-spec =
     part-in-requires
     size-from-requires
     sub-low
-    mul-t20
-    element-copy-out-t23
+    mul-t19
+    element-copy-out-t22
     top-of-requires
     loop-holds
     canceled-requires

@@ -3,7 +3,7 @@ use mathlib.Core.Path.{_≡_, subst}
 use mathlib.Core.Bool.{Bool, true, false}
 use mathlib.Core.List.{List}
 use Prim.Native.Nat.{ℕ}
-use Rattle.basis_reduce.specs.Frame.{Frame}
+use Rattle.basis_parts.specs.Frame.{Frame}
 use Rattle.basis_reduce.specs.Clear.{Pair, Reduced, ends, endsIf}
 use Rattle.basis_scale.proofs.Based.{based-clear}
 use Rattle.basis_scale.proofs.basis_in.Statement.{statement}
@@ -19,19 +19,35 @@ module _ {F : Frame} {q : Pair} {top lu : ℕ} {b : Bool} {mb mc mx nb nc nx : L
 reduced-requires : tie.Need-reduced-requires
 reduced-requires c κs =
     let i = c .before .before .before .before .before .before .pre in
-    record { inp = record { inp = based-clear (i .by .inp) (i .by .size); ready = i .by .ready }; hmx = i .hmx; hnx = i .hnx }
+    record { inp = based-clear (i .by .inp) (i .by .size); hmx = i .hmx; hnx = i .hnx }
 
 finished-requires : tie.Need-finished-requires
-finished-requires c κs = record { q = _; by = c .before .before .before .before .before .before .before .before .before .before .before .before .before .before .before .before .before .pre .by; from = swapped (c .before .before .before .before .before .before .before .before .before .if1 .taken) (c .before .before .before .before .before .before .before .before .before .before .reduced .ensures) }
+finished-requires c κs =
+    let at9 = c .before .before .before .before .before .before .before .before .before in
+    let at10 = at9 .before in
+    let at17 = at10 .before .before .before .before .before .before .before in
+    record { q = _; by = at17 .pre .by; from = swapped (at9 .if1 .taken) (at10 .reduced .ensures) }
 
 finished-requires-2 : tie.Need-finished-requires-2
-finished-requires-2 c κs = record { q = _; by = c .before .before .before .before .before .before .before .before .before .before .before .before .before .before .before .before .before .pre .by; from = unswapped (c .before .before .before .before .before .before .before .before .before .if1 .left) (c .before .before .before .before .before .before .before .before .before .before .reduced .ensures) }
+finished-requires-2 c κs =
+    let at9 = c .before .before .before .before .before .before .before .before .before in
+    let at10 = at9 .before in
+    let at17 = at10 .before .before .before .before .before .before .before in
+    record { q = _; by = at17 .pre .by; from = unswapped (at9 .if1 .left) (at10 .reduced .ensures) }
 
 returns : tie.Need-returns
-returns c = c .finished .ensures .each (c .before .before .before .before .before .before .before .before .before .before .before .before .before .before .before .before .before .before .pre .by .inp) (c .before .before .before .before .before .before .before .before .before .before .before .before .before .before .before .before .before .before .pre .by .size) (swapped (c .before .before .before .before .before .before .before .before .before .before .if1 .taken) (c .before .before .before .before .before .before .before .before .before .before .before .reduced .ensures))
+returns c =
+    let at10 = c .before .before .before .before .before .before .before .before .before .before in
+    let at11 = at10 .before in
+    let at18 = at11 .before .before .before .before .before .before .before in
+    c .finished .ensures .each (at18 .pre .by .inp) (at18 .pre .by .size) (swapped (at10 .if1 .taken) (at11 .reduced .ensures))
 
 returns-2 : tie.Need-returns-2
-returns-2 c = c .finished2 .ensures .each (c .before .before .before .before .before .before .before .before .before .before .before .before .before .before .before .before .before .before .pre .by .inp) (c .before .before .before .before .before .before .before .before .before .before .before .before .before .before .before .before .before .before .pre .by .size) (unswapped (c .before .before .before .before .before .before .before .before .before .before .if1 .left) (c .before .before .before .before .before .before .before .before .before .before .before .reduced .ensures))
+returns-2 c =
+    let at10 = c .before .before .before .before .before .before .before .before .before .before in
+    let at11 = at10 .before in
+    let at18 = at11 .before .before .before .before .before .before .before in
+    c .finished2 .ensures .each (at18 .pre .by .inp) (at18 .pre .by .size) (unswapped (at10 .if1 .left) (at11 .reduced .ensures))
 
 pub basis-in-spec : {M : Type 1} → statement M
 basis-in-spec = tie.close (tie.spec reduced-requires finished-requires finished-requires-2 returns returns-2)

@@ -10,7 +10,10 @@ placed-requires-2 : tie.Need-placed-requires-2
 placed-requires-2 c κs = fill-n (c .before .before .before .before .before .before .before .before .before .pre) (c .before .before .before .before .placed .ensures)
 
 stored-requires : tie.Need-stored-requires
-stored-requires c κs = fill-u (c .before .before .before .before .before .before .before .before .before .before .before .pre) (c .before .before .before .before .before .before .placed .ensures) (c .before .placed2 .ensures)
+stored-requires c κs =
+    let at6 = c .before .before .before .before .before .before in
+    let at11 = at6 .before .before .before .before .before in
+    fill-u (at11 .pre) (at6 .placed .ensures) (c .before .placed2 .ensures)
 
 returns : tie.Need-returns
 returns c = record { B₁ = _; B₂ = _; at-m = c .before .before .before .before .before .before .before .placed .ensures; at-n = c .before .before .placed2 .ensures; at-u = c .stored .ensures }

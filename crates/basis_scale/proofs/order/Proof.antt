@@ -4,17 +4,14 @@ use Rattle.basis_scale.proofs.First.{order-by}
 use Rattle.basis_scale.proofs.order.Statement.{statement}
 use Rattle.basis_scale.proofs.order.Tie as tie
 
-rapid-of-requires : tie.Need-rapid-of-requires
-rapid-of-requires c κs = c .pre .fine .modulus
-
 array-write-mb : tie.Need-array-write-mb
 array-write-mb c = search needs
 
 reduced-basis-requires : tie.Need-reduced-basis-requires
-reduced-basis-requires c κs = order-by (c .before .before .before .before .before .before .before .before .pre) (c .before .before .before .before .before .before .before .rapid-of .ensures)
+reduced-basis-requires c κs = order-by (c .before .before .before .before .before .before .before .pre)
 
 returns : tie.Need-returns
 returns c = c .reduced-basis .ensures
 
 pub order-spec : {M : Type 1} → statement M
-order-spec = tie.close (tie.spec rapid-of-requires array-write-mb reduced-basis-requires returns)
+order-spec = tie.close (tie.spec array-write-mb reduced-basis-requires returns)

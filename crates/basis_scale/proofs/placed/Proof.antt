@@ -21,28 +21,78 @@ size-from-requires-2 : tie.Need-size-from-requires-2
 size-from-requires-2 c κs = place-cut (c .before .before .before .before .before .before .before .before .before .pre) (c .before .before .before .before .before .scale-in2 .ensures .short)
 
 both-in-requires : tie.Need-both-in-requires
-both-in-requires c κs = place-both (c .before .before .before .before .before .before .before .before .before .before .before .before .before .before .pre) (c .before .before .before .before .before .before .before .before .before .before .before .before .scale-in .ensures) (c .before .before .before .before .before .before .before .before .before .before .scale-in2 .ensures) (c .before .before .before .before .before .before .before .before .scale-in3 .ensures) (c .before .before .before .before .before .before .size-from .ensures) (c .before .before .before .before .size-from2 .ensures)
+both-in-requires c κs =
+    let at4 = c .before .before .before .before in
+    let at6 = at4 .before .before in
+    let at8 = at6 .before .before in
+    let at10 = at8 .before .before in
+    let at12 = at10 .before .before in
+    let at14 = at12 .before .before in
+    place-both (at14 .pre) (at12 .scale-in .ensures) (at10 .scale-in2 .ensures) (at8 .scale-in3 .ensures) (at6 .size-from .ensures) (at4 .size-from2 .ensures)
 
 level-requires : tie.Need-level-requires
-level-requires c κs = place-level (c .before .before .before .before .before .before .before .before .before .before .before .before .before .before .before .before .before .pre) (c .before .before .before .before .before .before .before .before .before .before .before .before .before .before .before .scale-in .ensures) (c .before .before .before .before .before .before .before .before .before .before .before .before .before .scale-in2 .ensures) (c .before .before .before .before .before .before .before .before .before .before .before .scale-in3 .ensures) (c .before .before .both-in .ensures)
+level-requires c κs =
+    let at11 = c .before .before .before .before .before .before .before .before .before .before .before in
+    let at13 = at11 .before .before in
+    let at15 = at13 .before .before in
+    let at17 = at15 .before .before in
+    place-level (at17 .pre) (at15 .scale-in .ensures) (at13 .scale-in2 .ensures) (at11 .scale-in3 .ensures) (c .before .before .both-in .ensures)
 
 stored-requires : tie.Need-stored-requires
-stored-requires c κs = place-0 (c .before .before .before .before .before .before .before .before .before .before .before .before .before .before .before .before .before .before .before .before .pre) (c .before .before .before .before .before .before .before .before .before .before .before .before .before .before .before .before .before .before .scale-in .ensures) (c .before .before .before .before .before .before .before .before .before .before .before .before .before .before .before .before .scale-in2 .ensures) (c .before .before .before .before .before .before .before .before .before .before .before .before .before .before .scale-in3 .ensures) (c .before .before .before .before .before .both-in .ensures) (c .before .before .level .ensures)
+stored-requires c κs =
+    let at5 = c .before .before .before .before .before in
+    let at14 = at5 .before .before .before .before .before .before .before .before .before in
+    let at16 = at14 .before .before in
+    let at18 = at16 .before .before in
+    let at20 = at18 .before .before in
+    place-0 (at20 .pre) (at18 .scale-in .ensures) (at16 .scale-in2 .ensures) (at14 .scale-in3 .ensures) (at5 .both-in .ensures) (c .before .before .level .ensures)
 
 add-stored : tie.Need-add-stored
-add-stored c = let l : c .before .before .before .before .before .before .before .before .before .before .before .before .before .before .before .before .before .before .before .before .before .before .args .i + 2 < 7 = c .before .before .before .before .before .before .before .before .before .before .before .before .before .before .before .before .before .before .before .before .before .before .pre .at in record { fits = omega arith }
+add-stored c =
+    let at22 = c .before .before .before .before .before .before .before .before .before .before .before .before .before .before .before .before .before .before .before .before .before .before in
+    let l : at22 .args .i + 2 < 7 = at22 .pre .at in
+    record { fits = omega arith }
 
 stored-requires-2 : tie.Need-stored-requires-2
-stored-requires-2 c κs = place-1 (c .before .before .before .before .before .before .before .before .before .before .before .before .before .before .before .before .before .before .before .before .before .before .before .pre) (c .before .before .before .before .before .before .before .before .before .before .before .before .before .before .before .before .before .before .before .before .before .scale-in .ensures) (c .before .before .before .before .before .before .before .before .before .before .before .before .before .before .before .before .before .before .before .scale-in2 .ensures) (c .before .before .before .before .before .before .before .before .before .before .before .before .before .before .before .before .before .scale-in3 .ensures) (c .before .before .before .before .before .before .before .before .both-in .ensures) (c .before .before .before .before .before .level .ensures) (c .before .before .stored .ensures)
+stored-requires-2 c κs =
+    let at5 = c .before .before .before .before .before in
+    let at8 = at5 .before .before .before in
+    let at17 = at8 .before .before .before .before .before .before .before .before .before in
+    let at19 = at17 .before .before in
+    let at21 = at19 .before .before in
+    let at23 = at21 .before .before in
+    place-1 (at23 .pre) (at21 .scale-in .ensures) (at19 .scale-in2 .ensures) (at17 .scale-in3 .ensures) (at8 .both-in .ensures) (at5 .level .ensures) (c .before .before .stored .ensures)
 
 add-stored-2 : tie.Need-add-stored-2
-add-stored-2 c = let l : c .before .before .before .before .before .before .before .before .before .before .before .before .before .before .before .before .before .before .before .before .before .before .before .before .before .args .i + 2 < 7 = c .before .before .before .before .before .before .before .before .before .before .before .before .before .before .before .before .before .before .before .before .before .before .before .before .before .pre .at in record { fits = omega arith }
+add-stored-2 c =
+    let at25 = c .before .before .before .before .before .before .before .before .before .before .before .before .before .before .before .before .before .before
+    .before .before .before .before .before .before .before in
+    let l : at25 .args .i + 2 < 7 = at25 .pre .at in
+    record { fits = omega arith }
 
 stored-requires-3 : tie.Need-stored-requires-3
-stored-requires-3 c κs = place-2 (c .before .before .before .before .before .before .before .before .before .before .before .before .before .before .before .before .before .before .before .before .before .before .before .before .before .before .pre) (c .before .before .before .before .before .before .before .before .before .before .before .before .before .before .before .before .before .before .before .before .before .before .before .before .scale-in .ensures) (c .before .before .before .before .before .before .before .before .before .before .before .before .before .before .before .before .before .before .before .before .before .before .scale-in2 .ensures) (c .before .before .before .before .before .before .before .before .before .before .before .before .before .before .before .before .before .before .before .before .scale-in3 .ensures) (c .before .before .before .before .before .before .before .before .before .before .before .both-in .ensures) (c .before .before .before .before .before .before .before .before .level .ensures) (c .before .before .before .before .before .stored .ensures) (c .before .before .stored2 .ensures)
+stored-requires-3 c κs =
+    let at5 = c .before .before .before .before .before in
+    let at8 = at5 .before .before .before in
+    let at11 = at8 .before .before .before in
+    let at20 = at11 .before .before .before .before .before .before .before .before .before in
+    let at22 = at20 .before .before in
+    let at24 = at22 .before .before in
+    let at26 = at24 .before .before in
+    place-2 (at26 .pre) (at24 .scale-in .ensures) (at22 .scale-in2 .ensures) (at20 .scale-in3 .ensures) (at11 .both-in .ensures) (at8 .level .ensures)
+    (at5 .stored .ensures) (c .before .before .stored2 .ensures)
 
 returns : tie.Need-returns
-returns c = placed (c .before .before .before .before .before .before .before .before .before .before .before .before .before .before .before .before .before .before .before .before .before .before .before .before .before .before .before .pre) (c .before .before .before .before .before .before .before .before .before .before .before .before .before .before .before .before .before .before .before .before .before .before .before .before .before .scale-in .ensures) (c .before .before .before .before .before .before .before .before .before .before .before .before .before .before .before .before .before .before .before .before .before .before .before .scale-in2 .ensures) (c .before .before .before .before .before .before .before .before .before .before .before .before .before .before .before .before .before .before .before .before .before .scale-in3 .ensures) (c .before .before .before .before .before .before .before .before .before .before .before .before .both-in .ensures) (c .before .before .before .before .before .before .before .before .before .level .ensures) (c .before .before .before .before .before .before .stored .ensures) (c .before .before .before .stored2 .ensures) (c .stored3 .ensures)
+returns c =
+    let at6 = c .before .before .before .before .before .before in
+    let at9 = at6 .before .before .before in
+    let at12 = at9 .before .before .before in
+    let at21 = at12 .before .before .before .before .before .before .before .before .before in
+    let at23 = at21 .before .before in
+    let at25 = at23 .before .before in
+    let at27 = at25 .before .before in
+    placed (at27 .pre) (at25 .scale-in .ensures) (at23 .scale-in2 .ensures) (at21 .scale-in3 .ensures) (at12 .both-in .ensures) (at9 .level .ensures)
+    (at6 .stored .ensures) (c .before .before .before .stored2 .ensures) (c .stored3 .ensures)
 
 pub placed-spec : {M : Type 1} → statement M
 placed-spec =

@@ -4,7 +4,10 @@ use Rattle.basis_scale.proofs.reduced_basis.Statement.{statement}
 use Rattle.basis_scale.proofs.reduced_basis.Tie as tie
 
 basis-in-requires : tie.Need-basis-in-requires
-basis-in-requires c κs = let i = c .before .before .before .before .before .before .before .before .before .pre in record { by = i; hmx = blank (i .inp .clear .room); hnx = blank (i .inp .clear .room) }
+basis-in-requires c κs =
+    let at9 = c .before .before .before .before .before .before .before .before .before in
+    let i = at9 .pre in
+    record { by = i; hmx = blank (i .inp .clear .room); hnx = blank (i .inp .clear .room) }
 
 returns : tie.Need-returns
 returns c = c .basis-in .ensures

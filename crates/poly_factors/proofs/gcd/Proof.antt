@@ -9,22 +9,19 @@ use Rattle.poly_factors.proofs.gcd.Statement.{statement}
 use Rattle.poly_factors.proofs.gcd.Tie as tie
 
 abbrev Inv-loop : tie.InvT-loop
-Inv-loop p a b q x₀ y₀ n₀ m₀ x y n m = Euclid p a b x y n m
+Inv-loop q a b x₀ y₀ n₀ m₀ x y n m = Euclid (q .p) a b x y n m
 
 abbrev μ-loop : tie.MeasureT-loop
-μ-loop p a b q x₀ y₀ n₀ m₀ x y n m = 2 * (n + m) + min 1 (m - n)
-
-rapid-of-requires : tie.Need-rapid-of-requires Inv-loop μ-loop
-rapid-of-requires c κs = c .pre .modulus
+μ-loop q a b x₀ y₀ n₀ m₀ x y n m = 2 * (n + m) + min 1 (m - n)
 
 size-requires : tie.Need-size-requires Inv-loop μ-loop
-size-requires c κs = c .before .before .before .pre .hx .size
+size-requires c κs = c .before .before .pre .hx .size
 
 size-requires-2 : tie.Need-size-requires-2 Inv-loop μ-loop
-size-requires-2 c κs = c .before .before .before .before .pre .hy .size
+size-requires-2 c κs = c .before .before .before .pre .hy .size
 
 loop-holds : tie.Need-loop-holds Inv-loop μ-loop
-loop-holds c = euclid-start _ _ _ _ _ (c .before .before .before .before .before .pre) (c .before .size .ensures) (c .size2 .ensures)
+loop-holds c = let i = c .before .before .before .before .pre in euclid-start _ _ _ _ _ (i .hx) (i .hy) (c .before .size .ensures) (c .size2 .ensures)
 
 loop-less : tie.Need-loop-less Inv-loop μ-loop
 loop-less c = omega arith
@@ -67,22 +64,39 @@ array-read-c c =
     omega arith
 
 cross-in-requires : tie.Need-cross-in-requires Inv-loop μ-loop
-cross-in-requires c κs = euclid-room (c .before .before .before .before .loop .inv) (c .before .before .before .loop-test .taken) (c .before .before .if1 .left) (c .before .before .before .before .before .before .before .before .before .before .pre .modulus) (c .before .before .before .before .before .before .before .before .before .rapid-of .ensures)
+cross-in-requires c κs =
+    let at4 = c .before .before .before .before in
+    let at9 = at4 .before .before .before .before .before in
+    euclid-room (at4 .loop .inv) (c .before .before .before .loop-test .taken) (c .before .before .if1 .left) (at9 .pre .modulus)
 
 sub-size-from : tie.Need-sub-size-from Inv-loop μ-loop
 sub-size-from c = omega arith
 
 size-from-requires : tie.Need-size-from-requires Inv-loop μ-loop
-size-from-requires c κs = euclid-cut (c .before .before .before .before .before .before .loop .inv) (c .before .before .before .before .before .loop-test .taken) (c .before .before .before .before .if1 .left) (c .before .cross-in .ensures .crossed) (c .before .before .before .before .before .before .before .before .before .before .before .before .pre .prime)
+size-from-requires c κs =
+    let at4 = c .before .before .before .before in
+    let at5 = at4 .before in
+    let at6 = at5 .before in
+    let at11 = at6 .before .before .before .before .before in
+    euclid-cut (at6 .loop .inv) (at5 .loop-test .taken) (at4 .if1 .left) (c .before .cross-in .ensures .crossed) (at11 .pre .prime)
 
 loop-less-2 : tie.Need-loop-less-2 Inv-loop μ-loop
 loop-less-2 c =
-    let l = c .before .before .before .before .before .before .before .loop in
-    let h : c .size-from .result < l .n = euclid-less (l .inv) (c .before .before .before .before .before .before .loop-test .taken) (c .before .before .before .before .before .if1 .left) _ (c .before .before .cross-in .ensures .crossed) (c .size-from .result) (c .size-from .ensures) (c .before .before .before .before .before .before .before .before .before .before .before .before .before .pre .prime) in
+    let at5 = c .before .before .before .before .before in
+    let at6 = at5 .before in
+    let at7 = at6 .before in
+    let at12 = at7 .before .before .before .before .before in
+    let l = at7 .loop in
+    let h : c .size-from .result < l .n = euclid-less (l .inv) (at6 .loop-test .taken) (at5 .if1 .left) _ (c .before .before .cross-in .ensures .crossed)
+    (c .size-from .result) (c .size-from .ensures) (at12 .pre .prime) in
     omega arith
 
 loop-again-2 : tie.Need-loop-again-2 Inv-loop μ-loop
-loop-again-2 c = euclid-turn (c .before .before .before .before .before .before .before .loop .inv) (c .before .before .before .before .before .before .loop-test .taken) (c .before .before .before .before .before .if1 .left) _ (c .before .before .cross-in .ensures .crossed) (c .size-from .result) (c .size-from .ensures)
+loop-again-2 c =
+    let at5 = c .before .before .before .before .before in
+    let at6 = at5 .before in
+    let at7 = at6 .before in
+    euclid-turn (at7 .loop .inv) (at6 .loop-test .taken) (at5 .if1 .left) _ (c .before .before .cross-in .ensures .crossed) (c .size-from .result) (c .size-from .ensures)
 
 returns : tie.Need-returns Inv-loop μ-loop
 returns c = euclid-end _ _ _ _ _ _ _ (c .before .loop .inv) (c .loop-test .left)
@@ -93,7 +107,6 @@ gcd-spec =
     (tie.spec
     Inv-loop
     μ-loop
-    rapid-of-requires
     size-requires
     size-requires-2
     loop-holds

@@ -29,13 +29,27 @@ reach-requires-2 : tie.Need-reach-requires-2
 reach-requires-2 c κs = search needs
 
 settle-requires : tie.Need-settle-requires
-settle-requires c κs = both-settle (c .before .before .before .before .before .before .before .pre) (c .before .before .before .before .before .gather .ensures) (c .before .before .before .gather2 .ensures) (c .before .before .reach .ensures) (c .before .reach2 .ensures)
+settle-requires c κs =
+    let at5 = c .before .before .before .before .before in
+    let at7 = at5 .before .before in
+    both-settle (at7 .pre) (at5 .gather .ensures) (c .before .before .before .gather2 .ensures) (c .before .before .reach .ensures) (c .before .reach2 .ensures)
 
 size-from-requires : tie.Need-size-from-requires
-size-from-requires c κs = both-cut (c .before .before .before .before .before .before .before .before .before .pre) (c .before .before .before .before .before .before .before .gather .ensures) (c .before .before .before .before .before .gather2 .ensures) (c .before .before .before .before .reach .ensures) (c .before .before .before .reach2 .ensures) (c .before .settle .ensures)
+size-from-requires c κs =
+    let at4 = c .before .before .before .before in
+    let at5 = at4 .before in
+    let at7 = at5 .before .before in
+    let at9 = at7 .before .before in
+    both-cut (at9 .pre) (at7 .gather .ensures) (at5 .gather2 .ensures) (at4 .reach .ensures) (c .before .before .before .reach2 .ensures) (c .before .settle .ensures)
 
 returns : tie.Need-returns
-returns c = both-made (c .before .before .before .before .before .before .before .before .before .before .pre) (c .before .before .before .before .before .before .before .before .gather .ensures) (c .before .before .before .before .before .before .gather2 .ensures) (c .before .before .before .before .before .reach .ensures) (c .before .before .before .before .reach2 .ensures) (c .before .before .settle .ensures) (c .size-from .ensures)
+returns c =
+    let at4 = c .before .before .before .before in
+    let at5 = at4 .before in
+    let at6 = at5 .before in
+    let at8 = at6 .before .before in
+    let at10 = at8 .before .before in
+    both-made (at10 .pre) (at8 .gather .ensures) (at6 .gather2 .ensures) (at5 .reach .ensures) (at4 .reach2 .ensures) (c .before .before .settle .ensures) (c .size-from .ensures)
 
 pub both-in-spec : {M : Type 1} → statement M
 both-in-spec =

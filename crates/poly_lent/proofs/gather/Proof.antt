@@ -37,8 +37,10 @@ loop-less c = search needs
 
 loop-again : tie.Need-loop-again Inv-loop μ-loop
 loop-again c =
-    let s = c .before .before .before .before .before .before in
-    gathering-turn (s .pre) (s .args .minus) _ (c .before .before .before .before .before .loop .inv) (c .before .before .before .before .loop-test .taken) (c .before .before .signed .ensures) (c .laid .ensures)
+    let at4 = c .before .before .before .before in
+    let at5 = at4 .before in
+    let s = at5 .before in
+    gathering-turn (s .pre) (s .args .minus) _ (at5 .loop .inv) (at4 .loop-test .taken) (c .before .before .signed .ensures) (c .laid .ensures)
 
 returns : tie.Need-returns Inv-loop μ-loop
 returns c = gathering-end (c .before .before .pre) _ _ (omega arith) (c .before .loop .inv)

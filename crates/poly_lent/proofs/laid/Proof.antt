@@ -15,23 +15,23 @@ abbrev μ-loop : tie.MeasureT-loop
 loop-holds : tie.Need-loop-holds Inv-loop μ-loop
 loop-holds c = laying-start (c .pre)
 
-add-more : tie.Need-add-more Inv-loop μ-loop
-add-more c = search needs
+add-add-product : tie.Need-add-add-product Inv-loop μ-loop
+add-add-product c = search needs
 
-mul-more : tie.Need-mul-more Inv-loop μ-loop
-mul-more c = search needs
+mul-add-product : tie.Need-mul-add-product Inv-loop μ-loop
+mul-add-product c = search needs
 
-element-copy-out-more : tie.Need-element-copy-out-more Inv-loop μ-loop
-element-copy-out-more c = search needs
+element-copy-out-add-product : tie.Need-element-copy-out-add-product Inv-loop μ-loop
+element-copy-out-add-product c = search needs
 
-mul-more-2 : tie.Need-mul-more-2 Inv-loop μ-loop
-mul-more-2 c = search needs
+mul-add-product-2 : tie.Need-mul-add-product-2 Inv-loop μ-loop
+mul-add-product-2 c = search needs
 
-element-copy-out-more-2 : tie.Need-element-copy-out-more-2 Inv-loop μ-loop
-element-copy-out-more-2 c = search needs
+element-copy-out-add-product-2 : tie.Need-element-copy-out-add-product-2 Inv-loop μ-loop
+element-copy-out-add-product-2 c = search needs
 
-more-requires : tie.Need-more-requires Inv-loop μ-loop
-more-requires c κs =
+add-product-requires : tie.Need-add-product-requires Inv-loop μ-loop
+add-product-requires c κs =
     let s = c .before .before .before .before in
     let l = c .before .before .before .loop in
     record { modulus = s .pre .modulus; low = l .inv .loose .low (s .args .i + l .j); hx = s .pre .hv; hy = s .pre .hy .each (l .j) }
@@ -52,7 +52,7 @@ loop-less : tie.Need-loop-less Inv-loop μ-loop
 loop-less c = search needs
 
 loop-again : tie.Need-loop-again Inv-loop μ-loop
-loop-again c = laying-turn (c .before .before .before .before .before .pre) _ (c .before .before .before .before .loop .inv) (c .before .before .before .loop-test .taken) (c .more .ensures)
+loop-again c = laying-turn (c .before .before .before .before .before .pre) _ (c .before .before .before .before .loop .inv) (c .before .before .before .loop-test .taken) (c .add-product .ensures)
 
 returns : tie.Need-returns Inv-loop μ-loop
 returns c = laying-end (c .before .before .pre) _ (omega arith) (c .before .loop .inv)
@@ -64,12 +64,12 @@ laid-spec =
     Inv-loop
     μ-loop
     loop-holds
-    add-more
-    mul-more
-    element-copy-out-more
-    mul-more-2
-    element-copy-out-more-2
-    more-requires
+    add-add-product
+    mul-add-product
+    element-copy-out-add-product
+    mul-add-product-2
+    element-copy-out-add-product-2
+    add-product-requires
     add-acc
     mul-acc
     element-write-acc

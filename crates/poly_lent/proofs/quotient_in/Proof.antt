@@ -10,10 +10,10 @@ use Rattle.poly_lent.proofs.quotient_in.Statement.{statement}
 use Rattle.poly_lent.proofs.quotient_in.Tie as tie
 
 abbrev Inv-loop : tie.InvT-loop
-Inv-loop p q a n b m il r₀ top k₀ r k = Dividing p a b il m top r k
+Inv-loop q a n b m il r₀ top k₀ r k = Dividing (q .p) a b il m top r k
 
 abbrev μ-loop : tie.MeasureT-loop
-μ-loop p q a n b m il r₀ top k₀ r k = k
+μ-loop q a n b m il r₀ top k₀ r k = k
 
 add-top : tie.Need-add-top Inv-loop μ-loop
 add-top c = search needs
@@ -30,13 +30,16 @@ loop-holds c =
     let fy : s .args .m ≤ length (s .args .b .now) = s .pre .sb .fits in
     let ly : length (s .args .b .now) ≡ 32 = s .pre .inp .hb .size in
     let t : (s .args .n + 1 ≤ top + s .args .m) × (top + s .args .m ≤ 33) = ⊎-elim (λ u. (omega arith, omega arith)) (λ u. (omega arith, omega arith)) (c .if1 .came) in
-    subst (λ q. Dividing (s .args .p) (s .args .a .now) (s .args .b .now) (s .args .il) (s .args .m) top q top) (sym (s .pre .blank)) (dividing-start (s .args .p) (s .args .a .now) (s .args .b .now) (s .args .il) (s .args .n) (s .args .m) top (s .pre .inp) (s .pre .sa) (s .pre .sb) (t .0) (t .1))
+    subst (λ q. Dividing (s .args .q .p) (s .args .a .now) (s .args .b .now) (s .args .il) (s .args .m) top q top) (sym (s .pre .blank)) (dividing-start
+    (s .args .q .p) (s .args .a .now) (s .args .b .now) (s .args .il) (s .args .n) (s .args .m) top (s .pre .inp) (s .pre .sa) (s .pre .sb) (t .0) (t .1))
 
 sub-k : tie.Need-sub-k Inv-loop μ-loop
 sub-k c = omega arith
 
-digit-requires : tie.Need-digit-requires Inv-loop μ-loop
-digit-requires c κs = dividing-digit (c .before .before .before .before .before .pre .inp) (c .before .before .before .loop .inv) (c .before .before .loop-test .taken) _ _ (c .before .before .before .before .before .pre .ready)
+quotient-coefficient-requires : tie.Need-quotient-coefficient-requires Inv-loop μ-loop
+quotient-coefficient-requires c κs =
+    let at5 = c .before .before .before .before .before in
+    dividing-digit (at5 .pre .inp) (c .before .before .before .loop .inv) (c .before .before .loop-test .taken) (at5 .pre .modulus)
 
 mul-r : tie.Need-mul-r Inv-loop μ-loop
 mul-r c =
@@ -58,7 +61,10 @@ loop-less : tie.Need-loop-less Inv-loop μ-loop
 loop-less c = omega arith
 
 loop-again : tie.Need-loop-again Inv-loop μ-loop
-loop-again c = dividing-turn (c .before .before .before .before .before .before .pre .inp) (c .before .before .before .before .loop .inv) (c .before .before .before .loop-test .taken) _ (c .digit .ensures)
+loop-again c =
+    let at4 = c .before .before .before .before in
+    let at6 = at4 .before .before in
+    dividing-turn (at6 .pre .inp) (at4 .loop .inv) (c .before .before .before .loop-test .taken) _ (c .quotient-coefficient .ensures)
 
 size-from-requires : tie.Need-size-from-requires Inv-loop μ-loop
 size-from-requires c κs =
@@ -82,7 +88,7 @@ quotient-in-spec =
     sub-top
     loop-holds
     sub-k
-    digit-requires
+    quotient-coefficient-requires
     mul-r
     element-write-r
     loop-less

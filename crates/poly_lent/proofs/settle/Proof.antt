@@ -9,22 +9,22 @@ use Rattle.poly_lent.proofs.settle.Statement.{statement}
 use Rattle.poly_lent.proofs.settle.Tie as tie
 
 abbrev Inv-loop : tie.InvT-loop
-Inv-loop p q acc₀ t k₀ acc k = Over 32 (λ j. getD acc₀ j 0 % p) acc₀ acc k
+Inv-loop q acc₀ t k₀ acc k = Over 32 (λ j. getD acc₀ j 0 % q .p) acc₀ acc k
 
 abbrev μ-loop : tie.MeasureT-loop
-μ-loop p q acc₀ t k₀ acc k = t - k
+μ-loop q acc₀ t k₀ acc k = t - k
 
 loop-holds : tie.Need-loop-holds Inv-loop μ-loop
 loop-holds c = over-start 32 _ _ (c .pre .size)
 
-mul-rest : tie.Need-mul-rest Inv-loop μ-loop
-mul-rest c = search needs
+mul-reduce : tie.Need-mul-reduce Inv-loop μ-loop
+mul-reduce c = search needs
 
-element-copy-out-rest : tie.Need-element-copy-out-rest Inv-loop μ-loop
-element-copy-out-rest c = search needs
+element-copy-out-reduce : tie.Need-element-copy-out-reduce Inv-loop μ-loop
+element-copy-out-reduce c = search needs
 
-rest-requires : tie.Need-rest-requires Inv-loop μ-loop
-rest-requires c κs = record { modulus = c .before .before .before .pre .modulus; ready = c .before .before .before .pre .ready }
+reduce-requires : tie.Need-reduce-requires Inv-loop μ-loop
+reduce-requires c κs = c .before .before .before .pre .modulus
 
 mul-acc : tie.Need-mul-acc Inv-loop μ-loop
 mul-acc c = search needs
@@ -41,7 +41,7 @@ loop-less c = search needs
 loop-again : tie.Need-loop-again Inv-loop μ-loop
 loop-again c =
     let l = c .before .before .before .loop in
-    over-more 32 _ _ _ (l .k) _ (l .inv) (search needs) (c .rest .ensures ∙ ap (λ a. a % c .before .before .before .before .args .p) (l .inv .rest (l .k) (omega arith)))
+    over-more 32 _ _ _ (l .k) _ (l .inv) (search needs) (c .reduce .ensures ∙ ap (λ a. a % c .before .before .before .before .args .q .p) (l .inv .rest (l .k) (omega arith)))
 
 returns : tie.Need-returns Inv-loop μ-loop
 returns c = settled _ (c .before .before .pre) (omega arith) (c .before .loop .inv)
@@ -53,9 +53,9 @@ settle-spec =
     Inv-loop
     μ-loop
     loop-holds
-    mul-rest
-    element-copy-out-rest
-    rest-requires
+    mul-reduce
+    element-copy-out-reduce
+    reduce-requires
     mul-acc
     element-write-acc
     add-k

@@ -9,37 +9,46 @@ use Rattle.poly_rows.proofs.cross_in.Statement.{statement}
 use Rattle.poly_rows.proofs.cross_in.Tie as tie
 
 abbrev Inv-loop : tie.InvT-loop
-Inv-loop p q s x₀ c k y n d i₀ x i = (i ≤ n) × Swept 32 (crossAt p s x₀ c k y) x₀ x i
+Inv-loop q s x₀ c k y n d i₀ x i = (i ≤ n) × Swept 32 (crossAt (q .p) s x₀ c k y) x₀ x i
 
 abbrev μ-loop : tie.MeasureT-loop
-μ-loop p q s x₀ c k y n d i₀ x i = n - i
+μ-loop q s x₀ c k y n d i₀ x i = n - i
 
 sub-d : tie.Need-sub-d Inv-loop μ-loop
 sub-d c = search needs
 
 loop-holds : tie.Need-loop-holds Inv-loop μ-loop
-loop-holds c = (omega arith, swept-start 32 _ _ (c .pre .hx .is-row .size))
+loop-holds c = (omega arith, swept-start 32 _ _ (c .before .pre .hx .is-row .size))
 
 shifted-requires : tie.Need-shifted-requires Inv-loop μ-loop
 shifted-requires c κs = search needs
 
-mul-rest : tie.Need-mul-rest Inv-loop μ-loop
-mul-rest c = search needs
+mul-reduce : tie.Need-mul-reduce Inv-loop μ-loop
+mul-reduce c = search needs
 
-element-copy-out-rest : tie.Need-element-copy-out-rest Inv-loop μ-loop
-element-copy-out-rest c = search needs
+element-copy-out-reduce : tie.Need-element-copy-out-reduce Inv-loop μ-loop
+element-copy-out-reduce c = search needs
 
-mul-rest-2 : tie.Need-mul-rest-2 Inv-loop μ-loop
-mul-rest-2 c = omega (arith, cross-low (c .before .before .before .before .pre) (c .before .before .before .loop .i) _ _ (c .before .before .before .loop .inv .1 .rest _ (omega arith)) (c .before .shifted .ensures))
+mul-reduce-2 : tie.Need-mul-reduce-2 Inv-loop μ-loop
+mul-reduce-2 c =
+    let at3 = c .before .before .before in
+    let at5 = at3 .before .before in
+    omega (arith, cross-low (at5 .pre) (at3 .loop .i) _ _ (at3 .loop .inv .1 .rest _ (omega arith)) (c .before .shifted .ensures))
 
-mul-rest-3 : tie.Need-mul-rest-3 Inv-loop μ-loop
-mul-rest-3 c = omega (arith, cross-low (c .before .before .before .before .pre) (c .before .before .before .loop .i) _ _ (c .before .before .before .loop .inv .1 .rest _ (omega arith)) (c .before .shifted .ensures))
+mul-reduce-3 : tie.Need-mul-reduce-3 Inv-loop μ-loop
+mul-reduce-3 c =
+    let at3 = c .before .before .before in
+    let at5 = at3 .before .before in
+    omega (arith, cross-low (at5 .pre) (at3 .loop .i) _ _ (at3 .loop .inv .1 .rest _ (omega arith)) (c .before .shifted .ensures))
 
-add-rest : tie.Need-add-rest Inv-loop μ-loop
-add-rest c = omega (arith, cross-low (c .before .before .before .before .pre) (c .before .before .before .loop .i) _ _ (c .before .before .before .loop .inv .1 .rest _ (omega arith)) (c .before .shifted .ensures))
+add-reduce : tie.Need-add-reduce Inv-loop μ-loop
+add-reduce c =
+    let at3 = c .before .before .before in
+    let at5 = at3 .before .before in
+    omega (arith, cross-low (at5 .pre) (at3 .loop .i) _ _ (at3 .loop .inv .1 .rest _ (omega arith)) (c .before .shifted .ensures))
 
-rest-requires : tie.Need-rest-requires Inv-loop μ-loop
-rest-requires c κs = search needs
+reduce-requires : tie.Need-reduce-requires Inv-loop μ-loop
+reduce-requires c κs = search needs
 
 mul-x : tie.Need-mul-x Inv-loop μ-loop
 mul-x c = search needs
@@ -55,13 +64,17 @@ loop-less c = omega arith
 
 loop-again : tie.Need-loop-again Inv-loop μ-loop
 loop-again c =
-    let s = c .before .before .before .before .before in
-    let l = c .before .before .before .before .loop in
-    let n : s .args .n ≤ 32 = s .pre .fits in
-    (omega arith, swept-more 32 _ _ _ (l .i) _ (l .inv .1) (omega arith) (c .rest .ensures ∙ ap₂ (λ a z. (s .args .s * a + (s .args .p - s .args .c) * z) % s .args .p) (l .inv .1 .rest (l .i) (omega arith)) (c .before .before .shifted .ensures)))
+    let at4 = c .before .before .before .before in
+    let s = at4 .before .before in
+    let l = at4 .loop in
+    let n : s .args .n ≤ 32 = s .pre .fits in (
+      omega arith,
+      swept-more 32 _ _ _ (l .i) _ (l .inv .1) (omega arith) (c .reduce .ensures ∙ ap₂
+          (λ a z. (s .args .s * a + (s .args .q .p - s .args .c) * z) % s .args .q .p) (l .inv .1 .rest (l .i) (omega arith)) (c .before .before .shifted .ensures)),
+    )
 
 returns : tie.Need-returns Inv-loop μ-loop
-returns c = crossed (c .before .before .pre) (omega arith) (c .before .loop .inv .1)
+returns c = crossed (c .before .before .before .pre) (omega arith) (c .before .loop .inv .1)
 
 pub cross-in-spec : {M : Type 1} → statement M
 cross-in-spec =
@@ -72,12 +85,12 @@ cross-in-spec =
     sub-d
     loop-holds
     shifted-requires
-    mul-rest
-    element-copy-out-rest
-    mul-rest-2
-    mul-rest-3
-    add-rest
-    rest-requires
+    mul-reduce
+    element-copy-out-reduce
+    mul-reduce-2
+    mul-reduce-3
+    add-reduce
+    reduce-requires
     mul-x
     element-write-x
     add-i

@@ -4,7 +4,7 @@ use Prim.Native.Nat.{_≤_, _<_, _-_, _*_, _+_, _%_}
 use native.Mathlib.Omega.{arith}
 use lib.ListN.{getD}
 use Rattle.math_rows.specs.Sum.{sumTo, termAt}
-use Rattle.poly_rows.proofs.Terms.{part-more, term-is}
+use Rattle.poly_rows.proofs.Coefficients.{part-more, term-is}
 use borrow.Author.Needs.{needs}
 use Rattle.poly_rows.proofs.folded.Statement.{statement}
 use Rattle.poly_rows.proofs.folded.Tie as tie
@@ -16,25 +16,31 @@ abbrev μ-loop : tie.MeasureT-loop
 μ-loop p x y from to k s₀ i₀ s i = to - i
 
 loop-holds : tie.Need-loop-holds Inv-loop μ-loop
-loop-holds c = (omega arith, omega arith, omega arith, ap (λ a. a % c .args .p) (let q : sumTo (termAt (c .args .x .now) (c .args .y .now) (c .args .k)) (c .args .from) + 0 ≡ sumTo (termAt (c .args .x .now) (c .args .y .now) (c .args .k)) (c .args .from) = omega arith in q))
+loop-holds c = (
+  omega arith,
+  omega arith,
+  omega arith,
+  ap (λ a. a % c .args .p) (let q : sumTo (termAt (c .args .x .now) (c .args .y .now) (c .args .k)) (c .args .from) + 0 ≡
+      sumTo (termAt (c .args .x .now) (c .args .y .now) (c .args .k)) (c .args .from) = omega arith in q),
+)
 
-mul-more : tie.Need-mul-more Inv-loop μ-loop
-mul-more c = search needs
+mul-add-product : tie.Need-mul-add-product Inv-loop μ-loop
+mul-add-product c = search needs
 
-element-copy-out-more : tie.Need-element-copy-out-more Inv-loop μ-loop
-element-copy-out-more c = search needs
+element-copy-out-add-product : tie.Need-element-copy-out-add-product Inv-loop μ-loop
+element-copy-out-add-product c = search needs
 
-sub-more : tie.Need-sub-more Inv-loop μ-loop
-sub-more c = search needs
+sub-add-product : tie.Need-sub-add-product Inv-loop μ-loop
+sub-add-product c = search needs
 
-mul-more-2 : tie.Need-mul-more-2 Inv-loop μ-loop
-mul-more-2 c = search needs
+mul-add-product-2 : tie.Need-mul-add-product-2 Inv-loop μ-loop
+mul-add-product-2 c = search needs
 
-element-copy-out-more-2 : tie.Need-element-copy-out-more-2 Inv-loop μ-loop
-element-copy-out-more-2 c = search needs
+element-copy-out-add-product-2 : tie.Need-element-copy-out-add-product-2 Inv-loop μ-loop
+element-copy-out-add-product-2 c = search needs
 
-more-requires : tie.Need-more-requires Inv-loop μ-loop
-more-requires c κs =
+add-product-requires : tie.Need-add-product-requires Inv-loop μ-loop
+add-product-requires c κs =
     let s = c .before .before .before .before in
     let l = c .before .before .before .loop in
     record { modulus = s .pre .modulus; low = l .inv .2; hx = s .pre .hx .each (l .i); hy = s .pre .hy .each (s .args .k - l .i) }
@@ -47,12 +53,15 @@ loop-less c = search needs
 
 loop-again : tie.Need-loop-again Inv-loop μ-loop
 loop-again c =
-    let s = c .before .before .before .before .before .args in
-    let l = c .before .before .before .before .loop in (
+    let at4 = c .before .before .before .before in
+    let at5 = at4 .before in
+    let s = at5 .args in
+    let l = at4 .loop in (
       omega arith,
       omega arith,
-      c .more .ensures .low,
-      part-more (s .p) (termAt (s .x .now) (s .y .now) (s .k)) (s .from) (l .i) (l .s) (getD (s .x .now) (l .i) 0 * getD (s .y .now) (s .k - l .i) 0) _ (l .inv .3) (c .more .ensures .law) (term-is (s .x .now) (s .y .now) (s .k) (l .i) (omega arith)),
+      c .add-product .ensures .low,
+      part-more (s .p) (termAt (s .x .now) (s .y .now) (s .k)) (s .from) (l .i) (l .s) (getD (s .x .now) (l .i) 0 * getD (s .y .now) (s .k - l .i) 0) _ (l .inv .3)
+          (c .add-product .ensures .law) (term-is (s .x .now) (s .y .now) (s .k) (l .i) (omega arith)),
     )
 
 returns : tie.Need-returns Inv-loop μ-loop
@@ -68,12 +77,12 @@ folded-spec =
     Inv-loop
     μ-loop
     loop-holds
-    mul-more
-    element-copy-out-more
-    sub-more
-    mul-more-2
-    element-copy-out-more-2
-    more-requires
+    mul-add-product
+    element-copy-out-add-product
+    sub-add-product
+    mul-add-product-2
+    element-copy-out-add-product-2
+    add-product-requires
     add-i
     loop-less
     loop-again

@@ -7,7 +7,7 @@ use Rattle.poly_rows.proofs.Leaf.{opposite}
 use borrow.Author.Needs.{needs}
 use Rattle.poly_rows.proofs.minus.Statement.{statement}
 use Rattle.poly_rows.proofs.minus.Tie as tie
-use Rattle.poly_rows.proofs.once.Reads as once-reads
+use Rattle.num_mod.proofs.reduce_once.Reads as reduce-once-reads
 
 abbrev Inv-loop : tie.InvT-loop
 Inv-loop p x r₀ i₀ r i = (i ≤ 32) × Begun 32 (λ k. (p - getD x k 0) % p) r i
@@ -18,19 +18,19 @@ abbrev μ-loop : tie.MeasureT-loop
 loop-holds : tie.Need-loop-holds Inv-loop μ-loop
 loop-holds c = (omega arith, begun-start 32 _)
 
-mul-once : tie.Need-mul-once Inv-loop μ-loop
-mul-once c = search needs
+mul-reduce-once : tie.Need-mul-reduce-once Inv-loop μ-loop
+mul-reduce-once c = search needs
 
-element-copy-out-once : tie.Need-element-copy-out-once Inv-loop μ-loop
-element-copy-out-once c = search needs
+element-copy-out-reduce-once : tie.Need-element-copy-out-reduce-once Inv-loop μ-loop
+element-copy-out-reduce-once c = search needs
 
-sub-once : tie.Need-sub-once Inv-loop μ-loop
-sub-once c =
+sub-reduce-once : tie.Need-sub-reduce-once Inv-loop μ-loop
+sub-reduce-once c =
     let s = c .before .before .before in
     omega (arith, s .pre .hx .each (c .before .before .loop .i))
 
-once-requires : tie.Need-once-requires Inv-loop μ-loop
-once-requires c κs =
+reduce-once-requires : tie.Need-reduce-once-requires Inv-loop μ-loop
+reduce-once-requires c κs =
     let s = c .before .before .before in
     record { modulus = s .pre .modulus; low = omega (arith, s .pre .modulus .big) }
 
@@ -49,7 +49,7 @@ loop-less c = search needs
 loop-again : tie.Need-loop-again Inv-loop μ-loop
 loop-again c =
     let l = c .before .before .before .loop in
-    (omega arith, begun-more 32 _ _ (l .i) _ (l .inv .1) (omega arith) (c .once .ensures))
+    (omega arith, begun-more 32 _ _ (l .i) _ (l .inv .1) (omega arith) (c .reduce-once .ensures))
 
 returns : tie.Need-returns Inv-loop μ-loop
 returns c =
@@ -63,10 +63,10 @@ minus-spec =
     Inv-loop
     μ-loop
     loop-holds
-    mul-once
-    element-copy-out-once
-    sub-once
-    once-requires
+    mul-reduce-once
+    element-copy-out-reduce-once
+    sub-reduce-once
+    reduce-once-requires
     mul-r
     array-write-r
     add-i

@@ -3,35 +3,36 @@ use mathlib.Core.Path.{ap, _∙_, subst, sym}
 use Prim.Native.Nat.{_≤_, _<_, _-_, _*_, _%_}
 use native.Mathlib.Omega.{arith}
 use lib.ListN.{getD}
-use Rattle.poly_rows.proofs.Leaf.{small-mul, Swept, swept-start, swept-more, scaled}
+use Rattle.poly_rows.proofs.Leaf.{Swept, swept-start, swept-more, scaled}
+use Rattle.num_mod.proofs.Quick.{small-mul}
 use borrow.Author.Needs.{needs}
 use Rattle.poly_rows.proofs.scale_in.Statement.{statement}
 use Rattle.poly_rows.proofs.scale_in.Tie as tie
 
 abbrev Inv-loop : tie.InvT-loop
-Inv-loop p q c x₀ n i₀ x i = (i ≤ n) × Swept 32 (λ k. (c * getD x₀ k 0) % p) x₀ x i
+Inv-loop q c x₀ n i₀ x i = (i ≤ n) × Swept 32 (λ k. (c * getD x₀ k 0) % q .p) x₀ x i
 
 abbrev μ-loop : tie.MeasureT-loop
-μ-loop p q c x₀ n i₀ x i = n - i
+μ-loop q c x₀ n i₀ x i = n - i
 
 loop-holds : tie.Need-loop-holds Inv-loop μ-loop
 loop-holds c = (omega arith, swept-start 32 _ _ (c .pre .hx .is-row .size))
 
-mul-rest : tie.Need-mul-rest Inv-loop μ-loop
-mul-rest c = search needs
+mul-reduce : tie.Need-mul-reduce Inv-loop μ-loop
+mul-reduce c = search needs
 
-element-copy-out-rest : tie.Need-element-copy-out-rest Inv-loop μ-loop
-element-copy-out-rest c = search needs
+element-copy-out-reduce : tie.Need-element-copy-out-reduce Inv-loop μ-loop
+element-copy-out-reduce c = search needs
 
-mul-rest-2 : tie.Need-mul-rest-2 Inv-loop μ-loop
-mul-rest-2 c =
+mul-reduce-2 : tie.Need-mul-reduce-2 Inv-loop μ-loop
+mul-reduce-2 c =
     let s = c .before .before .before in
     let l = c .before .before .loop in
-    let a : getD (l .x) (l .i) 0 < s .args .p = subst (λ a. a < s .args .p) (sym (l .inv .1 .rest (l .i) (omega arith))) (s .pre .hx .is-row .each (l .i)) in
+    let a : getD (l .x) (l .i) 0 < s .args .q .p = subst (λ a. a < s .args .q .p) (sym (l .inv .1 .rest (l .i) (omega arith))) (s .pre .hx .is-row .each (l .i)) in
     omega (arith, small-mul (s .args .c) (getD (l .x) (l .i) 0) (omega arith) (omega arith))
 
-rest-requires : tie.Need-rest-requires Inv-loop μ-loop
-rest-requires c κs = search needs
+reduce-requires : tie.Need-reduce-requires Inv-loop μ-loop
+reduce-requires c κs = search needs
 
 mul-x : tie.Need-mul-x Inv-loop μ-loop
 mul-x c = search needs
@@ -50,10 +51,10 @@ loop-again c =
     let s = c .before .before .before .before in
     let l = c .before .before .before .loop in
     let n : s .args .n ≤ 32 = s .pre .fits in
-    (omega arith, swept-more 32 _ _ _ (l .i) _ (l .inv .1) (omega arith) (c .rest .ensures ∙ ap (λ a. (s .args .c * a) % s .args .p) (l .inv .1 .rest (l .i) (omega arith))))
+    (omega arith, swept-more 32 _ _ _ (l .i) _ (l .inv .1) (omega arith) (c .reduce .ensures ∙ ap (λ a. (s .args .c * a) % s .args .q .p) (l .inv .1 .rest (l .i) (omega arith))))
 
 returns : tie.Need-returns Inv-loop μ-loop
 returns c = scaled (c .before .before .pre) (omega arith) (c .before .loop .inv .1)
 
 pub scale-in-spec : {M : Type 1} → statement M
-scale-in-spec = tie.close (tie.spec Inv-loop μ-loop loop-holds mul-rest element-copy-out-rest mul-rest-2 rest-requires mul-x element-write-x add-i loop-less loop-again returns)
+scale-in-spec = tie.close (tie.spec Inv-loop μ-loop loop-holds mul-reduce element-copy-out-reduce mul-reduce-2 reduce-requires mul-x element-write-x add-i loop-less loop-again returns)

@@ -6,17 +6,17 @@ use Rattle.step_divide.proofs.divided.Statement.{statement}
 use Rattle.step_divide.proofs.divided.Tie as tie
 
 lengths-of-requires : tie.Need-lengths-of-requires
-lengths-of-requires c κs = let s = c .before .pre in lengths-in (s .inp) (s .ready) refl
+lengths-of-requires c κs = let s = c .before .pre in lengths-in (s .inp) (s .modulus) refl
 
 turned-r-requires : tie.Need-turned-r-requires
 turned-r-requires c κs =
     let s = c .before .before .before .before .before .before .pre in
-    (_, turn-in (s .inp) (s .ready) (s .sgh) (c .before .before .before .before .lengths-of .ensures) (s .blank-x), s .sh)
+    (_, turn-in (s .inp) (s .modulus) (s .sgh) (c .before .before .before .before .lengths-of .ensures) (s .blank-x), s .sh)
 
 turned-w-requires : tie.Need-turned-w-requires
 turned-w-requires c κs =
     let s = c .before .before .before .before .before .before .before .before .before .before .before .pre in
-    (_, turn-in (s .inp) (s .ready) (s .sgh) (c .before .before .before .before .before .before .before .before .before .lengths-of .ensures) (s .blank-y), s .sg)
+    (_, turn-in (s .inp) (s .modulus) (s .sgh) (c .before .before .before .before .before .before .before .before .before .lengths-of .ensures) (s .blank-y), s .sg)
 
 negate-requires : tie.Need-negate-requires
 negate-requires c κs =
@@ -33,7 +33,7 @@ taken-off-requires c κs =
     let s = c .before .before .before .before .before .before .before .before .before .before .before .before .before .before .before .before .before .before .before .before .before .pre in
     let tr = c .before .before .before .before .before .before .before .before .before .before .before .before .before .before .turned-r .ensures in
     let tw = c .before .before .before .before .before .before .before .before .before .turned-w .ensures in
-    take-in (s .inp) tr tw (c .before .before .before .before .before .before .before .negate .ensures) (c .before .before .before .before .before .negate2 .ensures) (s .ready) (s .blank-d)
+    take-in (s .inp) tr tw (c .before .before .before .before .before .before .before .negate .ensures) (c .before .before .before .before .before .negate2 .ensures) (s .modulus) (s .blank-d)
 
 returns : tie.Need-returns
 returns c =

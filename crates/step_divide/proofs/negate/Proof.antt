@@ -18,21 +18,21 @@ abbrev μ-loop : tie.MeasureT-loop
 loop-holds : tie.Need-loop-holds Inv-loop μ-loop
 loop-holds c = (omega arith, over-start 32 _ _ (c .pre .hx .size))
 
-mul-once : tie.Need-mul-once Inv-loop μ-loop
-mul-once c = search needs
+mul-reduce-once : tie.Need-mul-reduce-once Inv-loop μ-loop
+mul-reduce-once c = search needs
 
-element-copy-out-once : tie.Need-element-copy-out-once Inv-loop μ-loop
-element-copy-out-once c = search needs
+element-copy-out-reduce-once : tie.Need-element-copy-out-reduce-once Inv-loop μ-loop
+element-copy-out-reduce-once c = search needs
 
-sub-once : tie.Need-sub-once Inv-loop μ-loop
-sub-once c =
+sub-reduce-once : tie.Need-sub-reduce-once Inv-loop μ-loop
+sub-reduce-once c =
     let l = c .before .before .loop in
     let e : getD (l .x) (l .i) 0 ≡ getD (c .before .before .before .args .x .now) (l .i) 0 = l .inv .1 .rest (l .i) (omega arith) in
     let b : getD (c .before .before .before .args .x .now) (l .i) 0 < c .before .before .before .args .p = c .before .before .before .pre .hx .each (l .i) in
     omega arith
 
-once-requires : tie.Need-once-requires Inv-loop μ-loop
-once-requires c κs = record { modulus = c .before .before .before .pre .modulus; low = let b : 1 < c .before .before .before .args .p = c .before .before .before .pre .modulus .big in omega arith }
+reduce-once-requires : tie.Need-reduce-once-requires Inv-loop μ-loop
+reduce-once-requires c κs = record { modulus = c .before .before .before .pre .modulus; low = let b : 1 < c .before .before .before .args .p = c .before .before .before .pre .modulus .big in omega arith }
 
 mul-x : tie.Need-mul-x Inv-loop μ-loop
 mul-x c = search needs
@@ -50,7 +50,7 @@ loop-again : tie.Need-loop-again Inv-loop μ-loop
 loop-again c =
     let s = c .before .before .before .before in
     let l = c .before .before .before .loop in
-    (search needs, over-more 32 _ _ _ (l .i) _ (l .inv .1) (search needs) (c .once .ensures ∙ ap (λ a. (s .args .p - a) % s .args .p) (l .inv .1 .rest (l .i) (omega arith))))
+    (search needs, over-more 32 _ _ _ (l .i) _ (l .inv .1) (search needs) (c .reduce-once .ensures ∙ ap (λ a. (s .args .p - a) % s .args .p) (l .inv .1 .rest (l .i) (omega arith))))
 
 returns : tie.Need-returns Inv-loop μ-loop
 returns c = negated (c .before .before .pre) _ (omega arith) (c .before .loop .inv .1)
@@ -62,10 +62,10 @@ negate-spec =
     Inv-loop
     μ-loop
     loop-holds
-    mul-once
-    element-copy-out-once
-    sub-once
-    once-requires
+    mul-reduce-once
+    element-copy-out-reduce-once
+    sub-reduce-once
+    reduce-once-requires
     mul-x
     element-write-x
     add-i

@@ -1,17 +1,28 @@
 -- `step_next::advanced` meets its contract: `advance_in`, on rows of zeros.
-use mathlib.Core.Path.{refl}
-use Rattle.step_next.proofs.Made.{field-modulus}
+use mathlib.Core.Path.{refl, sym, ap, _∙_}
+use Prim.Native.Nat.{ℕ}
+use Rattle.num_mod.specs.Prepared.{PreparedOf, ready}
+use Rattle.num_mod.specs.declared.Modulus.{Modulus}
+use Rattle.step_next.proofs.Made.{field-modulus, advance-by, advanced-by}
 use Rattle.step_next.proofs.advanced.Statement.{statement}
 use Rattle.step_next.proofs.advanced.Tie as tie
 
-rapid-of-requires : tie.Need-rapid-of-requires
-rapid-of-requires c κs = field-modulus (c .pre)
+-- its own number
+own : {p : ℕ} {q : Modulus} → PreparedOf p q → PreparedOf (q .p) q
+own e = record { is = refl; same = e .same ∙ ap ready (sym (e .is)); prepared = e .prepared }
+
+prepare-requires : tie.Need-prepare-requires
+prepare-requires c κs = field-modulus (c .pre)
 
 advance-in-requires : tie.Need-advance-in-requires
-advance-in-requires c κs = record { inp = c .before .before .before .before .before .before .before .before .pre; ready = c .before .before .before .before .before .before .before .rapid-of .ensures; blank-x = record { a = refl; b = refl; c = refl }; blank-y = record { a = refl; b = refl; c = refl }; blank-d = refl }
+advance-in-requires c κs =
+    let at7 = c .before .before .before .before .before .before .before in
+    let at8 = at7 .before in
+    let e = at7 .prepare .ensures in
+    record { inp = advance-by e (at8 .pre); modulus = own e; blank-x = record { a = refl; b = refl; c = refl }; blank-y = record { a = refl; b = refl; c = refl }; blank-d = refl }
 
 returns : tie.Need-returns
-returns c = c .advance-in .ensures
+returns c = advanced-by (c .before .before .before .before .before .before .before .before .prepare .ensures) (c .advance-in .ensures)
 
 pub advanced-spec : {M : Type 1} → statement M
-advanced-spec = tie.close (tie.spec rapid-of-requires advance-in-requires returns)
+advanced-spec = tie.close (tie.spec prepare-requires advance-in-requires returns)

@@ -41,19 +41,29 @@ element-copy-out-l : tie.Need-element-copy-out-l
 element-copy-out-l c = omega (arith, n-small (c .before .before .before .before .before .before .before .pre .on .inp) (seven-loaded c))
 
 add-divided : tie.Need-add-divided
-add-divided c = omega (arith, n-small (c .before .before .before .before .before .before .before .before .pre .on .inp) (seven-loaded (c .before)), degrees-small (c .before .before .before .before .before .before .before .before .pre .on .inp) (seven-loaded (c .before)))
+add-divided c =
+    let at8 = c .before .before .before .before .before .before .before .before in
+    omega (arith, n-small (at8 .pre .on .inp) (seven-loaded (c .before)), degrees-small (at8 .pre .on .inp) (seven-loaded (c .before)))
 
 mul-divided : tie.Need-mul-divided
-mul-divided c = omega (arith, n-small (c .before .before .before .before .before .before .before .before .pre .on .inp) (seven-loaded (c .before)), degrees-small (c .before .before .before .before .before .before .before .before .pre .on .inp) (seven-loaded (c .before)))
+mul-divided c =
+    let at8 = c .before .before .before .before .before .before .before .before in
+    omega (arith, n-small (at8 .pre .on .inp) (seven-loaded (c .before)), degrees-small (at8 .pre .on .inp) (seven-loaded (c .before)))
 
 add-divided-2 : tie.Need-add-divided-2
-add-divided-2 c = omega (arith, n-small (c .before .before .before .before .before .before .before .before .pre .on .inp) (seven-loaded (c .before)), degrees-small (c .before .before .before .before .before .before .before .before .pre .on .inp) (seven-loaded (c .before)))
+add-divided-2 c =
+    let at8 = c .before .before .before .before .before .before .before .before in
+    omega (arith, n-small (at8 .pre .on .inp) (seven-loaded (c .before)), degrees-small (at8 .pre .on .inp) (seven-loaded (c .before)))
 
 mul-divided-2 : tie.Need-mul-divided-2
-mul-divided-2 c = omega (arith, n-small (c .before .before .before .before .before .before .before .before .pre .on .inp) (seven-loaded (c .before)), degrees-small (c .before .before .before .before .before .before .before .before .pre .on .inp) (seven-loaded (c .before)))
+mul-divided-2 c =
+    let at8 = c .before .before .before .before .before .before .before .before in
+    omega (arith, n-small (at8 .pre .on .inp) (seven-loaded (c .before)), degrees-small (at8 .pre .on .inp) (seven-loaded (c .before)))
 
 add-divided-3 : tie.Need-add-divided-3
-add-divided-3 c = omega (arith, n-small (c .before .before .before .before .before .before .before .before .pre .on .inp) (seven-loaded (c .before)), degrees-small (c .before .before .before .before .before .before .before .before .pre .on .inp) (seven-loaded (c .before)))
+add-divided-3 c =
+    let at8 = c .before .before .before .before .before .before .before .before in
+    omega (arith, n-small (at8 .pre .on .inp) (seven-loaded (c .before)), degrees-small (at8 .pre .on .inp) (seven-loaded (c .before)))
 
 sub-divided : tie.Need-sub-divided
 sub-divided c = omega (arith, dr-low (c .before .before .before .before .before .before .before .before .pre .on .inp) (seven-loaded (c .before)))
@@ -62,19 +72,36 @@ sub-divided-2 : tie.Need-sub-divided-2
 sub-divided-2 c = omega (arith, dw-low (c .before .before .before .before .before .before .before .before .pre .on .inp) (seven-loaded (c .before)))
 
 sub-divided-3 : tie.Need-sub-divided-3
-sub-divided-3 c = lead-low (c .before .before .before .before .before .before .before .before .pre .on .inp) (seven-loaded (c .before))
+sub-divided-3 c = lead-low (c .before .before .before .before .before .before .before .before .before .pre .on .inp) (seven-loaded (c .before .before))
 
 divided-requires : tie.Need-divided-requires
 divided-requires c κs =
-    let s = c .before .before .before .before .before .before .before .before .before .before .before .before .before .before .before .before .before .before .before .before .before .before .pre in
-    let l = seven-loaded (c .before .before .before .before .before .before .before .before .before .before .before .before .before .before .before) in
-    record { inp = divided-in (s .on .inp) l; ready = s .on .ready; sg = g-size (s .on .inp) l; sh = h-size (s .on .inp) l; sgh = gh-size (s .on .inp) l; blank-x = s .on .blank-x; blank-y = s .on .blank-y; blank-d = s .on .blank-d }
+    let at16 = c .before .before .before .before .before .before .before .before .before .before .before .before .before .before .before .before in
+    let at23 = at16 .before .before .before .before .before .before .before in
+    let s = at23 .pre in
+    let l = seven-loaded (at16) in
+    record {
+      inp = divided-in (s .on .inp) l;
+      modulus = s .on .modulus .prepared;
+      sg = g-size (s .on .inp) l;
+      sh = h-size (s .on .inp) l;
+      sgh = gh-size (s .on .inp)
+          l;
+      blank-x = s .on .blank-x;
+      blank-y = s .on .blank-y;
+      blank-d = s .on .blank-d;
+    }
 
-sub-t27 : tie.Need-sub-t27
-sub-t27 c = shorter (c .before .before .before .before .before .before .before .before .before .before .before .before .before .before .before .before .before .before .before .before .before .before .before .before .pre .on .inp) (seven-loaded (c .before .before .before .before .before .before .before .before .before .before .before .before .before .before .before .before .before)) _ _ (c .before .divided .ensures .was-m0) (c .before .divided .ensures .was-u)
+sub-t26 : tie.Need-sub-t26
+sub-t26 c =
+    let at18 = c .before .before .before .before .before .before .before .before .before .before .before .before .before .before .before .before .before .before in
+    let at25 = at18 .before .before .before .before .before .before .before in
+    shorter (at25 .pre .on .inp) (seven-loaded (at18)) _ _ (c .before .divided .ensures .was-m0) (c .before .divided .ensures .was-u)
 
 returns : tie.Need-returns
-returns c = record { b = _; loaded = seven-loaded (c .before .before .before .before .before .before .before .before .before .before .before .before .before .before .before .before .before); lm = _; lu = _; divided = c .before .divided .ensures; degree = refl }
+returns c =
+    let at18 = c .before .before .before .before .before .before .before .before .before .before .before .before .before .before .before .before .before .before in
+    record { b = _; loaded = seven-loaded (at18); lm = _; lu = _; divided = c .before .divided .ensures; degree = refl }
 
 pub parted-spec : {M : Type 1} → statement M
 parted-spec =
@@ -98,5 +125,5 @@ parted-spec =
     sub-divided-2
     sub-divided-3
     divided-requires
-    sub-t27
+    sub-t26
     returns)

@@ -1,0 +1,3 @@
+pub mod Frame
+pub mod Given
+pub mod Leaves

@@ -1,8 +1,0 @@
--- The frame that the code's numbers and lists make.
-use mathlib.Core.List.{List}
-use Prim.Native.Nat.{ℕ}
-use Rattle.basis_reduce.specs.Frame.{Frame, frame}
-use Rattle.basis_reduce.specs.declared.Bounds.{Bounds}
-
-abbrev pub given : Bounds → List ℕ → List ℕ → Frame
-given f r w = frame (f .p) r w (f .dr) (f .dw)

@@ -1,0 +1,2 @@
+pub mod Residue
+pub mod Prepared
