@@ -11,7 +11,7 @@ use poly_rows::cross;
 use poly_rows::gcd;
 use poly_rows::size;
 ghost use Rattle.step_divide.specs.Rows.{seven};
-ghost use Rattle.basis_field.specs.Known.{Known};
+ghost use Rattle.field_series.specs.Keeps.{Known};
 ghost use Rattle.basis_reduce.specs.Given.{given};
 ghost use Rattle.basis_accept.specs.Answer.{PassIn, Passes, Accepts};
 ghost use Rattle.basis_accept.specs.Tests.{ShapedIn, Shaped, AloneIn, Alone};

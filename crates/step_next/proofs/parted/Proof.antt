@@ -34,43 +34,43 @@ load-requires-7 : tie.Need-load-requires-7
 load-requires-7 c κs = search needs
 
 mul-l : tie.Need-mul-l
-mul-l c = omega (arith, n-small (c .before .before .before .before .before .before .before .pre .on .inp) (seven-loaded c))
+mul-l c = omega (arith, n-small (c .before .before .before .before .before .before .before .pre .on .inp) (c .before .before .before .before .before .before .before .pre .on .n-is) (seven-loaded c))
 
 element-copy-out-l : tie.Need-element-copy-out-l
-element-copy-out-l c = omega (arith, n-small (c .before .before .before .before .before .before .before .pre .on .inp) (seven-loaded c))
+element-copy-out-l c = omega (arith, n-small (c .before .before .before .before .before .before .before .pre .on .inp) (c .before .before .before .before .before .before .before .pre .on .n-is) (seven-loaded c))
 
 add-divided : tie.Need-add-divided
-add-divided c = omega (arith, n-small (c .before .before .before .before .before .before .before .before .pre .on .inp) (seven-loaded (c .before)), degrees-small (c .before .before .before .before .before .before .before .before .pre .on .inp) (seven-loaded (c .before)))
+add-divided c = omega (arith, n-small (c .before .before .before .before .before .before .before .before .pre .on .inp) (c .before .before .before .before .before .before .before .before .pre .on .n-is) (seven-loaded (c .before)), degrees-small (c .before .before .before .before .before .before .before .before .pre .on .inp) (c .before .before .before .before .before .before .before .before .pre .on .n-is) (seven-loaded (c .before)))
 
 mul-divided : tie.Need-mul-divided
-mul-divided c = omega (arith, n-small (c .before .before .before .before .before .before .before .before .pre .on .inp) (seven-loaded (c .before)), degrees-small (c .before .before .before .before .before .before .before .before .pre .on .inp) (seven-loaded (c .before)))
+mul-divided c = omega (arith, n-small (c .before .before .before .before .before .before .before .before .pre .on .inp) (c .before .before .before .before .before .before .before .before .pre .on .n-is) (seven-loaded (c .before)), degrees-small (c .before .before .before .before .before .before .before .before .pre .on .inp) (c .before .before .before .before .before .before .before .before .pre .on .n-is) (seven-loaded (c .before)))
 
 add-divided-2 : tie.Need-add-divided-2
-add-divided-2 c = omega (arith, n-small (c .before .before .before .before .before .before .before .before .pre .on .inp) (seven-loaded (c .before)), degrees-small (c .before .before .before .before .before .before .before .before .pre .on .inp) (seven-loaded (c .before)))
+add-divided-2 c = omega (arith, n-small (c .before .before .before .before .before .before .before .before .pre .on .inp) (c .before .before .before .before .before .before .before .before .pre .on .n-is) (seven-loaded (c .before)), degrees-small (c .before .before .before .before .before .before .before .before .pre .on .inp) (c .before .before .before .before .before .before .before .before .pre .on .n-is) (seven-loaded (c .before)))
 
 mul-divided-2 : tie.Need-mul-divided-2
-mul-divided-2 c = omega (arith, n-small (c .before .before .before .before .before .before .before .before .pre .on .inp) (seven-loaded (c .before)), degrees-small (c .before .before .before .before .before .before .before .before .pre .on .inp) (seven-loaded (c .before)))
+mul-divided-2 c = omega (arith, n-small (c .before .before .before .before .before .before .before .before .pre .on .inp) (c .before .before .before .before .before .before .before .before .pre .on .n-is) (seven-loaded (c .before)), degrees-small (c .before .before .before .before .before .before .before .before .pre .on .inp) (c .before .before .before .before .before .before .before .before .pre .on .n-is) (seven-loaded (c .before)))
 
 add-divided-3 : tie.Need-add-divided-3
-add-divided-3 c = omega (arith, n-small (c .before .before .before .before .before .before .before .before .pre .on .inp) (seven-loaded (c .before)), degrees-small (c .before .before .before .before .before .before .before .before .pre .on .inp) (seven-loaded (c .before)))
+add-divided-3 c = omega (arith, n-small (c .before .before .before .before .before .before .before .before .pre .on .inp) (c .before .before .before .before .before .before .before .before .pre .on .n-is) (seven-loaded (c .before)), degrees-small (c .before .before .before .before .before .before .before .before .pre .on .inp) (c .before .before .before .before .before .before .before .before .pre .on .n-is) (seven-loaded (c .before)))
 
 sub-divided : tie.Need-sub-divided
-sub-divided c = omega (arith, dr-low (c .before .before .before .before .before .before .before .before .pre .on .inp) (seven-loaded (c .before)))
+sub-divided c = omega (arith, dr-low (c .before .before .before .before .before .before .before .before .pre .on .inp) (c .before .before .before .before .before .before .before .before .pre .on .n-is) (seven-loaded (c .before)))
 
 sub-divided-2 : tie.Need-sub-divided-2
-sub-divided-2 c = omega (arith, dw-low (c .before .before .before .before .before .before .before .before .pre .on .inp) (seven-loaded (c .before)))
+sub-divided-2 c = omega (arith, dw-low (c .before .before .before .before .before .before .before .before .pre .on .inp) (c .before .before .before .before .before .before .before .before .pre .on .n-is) (seven-loaded (c .before)))
 
 sub-divided-3 : tie.Need-sub-divided-3
-sub-divided-3 c = lead-low (c .before .before .before .before .before .before .before .before .pre .on .inp) (seven-loaded (c .before))
+sub-divided-3 c = lead-low (c .before .before .before .before .before .before .before .before .pre .on .inp) (c .before .before .before .before .before .before .before .before .pre .on .n-is) (seven-loaded (c .before))
 
 divided-requires : tie.Need-divided-requires
 divided-requires c κs =
     let s = c .before .before .before .before .before .before .before .before .before .before .before .before .before .before .before .before .before .before .before .before .before .before .pre in
     let l = seven-loaded (c .before .before .before .before .before .before .before .before .before .before .before .before .before .before .before) in
-    record { inp = divided-in (s .on .inp) l; ready = s .on .ready; sg = g-size (s .on .inp) l; sh = h-size (s .on .inp) l; sgh = gh-size (s .on .inp) l; blank-x = s .on .blank-x; blank-y = s .on .blank-y; blank-d = s .on .blank-d }
+    record { inp = divided-in (s .on .inp) (s .on .n-is) l; ready = s .on .ready; sg = g-size (s .on .inp) (s .on .n-is) l; sh = h-size (s .on .inp) (s .on .n-is) l; sgh = gh-size (s .on .inp) (s .on .n-is) l; blank-x = s .on .blank-x; blank-y = s .on .blank-y; blank-d = s .on .blank-d }
 
 sub-t27 : tie.Need-sub-t27
-sub-t27 c = shorter (c .before .before .before .before .before .before .before .before .before .before .before .before .before .before .before .before .before .before .before .before .before .before .before .before .pre .on .inp) (seven-loaded (c .before .before .before .before .before .before .before .before .before .before .before .before .before .before .before .before .before)) _ _ (c .before .divided .ensures .was-m0) (c .before .divided .ensures .was-u)
+sub-t27 c = shorter (c .before .before .before .before .before .before .before .before .before .before .before .before .before .before .before .before .before .before .before .before .before .before .before .before .pre .on .inp) (c .before .before .before .before .before .before .before .before .before .before .before .before .before .before .before .before .before .before .before .before .before .before .before .before .pre .on .n-is) (seven-loaded (c .before .before .before .before .before .before .before .before .before .before .before .before .before .before .before .before .before)) _ _ (c .before .divided .ensures .was-m0) (c .before .divided .ensures .was-u)
 
 returns : tie.Need-returns
 returns c = record { b = _; loaded = seven-loaded (c .before .before .before .before .before .before .before .before .before .before .before .before .before .before .before .before .before); lm = _; lu = _; divided = c .before .divided .ensures; degree = refl }
