@@ -24,7 +24,7 @@ use Rattle.math_ideals.specs.Tests.{Tests}
 use Rattle.math_ideals.proofs.Tests.{good-of, tests-of}
 use Rattle.field_open.specs.Refusal.{Accepted}
 use Rattle.basis_record.specs.Record.{setting, basisOf, IsRecord}
-use Rattle.field_series.specs.Answer.{Prefix}
+use Rattle.field_series.specs.Keeps.{Kept, Known}
 use Rattle.field_series.specs.declared.Cubic.{Cubic}
 use Rattle.basis_parts.specs.Frame.{Frame, frame, Fine, Short}
 use Rattle.poly_rows.proofs.Lengths.{row-short, monic-inverts}
@@ -34,9 +34,8 @@ use Rattle.basis_record.proofs.Sevens.{every, each-of-seven}
 use Rattle.basis_record.proofs.Loads.{rows-path, rows-good}
 use Rattle.step_divide.proofs.Products.{Sizes, sizes}
 use Rattle.basis_scale.proofs.Start.{meaning}
-use Rattle.basis_field.specs.Known.{Known}
-use Rattle.basis_field.proofs.Ground.{frameOf, frame-is, frame-by, fine, r-reads, w-reads, modulus, dr-is, dw-is, room}
-use Rattle.basis_field.proofs.Lists.{field-holds, g-row, h-row, gh-row, holds-of}
+use Rattle.basis_field.proofs.Keeps.{rows-hold, g-row, h-row, gh-row, holds-of, r-series, w-series, modulus, dr-is, dw-is, room}
+use Rattle.basis_field.proofs.Ground.{frameOf, frame-is, frame-by, fine}
 use Rattle.base_answers.specs.Decides.{Decides}
 use Rattle.base_answers.proofs.Tests.{answer-no, settled}
 use Rattle.basis_closed.specs.Closed.{Closed, Given, Room, longest, UnderIn, Under}
@@ -45,9 +44,9 @@ use Rattle.basis_accept.specs.Tests.{ShapedIn, Shaped, Numbers, AloneIn,
 use Rattle.basis_accept.specs.Answer.{Seventeen, PassIn, Passes, Accepts}
 
 -- ---- the field
-module _ {p : ℕ} {G H : List ℕ} (A : Accepted p G H) (c : Cubic) (h : Prefix p G H c) where
-  p-is : c .field .p ≡ p
-  p-is = field-holds c h A .prime
+module _ (c : Cubic) {G H : List ℕ} (h : Kept c G H) (A : Accepted (c .field .p) G H) where
+  abbrev p : ℕ
+  p = c .field .p
 
   degrees-low : (A .degG ≤ 12) × (A .degH ≤ 12)
   degrees-low =
@@ -62,8 +61,8 @@ module _ {p : ℕ} {G H : List ℕ} (A : Accepted p G H) (c : Cubic) (h : Prefix
   low =
       let (g, k) = degrees-low in
       let s : A .degG + A .degH ≤ 16 = A .sum in
-      let e : 3 * c .field .dr ≡ A .degG + 2 * A .degH = field-holds c h A .degR in
-      let f : 3 * c .field .dw ≡ 2 * A .degG + A .degH = field-holds c h A .degW in
+      let e : 3 * c .field .dr ≡ A .degG + 2 * A .degH = rows-hold h A .degR in
+      let f : 3 * c .field .dw ≡ 2 * A .degG + A .degH = rows-hold h A .degW in
       (omega (arith, k), omega (arith, g))
 
   pub given-of : Given p (c .field .g) (c .field .h) (c .field .gh)
@@ -72,22 +71,22 @@ module _ {p : ℕ} {G H : List ℕ} (A : Accepted p G H) (c : Cubic) (h : Prefix
       let (lg, lh) = degrees-low in
       let s : A .degG + A .degH ≤ 16 = A .sum in
       record {
-        modulus = modulus A c h;
+        modulus = modulus h;
         prime = A .prime;
-        hg = row-short ρ 13 (g-row c h A) (d.lt-eq (ρ .𝓥) (d.has-up (ρ .𝓥) 13 (setting A .roots .G-deg) (omega (arith, lg))) (sym (holds-of c h A .g-is)));
-        hh = row-short ρ 13 (h-row c h A) (d.lt-eq (ρ .𝓥) (d.has-up (ρ .𝓥) 13 (setting A .roots .H-deg) (omega (arith, lh))) (sym (holds-of c h A .h-is)));
-        hgh = row-short ρ 17 (gh-row c h A) (d.lt-eq (ρ .𝓥) (d.has-up (ρ .𝓥) 17 (d.has-mul (ρ .𝓥) (setting A .roots .G-deg) (setting A .roots .H-deg)) (omega arith)) (sym (holds-of c h A .gh-is)));
+        hg = row-short ρ 13 (g-row h) (d.lt-eq (ρ .𝓥) (d.has-up (ρ .𝓥) 13 (setting A .roots .G-deg) (omega (arith, lg))) (sym (holds-of h A .g-is)));
+        hh = row-short ρ 13 (h-row h) (d.lt-eq (ρ .𝓥) (d.has-up (ρ .𝓥) 13 (setting A .roots .H-deg) (omega (arith, lh))) (sym (holds-of h A .h-is)));
+        hgh = row-short ρ 17 (gh-row h) (d.lt-eq (ρ .𝓥) (d.has-up (ρ .𝓥) 17 (d.has-mul (ρ .𝓥) (setting A .roots .G-deg) (setting A .roots .H-deg)) (omega arith)) (sym (holds-of h A .gh-is)));
       }
 
   pub fine-of : Fine (frameOf c)
-  fine-of = subst Fine (frame-is A c h) (fine A c h)
+  fine-of = subst Fine (frame-is h A) (fine h A)
 
   module _ (b : Seven) where
     -- a test on the series that the field keeps is one on those of the theory
-    shaped-at : {o : Bool} → Shaped (frameOf c) b o → Decides o (Numbers (meaning A (c .r) (c .w) (r-reads A c h) (w-reads A c h)) b)
-    shaped-at {o} s = subst (λ F. Shaped F b o) (sym (frame-is A c h)) s (meaning A (c .r) (c .w) (r-reads A c h) (w-reads A c h))
+    shaped-at : {o : Bool} → Shaped (frameOf c) b o → Decides o (Numbers (meaning A (c .r) (c .w) (r-series h A) (w-series h A)) b)
+    shaped-at {o} s = subst (λ F. Shaped F b o) (sym (frame-is h A)) s (meaning A (c .r) (c .w) (r-series h A) (w-series h A))
 
-    numbers-in : Tests (setting A) (rowsOf A b) → Numbers (meaning A (c .r) (c .w) (r-reads A c h) (w-reads A c h)) b
+    numbers-in : Tests (setting A) (rowsOf A b) → Numbers (meaning A (c .r) (c .w) (r-series h A) (w-series h A)) b
     numbers-in t = t .sizes
 
     closed-in : Tests (setting A) (rowsOf A b) → Closed A b
@@ -102,8 +101,8 @@ module _ {p : ℕ} {G H : List ℕ} (A : Accepted p G H) (c : Cubic) (h : Prefix
     narrow-of rows good =
         let ρ = reading p (A .prime) in
         let z : Sizes A b = sizes A b good in
-        let er : setting A .roots .dr ≡ c .field .dr = dr-is A c h in
-        let ew : setting A .roots .dw ≡ c .field .dw = dw-is A c h in
+        let er : c .field .dr ≡ setting A .roots .dr = dr-is h A in
+        let ew : c .field .dw ≡ setting A .roots .dw = dw-is h A in
         record {
           h1 = λ i l. row-short ρ (suc (setting A .roots .dw)) (rows 1) (z .rows 1) .above i (omega arith);
           h2 = λ i l. row-short ρ (suc (setting A .roots .dr)) (rows 2) (z .rows 2) .above i (omega arith);
@@ -127,10 +126,10 @@ each-row z h1 h2 k1 k2 (suc (suc (suc (suc (suc (suc i)))))) = z .each 6
 -- ---- what is prepared of p in place of p
 module _ (c : Cubic) {q : Modulus} (e : PreparedOf (c .field .p) q) {b : Seven} where
   pub shaped-by : (top : ℕ) → ShapedIn (frameOf c) top b → ShapedIn (frame q (c .r) (c .w) (c .field .dr) (c .field .dw)) top b
-  shaped-by top i = subst (λ F. ShapedIn F top b) (frame-by c e) i
+  shaped-by top i = subst (λ F. ShapedIn F top b) (frame-by e (c .r) (c .w) (c .field .dr) (c .field .dw)) i
 
   pub shaped-from : {o : Bool} → Shaped (frame q (c .r) (c .w) (c .field .dr) (c .field .dw)) b o → Shaped (frameOf c) b o
-  shaped-from {o} s = subst (λ F. Shaped F b o) (sym (frame-by c e)) s
+  shaped-from {o} s = subst (λ F. Shaped F b o) (sym (frame-by e (c .r) (c .w) (c .field .dr) (c .field .dw))) s
 
   pub under-from : {o : Bool} → Under (q .p) (c .field .g) (c .field .h) (c .field .gh) b o → Under (c .field .p) (c .field .g) (c .field .h) (c .field .gh) b o
   under-from {o} s = subst (λ p. Under p (c .field .g) (c .field .h) (c .field .gh) b o) (e .is) s
@@ -140,35 +139,32 @@ module _ (c : Cubic) {q : Modulus} (e : PreparedOf (c .field .p) q) {b : Seven} 
 
 -- ---- one test after the other
 module _ {c : Cubic} {b : Seven} (i : PassIn c b) where
-  abbrev pub A₀ : Accepted (i .known .p) (i .known .G) (i .known .H)
-  A₀ = i .known .accepted
+  abbrev k₀ : Kept c (i .known .G) (i .known .H)
+  k₀ = i .known .kept
 
-  rows-at : {p : ℕ} {G H : List ℕ} → Accepted p G H → Prefix p G H c → Seventeen p b
-  rows-at A h = subst (λ q. Seventeen q b) (p-is A c h) (i .rows)
+  abbrev A₀ : Accepted (c .field .p) (i .known .G) (i .known .H)
+  A₀ = k₀ .accepted
 
   pub narrow-in : NarrowIn (b .m1) (b .m2) (b .n1) (b .n2)
   narrow-in = record { h1 = i .rows .each 1 .is-row .size; h2 = i .rows .each 2 .is-row .size; k1 = i .rows .each 4 .is-row .size; k2 = i .rows .each 5 .is-row .size }
 
   pub not-narrow : {o : Bool} → o ≡ false → Decides o (Narrow (c .field .dw + 1) (c .field .dr + 1) (b .m1) (b .m2) (b .n1) (b .n2)) → Passes c b false
-  not-narrow e n p G H A h = answer-no (λ good. n .no! e (narrow-of A c h b (are-rows (rows-at A h)) good))
+  not-narrow e n G H A h = answer-no (λ good. n .no! e (narrow-of c h A b (are-rows (i .rows)) good))
 
   pub not-shaped : {o : Bool} → o ≡ false → Shaped (frameOf c) b o → Passes c b false
-  not-shaped e s p G H A h = answer-no (λ good. shaped-at A c h b s .no! e (numbers-in A c h b (tests-of (setting A) (rowsOf A b) good)))
-
-  alone-at : {p : ℕ} {G H : List ℕ} {o : Bool} → Accepted p G H → Prefix p G H c → Alone (c .field .p) b o → Alone p b o
-  alone-at {o = o} A h = subst (λ q. Alone q b o) (p-is A c h)
+  not-shaped e s G H A h = answer-no (λ good. shaped-at c h A b s .no! e (numbers-in c h A b (tests-of (setting A) (rowsOf A b) good)))
 
   pub not-alone : {o : Bool} → o ≡ false → Alone (c .field .p) b o → Passes c b false
-  not-alone e a p G H A h = answer-no (λ good. alone-at A h a G H A .no! e (good .scaled .seven))
+  not-alone e a G H A h = answer-no (λ good. a G H A .no! e (good .scaled .seven))
 
   pub alone-in : {q : Modulus} → PreparedOf (c .field .p) q → AloneIn q b
   alone-in {q} e =
-      let u : i .known .p ≡ q .p = sym (p-is A₀ c (i .known .prefix)) ∙ sym (e .is) in
-      record { modulus = e .prepared; prime = subst Prime u (A₀ .prime); rows = subst (λ p. AreRows p b) u (are-rows (rows-at A₀ (i .known .prefix))) }
+      let u : c .field .p ≡ q .p = sym (e .is) in
+      record { modulus = e .prepared; prime = subst Prime u (A₀ .prime); rows = subst (λ p. AreRows p b) u (are-rows (i .rows)) }
 
   -- the bounds of the field
   pub sum-low : c .field .dr + c .field .dw ≤ 16
-  sum-low = room (i .known)
+  sum-low = room k₀
 
   module _ {o : Bool} (e : o ≡ true) (n : Decides o (Narrow (c .field .dw + 1) (c .field .dr + 1) (b .m1) (b .m2) (b .n1) (b .n2))) where
     slim : Narrow (c .field .dw + 1) (c .field .dr + 1) (b .m1) (b .m2) (b .n1) (b .n2)
@@ -177,10 +173,9 @@ module _ {c : Cubic} {b : Seven} (i : PassIn c b) where
     pub shaped-in : ShapedIn (frameOf c) (c .field .dr + c .field .dw + 1) b
     shaped-in =
         let l : c .field .dr + c .field .dw ≤ 16 = sum-low in
-        let t : 5 ≤ i .known .p = A₀ .low in
-        let q : c .field .p ≡ i .known .p = p-is A₀ c (i .known .prefix) in
+        let t : 5 ≤ c .field .p = A₀ .low in
         record {
-          fine = fine-of A₀ c (i .known .prefix);
+          fine = fine-of c k₀ A₀;
           two = omega arith;
           fits = omega arith;
           low-r = omega arith;
@@ -193,13 +188,13 @@ module _ {c : Cubic} {b : Seven} (i : PassIn c b) where
         }
 
     module _ {o₂ : Bool} (e₂ : o₂ ≡ true) (s : Shaped (frameOf c) b o₂) where
-      room-of : Room (i .known .p) b
+      room-of : Room (c .field .p) b
       room-of =
-          let (lr, lw) = low A₀ c (i .known .prefix) in
-          let z : Seventeen (i .known .p) b = rows-at A₀ (i .known .prefix) in
-          let m = shaped-at A₀ c (i .known .prefix) b s .yes! e₂ in
-          let v = reading (i .known .p) (A₀ .prime) .𝓥 in
-          let ten : (k : ℕ) → ((j : ℕ) → 10 ≤ j → getD (rowAt b k) j 0 ≡ 0) → Short (i .known .p) (rowAt b k) 10 = λ k h. record { is-row = z .each k .is-row; above = h } in
+          let (lr, lw) = low c k₀ A₀ in
+          let z : Seventeen (c .field .p) b = i .rows in
+          let m = shaped-at c k₀ A₀ b s .yes! e₂ in
+          let v = reading (c .field .p) (A₀ .prime) .𝓥 in
+          let ten : (k : ℕ) → ((j : ℕ) → 10 ≤ j → getD (rowAt b k) j 0 ≡ 0) → Short (c .field .p) (rowAt b k) 10 = λ k h. record { is-row = z .each k .is-row; above = h } in
           record {
             rows = each-row z
                 (ten 1 (λ j w. slim .h1 j (omega (arith, lw))))
@@ -211,16 +206,16 @@ module _ {c : Cubic} {b : Seven} (i : PassIn c b) where
 
       pub under-in : {q : Modulus} → PreparedOf (c .field .p) q → UnderIn q (c .field .g) (c .field .h) (c .field .gh) b
       under-in {q} e =
-          let u : i .known .p ≡ q .p = sym (p-is A₀ c (i .known .prefix)) ∙ sym (e .is) in
-          record { given = subst (λ p. Given p (c .field .g) (c .field .h) (c .field .gh)) u (given-of A₀ c (i .known .prefix)); modulus = e .prepared; room = subst (λ p. Room p b) u room-of }
+          let u : c .field .p ≡ q .p = sym (e .is) in
+          record { given = subst (λ p. Given p (c .field .g) (c .field .h) (c .field .gh)) u (given-of c k₀ A₀); modulus = e .prepared; room = subst (λ p. Room p b) u room-of }
 
       module _ {o₃ : Bool} (e₃ : o₃ ≡ true) (a : Alone (c .field .p) b o₃) where
         pub passes-as : (o₄ : Bool) → Under (c .field .p) (c .field .g) (c .field .h) (c .field .gh) b o₄ → Passes c b o₄
-        passes-as o₄ k p G H A h =
-            let k′ : Decides o₄ (Closed A b) = subst (λ q. Under q (c .field .g) (c .field .h) (c .field .gh) b o₄) (p-is A c h) k G H A (holds-of c h A) in
+        passes-as o₄ k G H A h =
+            let k′ : Decides o₄ (Closed A b) = k G H A (holds-of h A) in
             record {
-              yes! = λ q. good-from A c h b (subst (Shaped (frameOf c) b) e₂ s) (alone-at A h (subst (Alone (c .field .p) b) e₃ a)) (k′ .yes! q);
-              no! = λ q good. k′ .no! q (closed-in A c h b (tests-of (setting A) (rowsOf A b) good));
+              yes! = λ q. good-from c h A b (subst (Shaped (frameOf c) b) e₂ s) (subst (Alone (c .field .p) b) e₃ a) (k′ .yes! q);
+              no! = λ q good. k′ .no! q (closed-in c h A b (tests-of (setting A) (rowsOf A b) good));
             }
 
 -- ---- the 119 numbers
@@ -232,7 +227,7 @@ loaded-of {B} h0 h1 h2 k0 k1 k2 hu = record { each = each-of-seven (Loaded B) h0
 
 module _ {c : Cubic} {B : List ℕ} where
   pub not-below : {o : Bool} → o ≡ false → Decides o (Below (c .field .p) B) → Accepts c B false
-  not-below e n p G H A h = answer-no (λ rec. n .no! e (λ j. subst (λ q. getD B j 0 < q) (sym (p-is A c h)) (rec .each j)))
+  not-below e n G H h = answer-no (λ rec. n .no! e (rec .each))
 
   module _ {o : Bool} (e : o ≡ true) (n : Decides o (Below (c .field .p) B)) {b : Seven} (l : SevenLoaded B b) where
     pub pass-in : Known c → PassIn c b
@@ -245,14 +240,14 @@ module _ {c : Cubic} {B : List ℕ} where
         at k w = short-of (c .field .p) (n .yes! e) (l .each k w)
 
     pub accepts-as : length B ≡ 119 → (o₂ : Bool) → Passes c b o₂ → Accepts c B o₂
-    accepts-as z o₂ s p G H A h = record {
+    accepts-as z o₂ s G H h = record {
       yes! = λ q. record {
         size = z;
-        each = λ j. subst (λ t. getD B j 0 < t) (p-is A c h) (n .yes! e j);
-        good = λ A′. subst (Good (setting A′)) (rows-path A′ l) (s p G H A′ h .yes! q);
+        each = n .yes! e;
+        good = λ A. subst (Good (setting A)) (rows-path A l) (s G H A h .yes! q);
       };
-      no! = λ q rec. s p G H A h .no! q (rows-good A l (rec .good A));
+      no! = λ q rec. s G H (h .accepted) h .no! q (rows-good (h .accepted) l (rec .good (h .accepted)));
     }
 
 pub accepts-one : {c : Cubic} {B : List ℕ} → Known c → (o o′ : Bool) → Accepts c B o → Accepts c B o′ → o ≡ o′
-accepts-one {c} {B} k o o′ h h′ = settled o o′ (IsRecord (k .p) (k .G) (k .H) B) (h (k .p) (k .G) (k .H) (k .accepted) (k .prefix)) (h′ (k .p) (k .G) (k .H) (k .accepted) (k .prefix))
+accepts-one {c} {B} k o o′ h h′ = settled o o′ (IsRecord (c .field .p) (k .G) (k .H) B) (h (k .G) (k .H) (k .kept)) (h′ (k .G) (k .H) (k .kept))

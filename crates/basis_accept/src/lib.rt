@@ -13,7 +13,7 @@ use poly_factors::gcd;
 use poly_rows::cross_in;
 use poly_rows::size;
 ghost use Rattle.basis_record.specs.Seven.{seven};
-ghost use Rattle.basis_field.specs.Known.{Known};
+ghost use Rattle.field_series.specs.Keeps.{Known};
 ghost use Rattle.basis_parts.specs.Given.{given};
 ghost use Rattle.basis_accept.specs.Answer.{PassIn, Passes, Accepts};
 ghost use Rattle.basis_accept.specs.Tests.{ShapedIn, Shaped, AloneIn, Alone};

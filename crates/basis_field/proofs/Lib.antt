@@ -1,4 +1,4 @@
+pub mod Keeps
 pub mod Ground
-pub mod Lists
 pub mod Known
 pub mod First

@@ -1,6 +1,6 @@
-// An opened field with the first coefficients of its series, as the reduction and the theory take it: proofs/Ground.antt. What stands here
+// An opened field with the first coefficients of its series, as the reduction and the theory take it: proofs/Keeps.antt and proofs/Ground.antt. What stands here
 // asks for such a field; the doors, which open it, are in the door_ crates.
-ghost use Rattle.basis_field.specs.Known.{Known};
+ghost use Rattle.field_series.specs.Keeps.{Known};
 ghost use Rattle.basis_field.specs.First.{First};
 
 // The basis of the order of an opened field.

@@ -8,5 +8,6 @@ pub mod Generators
 pub mod Bases
 pub mod Tests
 pub mod Steps
+pub mod Units
 pub mod Long
 pub mod Bytes

@@ -1,4 +1,4 @@
--- Crates bases, step, stepped, walk and walks: an opened field and a record of it, as each function asks for them, settle its result.
+-- Crates basis_field, step_next and walk_chain: an opened field and a record of it, as each function asks for them, settle its result.
 use mathlib.Core.Path.{_≡_, refl, sym, _∙_}
 use mathlib.Core.Logic.{_⊎_, inl, inr}
 use mathlib.Core.List.{List}
@@ -6,7 +6,7 @@ use Prim.Native.Nat.{ℕ}
 use Rattle.field_open.specs.Refusal.{Accepted}
 use Rattle.basis_record.specs.Record.{IsRecord}
 use Rattle.field_series.specs.declared.Cubic.{Cubic}
-use Rattle.basis_field.specs.Known.{Known}
+use Rattle.field_series.specs.Keeps.{Known}
 use Rattle.basis_field.specs.First.{First}
 use Rattle.step_next.specs.Steps.{AdvanceIn, Advanced}
 use Rattle.step_next.specs.declared.Advance.{Advance}
@@ -20,16 +20,14 @@ use Rattle.walk_chain.specs.InField.{WalkedIn, WalkedOut}
 use Rattle.basis_field.proofs.First as first
 
 pub first-one : {c : Cubic} {B B′ : List ℕ} → Known c → First c B → First c B′ → B ≡ B′
-first-one {c} {B} {B′} g h k = first.first-one (g .accepted) B B′ (h (g .p) (g .G) (g .H) (g .accepted) (g .prefix)) (k (g .p) (g .G) (g .H) (g .accepted) (g .prefix))
+first-one {c} {B} {B′} g h k = first.first-one (g .kept .accepted) B B′ (h (g .G) (g .H) (g .kept)) (k (g .G) (g .H) (g .kept))
 
-pub advanced-one : {p : ℕ} {g h gh : List ℕ} {n dr dw : ℕ} {r w B : List ℕ} (o o′ : Advance) → AdvanceIn p g h gh n dr dw r w B
-    → Advanced p g h gh n dr dw r w B o → Advanced p g h gh n dr dw r w B o′ → o ≡ o′
+pub advanced-one : {p : ℕ} {g h gh : List ℕ} {dr dw : ℕ} {r w B : List ℕ} (o o′ : Advance) → AdvanceIn p g h gh dr dw r w B
+    → Advanced p g h gh dr dw r w B o → Advanced p g h gh dr dw r w B o′ → o ≡ o′
 advanced-one o o′ g h k = steps-one {o = o} {o′ = o′} (g .keeps .accepted) (g .is-record) (h (g .G) (g .H) (g .keeps) (g .is-record)) (k (g .G) (g .H) (g .keeps) (g .is-record))
 
 pub next-one : {c : Cubic} {B : List ℕ} (o o′ : Advance) → NextIn c B → NextOut c B o → NextOut c B o′ → o ≡ o′
-next-one o o′ g h k =
-    let n = g .known in
-    steps-one {o = o} {o′ = o′} (n .accepted) (g .is-record) (h (n .p) (n .G) (n .H) (n .accepted) (n .prefix) (g .is-record)) (k (n .p) (n .G) (n .H) (n .accepted) (n .prefix) (g .is-record))
+next-one o o′ g h k = advanced-one o o′ g h k
 
 -- ---- a walk closes within its budget or spends it, and does so in one way
 module _ {p : ℕ} {G H : List ℕ} (A : Accepted p G H) {n : ℕ} {B : List ℕ} (is : IsRecord p G H B) where
@@ -43,11 +41,9 @@ module _ {p : ℕ} {G H : List ℕ} (A : Accepted p G H) {n : ℕ} {B : List ℕ
       let (y, z) = reaches-one p G H A B is refl (e .reaches) (f .reaches) in
       λ i. record { refusal = (e .number ∙ sym (f .number)) i; steps = (e .all ∙ sym (f .all)) i; sum = y i; basis = z i }
 
-pub go-one : {p : ℕ} {g h gh : List ℕ} {n dr dw : ℕ} {r w B : List ℕ} {budget : ℕ} (v v′ : Walked) → GoIn p g h gh n dr dw r w B budget
-    → Gone p g h gh n dr dw r w B budget v → Gone p g h gh n dr dw r w B budget v′ → v ≡ v′
+pub go-one : {p : ℕ} {g h gh : List ℕ} {dr dw : ℕ} {r w B : List ℕ} {budget : ℕ} (v v′ : Walked) → GoIn p g h gh dr dw r w B budget
+    → Gone p g h gh dr dw r w B budget v → Gone p g h gh dr dw r w B budget v′ → v ≡ v′
 go-one v v′ g h k = gone-one (g .keeps .accepted) (g .is-record) v v′ (h (g .G) (g .H) (g .keeps) (g .is-record)) (k (g .G) (g .H) (g .keeps) (g .is-record))
 
 pub walked-one : {c : Cubic} {B : List ℕ} {n : ℕ} (v v′ : Walked) → WalkedIn c B n → WalkedOut c B n v → WalkedOut c B n v′ → v ≡ v′
-walked-one v v′ g h k =
-    let m = g .known in
-    gone-one (m .accepted) (g .is-record) v v′ (h (m .p) (m .G) (m .H) (m .accepted) (m .prefix) (g .is-record)) (k (m .p) (m .G) (m .H) (m .accepted) (m .prefix) (g .is-record))
+walked-one v v′ g h k = go-one v v′ g h k

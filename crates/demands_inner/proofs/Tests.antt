@@ -11,7 +11,7 @@ use Rattle.basis_record.specs.Seven.{Seven, Holds}
 use Rattle.basis_closed.specs.Closed.{Under}
 use Rattle.basis_closed.proofs.Closing as closing
 use Rattle.field_series.specs.declared.Cubic.{Cubic}
-use Rattle.basis_field.specs.Known.{Known}
+use Rattle.field_series.specs.Keeps.{Known}
 use Rattle.basis_accept.specs.Answer.{Accepts}
 use Rattle.basis_accept.proofs.Accepting as accepting
 

@@ -1,9 +1,10 @@
 -- What the public functions of bases answer.
 --   orders-one    two answers of `order` to one p, G, H are equal
+--   orders-made   what `order` answers for an accepted field
 --   orders-first  beside 0: accepted, and the record of the order
 --   checks-yes, checks-no   what `check` answers for an accepted field
 --   checks-one    two answers of `check` to one p, G, H and record are equal
-use mathlib.Core.Path.{_≡_, refl, sym, ap, _∙_}
+use mathlib.Core.Path.{_≡_, refl, sym, ap, _∙_, subst}
 use mathlib.Core.Bool.{Bool, true, false}
 use mathlib.Core.List.{List}
 use Prim.Native.Nat.{ℕ}
@@ -15,9 +16,9 @@ use Rattle.field_series.specs.Answer.{Expands}
 use Rattle.field_series.specs.declared.Expanded.{Expanded}
 use Rattle.field_series.proofs.Answer.{expands-number}
 use Rattle.basis_accept.specs.Answer.{Accepts}
-use Rattle.basis_field.specs.First.{IsFirst}
+use Rattle.basis_field.specs.First.{IsFirst, First}
 use Rattle.basis_field.proofs.First.{first-one}
-use Rattle.basis_field.proofs.Known.{field-of, prefix-of}
+use Rattle.basis_field.proofs.Known.{prime-of, kept-of}
 use Rattle.door_basis.specs.declared.Ordered.{Ordered}
 use Rattle.door_basis.specs.Answer.{Orders, Goes, no-record, is-record, Checks}
 
@@ -31,10 +32,14 @@ orders-one o o′ = door-unique (λ n e f. e ∙ sym f)
 pub orders-first : {p : ℕ} {G H : List ℕ} {o : Ordered} → Orders p G H o → o .refusal ≡ 0 → Accepted p G H × IsFirst p G H (o .basis)
 orders-first h z = let (A, k) = door-open (λ n e. ap (λ a. a .refusal) e) (λ k. k .0) h z in (A, k .1)
 
+-- what `order` answers in an opened field
+pub orders-made : {p : ℕ} {G H b : List ℕ} {e : Expanded} (opens : Expands p G H e) (z : e .refusal ≡ 0) → First (e .cubic) b → Orders p G H (record { refusal = 0; basis = b })
+orders-made {G = G} {H} {b} opens z first = door-goes (expands-number opens) z (refl, subst (λ q. IsFirst q G H b) (prime-of opens z) (first G H (kept-of opens z)))
+
 module _ {p : ℕ} {G H B : List ℕ} where
   module _ {e : Expanded} (opens : Expands p G H e) (z : e .refusal ≡ 0) {good : Bool} (tested : Accepts (e .cubic) B good) where
     decided : Decides good (IsRecord p G H B)
-    decided = tested p G H (field-of opens z) (prefix-of opens z)
+    decided = subst (λ q. Decides good (IsRecord q G H B)) (prime-of opens z) (tested G H (kept-of opens z))
 
     pub checks-yes : good ≡ true → Checks p G H B 0
     checks-yes t = door-goes (expands-number opens) z (is-record (decided .yes! t) refl)

@@ -1,7 +1,7 @@
 -- The step's answer.
 --   answers-one                             two answers that meet it are equal
 --   answers-no-record next-of answers-next   what `step` answers in an opened field
-use mathlib.Core.Path.{_≡_, refl, sym, _∙_}
+use mathlib.Core.Path.{_≡_, refl, sym, _∙_, subst}
 use mathlib.Core.Bool.{Bool, true, false}
 use mathlib.Core.List.{List}
 use Prim.Native.Nat.{ℕ}
@@ -12,7 +12,7 @@ use Rattle.basis_record.specs.Record.{IsRecord}
 use Rattle.field_series.specs.Answer.{Expands}
 use Rattle.field_series.specs.declared.Expanded.{Expanded}
 use Rattle.field_series.proofs.Answer.{expands-number}
-use Rattle.basis_field.proofs.Known.{field-of, prefix-of, known-of}
+use Rattle.basis_field.proofs.Known.{prime-of, kept-of}
 use Rattle.basis_accept.specs.Answer.{Accepts}
 use Rattle.step_next.specs.InField.{NextIn, NextOut}
 use Rattle.step_next.specs.declared.Advance.{Advance}
@@ -35,16 +35,18 @@ module _ {p : ℕ} {G H B : List ℕ} where
 
 -- ---- what `step` does in an opened field
 module _ {p : ℕ} {G H B : List ℕ} {e : Expanded} (opens : Expands p G H e) (z : e .refusal ≡ 0) {good : Bool} (tested : Accepts (e .cubic) B good) where
-  decided : Decides good (IsRecord p G H B)
-  decided = tested p G H (field-of opens z) (prefix-of opens z)
+  -- of the struct's own p, which is p
+  decided : Decides good (IsRecord (e .cubic .field .p) G H B)
+  decided = tested G H (kept-of opens z)
 
   pub answers-no-record : good ≡ false → {s : Stepped} → s ≡ refused 9 → Answers p G H B s
-  answers-no-record f q = door-goes (expands-number opens) z (no-record (decided .no! f) q)
+  answers-no-record f q = door-goes (expands-number opens) z (no-record (subst (λ q. IsRecord q G H B → ⊥) (prime-of opens z) (decided .no! f)) q)
 
   module _ (t : good ≡ true) where
     pub next-of : NextIn (e .cubic) B
-    next-of = record { known = known-of opens z; is-record = decided .yes! t }
+    next-of = record { G = G; H = H; keeps = kept-of opens z; is-record = decided .yes! t }
 
     pub answers-next : (o : Advance) → NextOut (e .cubic) B o → Answers p G H B (record { refusal = 0; degree = o .degree; basis = o .basis })
     answers-next o out =
-        door-goes (expands-number opens) z (taken (decided .yes! t) refl (out p G H (field-of opens z) (prefix-of opens z) (decided .yes! t)))
+        door-goes (expands-number opens) z (subst (λ q. Goes q G H B (record { refusal = 0; degree = o .degree; basis = o .basis })) (prime-of opens z)
+        (taken (decided .yes! t) refl (out G H (kept-of opens z) (decided .yes! t))))

@@ -16,14 +16,16 @@ use Rattle.math_chain.specs.Chain.{Closing, Open}
 use Rattle.math_chain.proofs.Closing.{start-unique}
 use Rattle.basis_record.specs.Record.{setting, basisOf}
 use Rattle.field_series.specs.Answer.{Expands}
+use Rattle.field_series.specs.Keeps.{Kept}
 use Rattle.field_series.specs.declared.Expanded.{Expanded}
 use Rattle.field_series.proofs.Answer.{expands-number}
 use Rattle.basis_field.specs.First.{IsFirst, First}
-use Rattle.basis_field.proofs.Known.{field-of, prefix-of, known-of}
+use Rattle.basis_field.proofs.Known.{prime-of, kept-of, field-of, known-of}
 use Rattle.walk_chain.specs.declared.Walked.{Walked}
 use Rattle.walk_chain.specs.Walk.{Closes, StaysOpen, Closed, Spent}
 use Rattle.walk_chain.specs.InField.{WalkedIn, WalkedOut}
 use Rattle.walk_chain.proofs.Even.{sum-even}
+use Rattle.unit_make.specs.Rows.{Holds}
 use Rattle.unit_make.specs.Making.{MakeIn, Making}
 use Rattle.door_unit.specs.declared.Made.{Made}
 use Rattle.door_unit.specs.Unit.{refusal, Lent, Finds, Misses, Refused, Goes, bad, spent, narrow, made, Makes}
@@ -70,8 +72,21 @@ module _ {p : ℕ} {G H : List ℕ} {n : ℕ} {rows scratch : List ℕ} {e : Exp
   field-at : Accepted p G H
   field-at = field-of (k .opens) (k .zero)
 
+  abbrev q : ℕ
+  q = e .cubic .field .p
+
+  -- the struct's own p is p
+  q-is : q ≡ p
+  q-is = prime-of (k .opens) (k .zero)
+
+  kept-at : Kept (e .cubic) G H
+  kept-at = kept-of (k .opens) (k .zero)
+
+  first-q : IsFirst q G H b
+  first-q = first G H kept-at
+
   first-at : IsFirst p G H b
-  first-at = first p G H field-at (prefix-of (k .opens) (k .zero))
+  first-at = subst (λ t. IsFirst t G H b) q-is first-q
 
   lent-at : Lent (length rows / 6) rows scratch n
   lent-at = lent-of rows scratch n (k .rule)
@@ -80,42 +95,45 @@ module _ {p : ℕ} {G H : List ℕ} {n : ℕ} {rows scratch : List ℕ} {e : Exp
   makes-goes g = door-goes (expands-number (k .opens)) (k .zero) g
 
   pub walked-at : WalkedIn (e .cubic) b n
-  walked-at = record { known = known-of (k .opens) (k .zero); is-record = first-at .is-record; within = k .rule .3 }
+  walked-at = record { G = G; H = H; keeps = kept-at; is-record = first-q .is-record; within = k .rule .3 }
 
   -- ---- after the walk
   module _ (w : Walked) (out : WalkedOut (e .cubic) b n w) where
-    ended : Closed p G H n b w ⊎ Spent p G H n b w
-    ended = out p G H field-at (prefix-of (k .opens) (k .zero)) (first-at .is-record)
+    ended : Closed q G H n b w ⊎ Spent q G H n b w
+    ended = out G H kept-at (first-q .is-record)
 
     pub makes-spent : {m : Made} → w .refusal ≢ 0 → m ≡ refusal 10 → Makes p G H n rows scratch m rows scratch
-    makes-spent {m} f q = go ended
+    makes-spent {m} f u = go ended
       where
-        go : Closed p G H n b w ⊎ Spent p G H n b w → Makes p G H n rows scratch m rows scratch
+        go : Closed q G H n b w ⊎ Spent q G H n b w → Makes p G H n rows scratch m rows scratch
         go (inl x) = absurd (f (x .number))
-        go (inr x) = makes-goes (spent (length rows / 6) lent-at (misses-of first-at (x .none)) (refused-is q))
+        go (inr x) = makes-goes (spent (length rows / 6) lent-at (subst (λ t. Misses t G H n) q-is (misses-of first-q (x .none))) (refused-is u))
 
     module _ (f : w .refusal ≡ 0) where
-      closed-at : Closed p G H n b w
-      closed-at = go ended
+      closed-q : Closed q G H n b w
+      closed-q = go ended
         where
-          go : Closed p G H n b w ⊎ Spent p G H n b w → Closed p G H n b w
+          go : Closed q G H n b w ⊎ Spent q G H n b w → Closed q G H n b w
           go (inl x) = x
-          go (inr x) = absurd (let q : w .refusal ≡ 10 = x .number in omega arith)
+          go (inr x) = absurd (let u : w .refusal ≡ 10 = x .number in omega arith)
+
+      closed-at : Closed p G H n b w
+      closed-at = subst (λ t. Closed t G H n b w) q-is closed-q
 
       finds-at : Finds p G H (w .steps) (w .sum)
       finds-at = finds-of first-at (closed-at .closes)
 
       pub makes-narrow : {m : Made} → length rows / 6 ≤ w .sum → m ≡ refusal 11 → Makes p G H n rows scratch m rows scratch
-      makes-narrow l q = makes-goes (narrow (length rows / 6) (w .steps) (w .sum) lent-at (closed-at .within) finds-at l (refused-is q))
+      makes-narrow l u = makes-goes (narrow (length rows / 6) (w .steps) (w .sum) lent-at (closed-at .within) finds-at l (refused-is u))
 
       module _ (l : w .sum < length rows / 6) where
         pub make-in : MakeIn (e .cubic) b (w .steps) (w .sum) (length rows / 6) rows scratch
         make-in = record {
           task = record {
             known = known-of (k .opens) (k .zero);
-            is-first = first-at;
+            is-first = first-q;
             last = w .basis;
-            closes = closed-at .closes;
+            closes = closed-q .closes;
             room = l;
             most = lent-at .room;
           };
@@ -126,10 +144,10 @@ module _ {p : ℕ} {G H : List ℕ} {n : ℕ} {rows scratch : List ℕ} {e : Exp
         pub makes-made : {rows′ scratch′ : List ℕ} → Making (e .cubic) b (w .steps) (w .sum) (length rows / 6) rows scratch rows′ scratch′
             → Makes p G H n rows scratch (record { refusal = 0; period = record { 0 = w .steps }; regulator = record { 0 = w .sum / 2 } }) rows′ scratch′
         unfolding make-in
-        makes-made m = makes-goes (made (length rows / 6) (w .steps) (w .sum) lent-at (closed-at .within) finds-at l (record {
+        makes-made {rows′} m = makes-goes (made (length rows / 6) (w .steps) (w .sum) lent-at (closed-at .within) finds-at l (record {
           number = refl;
           period = refl;
           regulator = sum-even field-at b first-at (closed-at .closes);
-          rows-hold = m .goes make-in;
+          rows-hold = subst (λ t. Holds t G H (w .steps) (w .sum) (length rows / 6) rows′) q-is (m .goes make-in);
           scratch-blank = m .blank;
         }))

@@ -8,13 +8,12 @@ use Rattle.base_answers.specs.Limits.{most}
 use Rattle.field_open.specs.Refusal.{Accepted}
 use Rattle.field_open.proofs.Door.{door-goes, door-unique}
 use Rattle.basis_record.specs.Record.{IsRecord}
-use Rattle.field_series.specs.Answer.{Prefix, Expands}
-use Rattle.field_series.specs.declared.Cubic.{Cubic}
+use Rattle.field_series.specs.Answer.{Expands}
 use Rattle.field_series.specs.declared.Expanded.{Expanded}
 use Rattle.field_series.proofs.Answer.{expands-number}
 use Rattle.basis_field.specs.First.{IsFirst, First}
 use Rattle.basis_field.proofs.First.{first-one}
-use Rattle.basis_field.proofs.Known.{field-of, prefix-of, known-of}
+use Rattle.basis_field.proofs.Known.{prime-of, kept-of}
 use Rattle.walk_chain.specs.declared.Walked.{Walked}
 use Rattle.walk_chain.specs.Walk.{Closes, StaysOpen, Closed, Spent}
 use Rattle.walk_chain.specs.InField.{WalkedIn, WalkedOut}
@@ -28,25 +27,20 @@ told-eq v w a b c = λ i. record { refusal = a i; period = record { 0 = b i }; r
 
 module _ (p : ℕ) (G H : List ℕ) (A : Accepted p G H) (n : ℕ) where
   -- what the walk answers, of the answer that is handed out
-  pub goes-closed : (c : Cubic) → Prefix p G H c → (B : List ℕ) → IsFirst p G H B → n ≤ most → (o : Walked) → WalkedOut c B n o → o .refusal ≡ 0
-      → Goes p G H n (record { refusal = 0; period = record { 0 = o .steps }; regulator = record { 0 = o .sum / 2 } })
-  goes-closed c h B f l o w z = go (w p G H A h (f .is-record))
-    where
-      go : Closed p G H n B o ⊎ Spent p G H n B o → Goes p G H n (record { refusal = 0; period = record { 0 = o .steps }; regulator = record { 0 = o .sum / 2 } })
-      go (inl k) = closed l B f (record {
-        last = o .basis;
-        number = refl;
-        within = k .within;
-        closes = subst (λ d. Closes p G H B (o .steps) d (o .basis)) (sym (sum-even A B f (k .closes))) (k .closes);
-      })
-      go (inr k) = absurd (let e : o .refusal ≡ 10 = k .number in omega arith)
+  module _ {B : List ℕ} (f : IsFirst p G H B) (l : n ≤ most) (o : Walked) where
+    pub goes-closed : Closed p G H n B o ⊎ Spent p G H n B o → o .refusal ≡ 0
+        → Goes p G H n (record { refusal = 0; period = record { 0 = o .steps }; regulator = record { 0 = o .sum / 2 } })
+    goes-closed (inl k) z = closed l B f (record {
+      last = o .basis;
+      number = refl;
+      within = k .within;
+      closes = subst (λ d. Closes p G H B (o .steps) d (o .basis)) (sym (sum-even A B f (k .closes))) (k .closes);
+    })
+    goes-closed (inr k) z = absurd (let e : o .refusal ≡ 10 = k .number in omega arith)
 
-  pub goes-spent : (c : Cubic) → Prefix p G H c → (B : List ℕ) → IsFirst p G H B → n ≤ most → (o : Walked) → WalkedOut c B n o → o .refusal ≢ 0 → Goes p G H n (refusal 10)
-  goes-spent c h B f l o w z = go (w p G H A h (f .is-record))
-    where
-      go : Closed p G H n B o ⊎ Spent p G H n B o → Goes p G H n (refusal 10)
-      go (inl k) = absurd (z (k .number))
-      go (inr k) = spent l B f (k .none) refl
+    pub goes-spent : Closed p G H n B o ⊎ Spent p G H n B o → o .refusal ≢ 0 → Goes p G H n (refusal 10)
+    goes-spent (inl k) z = absurd (z (k .number))
+    goes-spent (inr k) z = spent l B f (k .none) refl
 
   half : (a b : ℕ) → a + a ≡ b + b → a ≡ b
   half a b e = omega arith
@@ -74,16 +68,22 @@ from-order-one p G H n v w = door-unique (λ k e f. e ∙ sym f) (λ A. goes-one
 -- what `from_order` answers in an opened field
 module _ (p : ℕ) (G H : List ℕ) (n : ℕ) (e : Expanded) (opens : Expands p G H e) (z : e .refusal ≡ 0)
     (b : List ℕ) (first : First (e .cubic) b) (l : n ≤ most) where
-  first-at : IsFirst p G H b
-  first-at = first p G H (field-of opens z) (prefix-of opens z)
+  first-at : IsFirst (e .cubic .field .p) G H b
+  first-at = first G H (kept-of opens z)
 
   pub walked-at : WalkedIn (e .cubic) b n
-  walked-at = record { known = known-of opens z; is-record = first-at .is-record; within = l }
+  walked-at = record { G = G; H = H; keeps = kept-of opens z; is-record = first-at .is-record; within = l }
 
-  pub from-spent : (w : Walked) → WalkedOut (e .cubic) b n w → w .refusal ≢ 0 → (o : Told) → o ≡ refusal 10 → FromOrder p G H n o
-  from-spent w out f o q = door-goes (expands-number opens) z
-      (subst (λ (t : Told). Goes p G H n t) (sym q) (goes-spent p G H (field-of opens z) n (e .cubic) (prefix-of opens z) b first-at l w out f))
+  module _ (w : Walked) (out : WalkedOut (e .cubic) b n w) where
+    -- what holds of the struct's own p, which is p
+    goes : (t : Told) → Goes (e .cubic .field .p) G H n t → FromOrder p G H n t
+    goes t g = door-goes (expands-number opens) z (subst (λ q. Goes q G H n t) (prime-of opens z) g)
 
-  pub from-closed : (w : Walked) → WalkedOut (e .cubic) b n w → w .refusal ≡ 0
-      → FromOrder p G H n (record { refusal = 0; period = record { 0 = w .steps }; regulator = record { 0 = w .sum / 2 } })
-  from-closed w out f = door-goes (expands-number opens) z (goes-closed p G H (field-of opens z) n (e .cubic) (prefix-of opens z) b first-at l w out f)
+    ended : Closed (e .cubic .field .p) G H n b w ⊎ Spent (e .cubic .field .p) G H n b w
+    ended = out G H (kept-of opens z) (first-at .is-record)
+
+    pub from-spent : w .refusal ≢ 0 → (o : Told) → o ≡ refusal 10 → FromOrder p G H n o
+    from-spent f o q = subst (FromOrder p G H n) (sym q) (goes (refusal 10) (goes-spent (e .cubic .field .p) G H (kept-of opens z .accepted) n first-at l w ended f))
+
+    pub from-closed : w .refusal ≡ 0 → FromOrder p G H n (record { refusal = 0; period = record { 0 = w .steps }; regulator = record { 0 = w .sum / 2 } })
+    from-closed f = goes _ (goes-closed (e .cubic .field .p) G H (kept-of opens z .accepted) n first-at l w ended f)

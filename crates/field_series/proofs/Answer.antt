@@ -4,19 +4,20 @@
 --   answer-kept             a refusal leaves both lists
 --   expands-one             two answers of `open_with_series` to one field are equal
 --   expands-number          the number beside the opened field is the table's
---   expands-prefix          beside 0: accepted, opened
+--   expands-holding         beside 0: the field, opened
 use mathlib.Core.Path.{_≡_, refl, sym, ap, _∙_}
 use mathlib.Core.Logic.{_≢_}
 use mathlib.Core.List.{List}
 use Prim.Native.Nat.{ℕ}
 use Rattle.field_open.specs.Refusal.{Refusal, Accepted}
 use Rattle.field_open.proofs.Door.{door-refused, door-goes, door-out, door-unique, door-number, door-open}
-use Rattle.field_open.proofs.Opening.{holds-one}
 use Rattle.field_roots.proofs.Only.{series-of-only}
 use Rattle.field_fill.specs.Fill.{Grown}
+use Rattle.field_series.specs.Keeps.{Holding}
 use Rattle.field_series.specs.declared.Cubic.{Cubic}
 use Rattle.field_series.specs.declared.Expanded.{Expanded}
-use Rattle.field_series.specs.Answer.{Fits, Refused, Goes, unfit, filled, Answer, Prefix, Expands}
+use Rattle.field_series.specs.Answer.{Fits, Refused, Goes, unfit, filled, Answer, Expands}
+use Rattle.field_series.proofs.Keeps.{holding-one}
 
 module _ {p : ℕ} {G H r w : List ℕ} where
   pub refused : {n : ℕ} → Refusal p G H n → n ≢ 0 → Answer p G H r w r w n
@@ -47,23 +48,16 @@ module _ {p : ℕ} {G H r w : List ℕ} where
       goes (unfit g h) = h .kept
       goes (filled g e s t) = absurd (f e)
 
--- one prefix of a field
-prefix-one : {p : ℕ} {G H : List ℕ} (c c′ : Cubic) → Accepted p G H → Prefix p G H c → Prefix p G H c′ → c ≡ c′
-prefix-one {p} {G} {H} c c′ A h h′ =
-    let f : c .field ≡ c′ .field = holds-one (c .field) (c′ .field) (A .prime) (h .field (A .degG) (A .degH) (A .listG) (A .listH)) (h′ .field (A .degG) (A .degH) (A .listG) (A .listH)) in
-    let (r, w) = series-of-only (c .r) (c .w) (c′ .r) (c′ .w) A (h .series) (h′ .series) (h .size ∙ sym (h′ .size)) in
-    (λ i. record { field = f i; r = r i; w = w i })
-
 pub expands-one : {p : ℕ} {G H : List ℕ} (o o′ : Expanded) → Expands p G H o → Expands p G H o′ → o ≡ o′
 expands-one o o′ = door-unique (λ n e f. e ∙ sym f)
     (λ A (z, h) (z′, h′).
     let e : o .refusal ≡ o′ .refusal = z ∙ sym z′ in
-    let c : o .cubic ≡ o′ .cubic = prefix-one (o .cubic) (o′ .cubic) A h h′ in
+    let c : o .cubic ≡ o′ .cubic = holding-one (o .cubic) (o′ .cubic) h h′ in
     (λ i. record { refusal = e i; cubic = c i }))
 
 module _ {p : ℕ} {G H : List ℕ} {o : Expanded} (h : Expands p G H o) where
   pub expands-number : Refusal p G H (o .refusal)
   expands-number = door-number (λ n e. ap (λ a. a .refusal) e) (λ k. k .0) h
 
-  pub expands-prefix : o .refusal ≡ 0 → Accepted p G H × Prefix p G H (o .cubic)
-  expands-prefix z = let (A, k) = door-open (λ n e. ap (λ a. a .refusal) e) (λ k. k .0) h z in (A, k .1)
+  pub expands-holding : o .refusal ≡ 0 → Holding p G H (o .cubic)
+  expands-holding z = let (A, k) = door-open (λ n e. ap (λ a. a .refusal) e) (λ k. k .0) h z in k .1

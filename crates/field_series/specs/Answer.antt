@@ -2,11 +2,10 @@
 --   Fits r w                       the lent lists are equally long, and not over 4,096 long (`longest`)
 --   Answer p G H r w r′ w′ n       the whole outcome: refusals 1 to 8, then 14 where the lists do not fit, both with the lists as they were;
 --                                  beside 0 exactly the first coefficients of r and of w, as many as the lists have places
---   Opening p G H f                an accepted field, opened
---   Prefix p G H c                 it, with 32 numbers that are the first coefficients of r and of w
+--   Opening p G H f                an accepted field, opened: what `with_series` asks
 --   nothing, refused n             zeros; the answer beside the refusal n
 --   Expands p G H o                the whole answer: refusals 1 to 8, then the opened field with its first 32 coefficients of r and w
--- In proofs/Answer.antt: `answer-one` and `expands-one`, two outcomes that meet it are equal; `expands-number`, `expands-prefix`, what the number
+-- In proofs/Answer.antt: `answer-one` and `expands-one`, two outcomes that meet it are equal; `expands-number`, `expands-holding`, what the number
 -- beside the opened field says.
 use mathlib.Core.Path.{_≡_}
 use mathlib.Core.List.{List}
@@ -18,6 +17,7 @@ use Rattle.field_open.specs.Door.{Door}
 use Rattle.field_open.specs.declared.Field.{Field}
 use Rattle.field_open.specs.Opening as F
 use Rattle.field_roots.specs.SeriesOf.{SeriesOf}
+use Rattle.field_series.specs.Keeps.{Holding}
 use Rattle.field_series.specs.declared.Cubic.{Cubic}
 use Rattle.field_series.specs.declared.Expanded.{Expanded}
 
@@ -49,10 +49,5 @@ pub record Opening (p : ℕ) (G H : List ℕ) (f : Field) : Type 0 where
   pub accepted : Accepted p G H
   pub held : F.Held p G H f
 
-pub record Prefix (p : ℕ) (G H : List ℕ) (c : Cubic) : Type 0 where
-  pub field : F.Held p G H (c .field)
-  pub size : length (c .r) ≡ 32
-  pub series : SeriesOf p G H (c .r) (c .w)
-
 abbrev pub Expands : ℕ → List ℕ → List ℕ → Expanded → Type 0
-Expands p G H o = Door p G H (λ n. o ≡ refused n) ((o .refusal ≡ 0) × Prefix p G H (o .cubic))
+Expands p G H o = Door p G H (λ n. o ≡ refused n) ((o .refusal ≡ 0) × Holding p G H (o .cubic))

@@ -2,7 +2,8 @@
 // it. Both refuse what they cannot do; specs/Answer.antt has their contracts. The filling itself is in crate field_fill.
 ghost use mathlib.Core.Path.{_≡_};
 ghost use Rattle.field_open.specs.Opening as F;
-ghost use Rattle.field_series.specs.Answer.{Answer, Opening, Prefix, Expands, nothing};
+ghost use Rattle.field_series.specs.Keeps.{Holding};
+ghost use Rattle.field_series.specs.Answer.{Answer, Opening, Expands, nothing};
 
 // An opened field with the first 32 coefficients of r and of w, highest power first.
 pub struct Cubic {
@@ -52,7 +53,7 @@ fn widened(s: [u16; 32]) -> [u64; 32]
 // The opened field f with the first 32 coefficients of r and w.
 fn with_series(p: u64, g: &[u64], h: &[u64], f: field_open::Field) -> Cubic
     requires { ⌜ Opening p (now g) (now h) f ⌝ }
-    ensures { λ c. ⌜ Prefix p (now (g .entry)) (now (h .entry)) c ⌝ }
+    ensures { λ c. ⌜ Holding p (now (g .entry)) (now (h .entry)) c ⌝ }
 {
     let mut r: [u16; 32] = [0; 32];
     let mut w: [u16; 32] = [0; 32];

@@ -1,4 +1,3 @@
 pub mod Reduction
 pub mod Made
 pub mod Once
-pub mod Kept

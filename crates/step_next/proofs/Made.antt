@@ -34,12 +34,14 @@ use Rattle.basis_reduce.specs.Clear as reduced
 use Rattle.basis_record.specs.Store.{SevenLoaded}
 use Rattle.basis_scale.specs.Based.{BasisIn, BasedAt, Based}
 use Rattle.basis_record.proofs.Loads.{rows-are, rows-path, rows-good}
-use Rattle.step_next.specs.Steps.{Known, AdvanceIn, Advanced}
+use Rattle.field_series.specs.Keeps.{Keeps}
+use Rattle.basis_field.proofs.Keeps.{dr-is, dw-is, degrees, room, g-row, h-row, gh-row, holds-of}
+use Rattle.step_next.specs.Steps.{AdvanceIn, Advanced}
 use Rattle.step_next.specs.declared.Advance.{Advance}
 use Rattle.step_next.proofs.Reduction.{pairOf, RowsOf, meaning, cut-low, basis-in}
 
 -- ---- from the end of the reduction to the next basis
-module _ {p : ℕ} {G H : List ℕ} (A : Accepted p G H) {g h gh : List ℕ} {n dr dw : ℕ} {r w : List ℕ} (k : Known A g h gh n dr dw r w)
+module _ {p : ℕ} {G H : List ℕ} (A : Accepted p G H) {g h gh : List ℕ} {dr dw : ℕ} {r w : List ℕ} (k : Keeps p G H g h gh dr dw r w)
     (b : Seven) (good : Good (setting A) (rowsOf A b)) {o : Generators} (m : Generated A b o) (B′ : List ℕ) where
   abbrev 𝓥 : Valued
   𝓥 = setting A .𝓥
@@ -92,9 +94,6 @@ degree-of {p} A b rows good lm lu sm su =
     (omega arith, record { x = s .x; u = s .u; M-deg = ev-M (setting A) (rowsOf A b) s; U-deg = s .U-has; eq = omega arith })
 
 -- ---- what `advanced` asks and makes
-pub field-modulus : {p : ℕ} {g h gh : List ℕ} {n dr dw : ℕ} {r w B : List ℕ} → AdvanceIn p g h gh n dr dw r w B → IsModulus p
-field-modulus {p} i = let A = i .keeps .accepted in record { big = A .prime .big; small = (let l : p ≤ 65535 = A .high in omega arith) }
-
 -- the prepared modulus in place of its number
 module _ {q : Modulus} (e : PreparedOf (q .p) q) {r w : List ℕ} {dr dw : ℕ} {o : reduced.Pair} {d x y : List ℕ} where
   pub basis-by : {top : ℕ} → BasisIn (frame (ready (q .p)) r w dr dw) o top d x y → BasisIn (frame q r w dr dw) o top d x y
@@ -103,13 +102,13 @@ module _ {q : Modulus} (e : PreparedOf (q .p) q) {r w : List ℕ} {dr dw : ℕ} 
   pub based-by : {B : List ℕ} → Based (frame q r w dr dw) o d x y B → Based (frame (ready (q .p)) r w dr dw) o d x y B
   based-by {B} h = subst (λ m. Based (frame m r w dr dw) o d x y B) (e .same) h
 
-pub advance-by : {p : ℕ} {q : Modulus} {g h gh : List ℕ} {n dr dw : ℕ} {r w B : List ℕ} → PreparedOf p q → AdvanceIn p g h gh n dr dw r w B → AdvanceIn (q .p) g h gh n dr dw r w B
-advance-by {g = g} {h = h} {gh = gh} {n = n} {dr = dr} {dw = dw} {r = r} {w = w} {B = B} e i = subst (λ p. AdvanceIn p g h gh n dr dw r w B) (sym (e .is)) i
+pub advance-by : {p : ℕ} {q : Modulus} {g h gh : List ℕ} {dr dw : ℕ} {r w B : List ℕ} → PreparedOf p q → AdvanceIn p g h gh dr dw r w B → AdvanceIn (q .p) g h gh dr dw r w B
+advance-by {g = g} {h = h} {gh = gh} {dr = dr} {dw = dw} {r = r} {w = w} {B = B} e i = subst (λ p. AdvanceIn p g h gh dr dw r w B) (sym (e .is)) i
 
-pub advanced-by : {p : ℕ} {q : Modulus} {g h gh : List ℕ} {n dr dw : ℕ} {r w B : List ℕ} {a : Advance} → PreparedOf p q → Advanced (q .p) g h gh n dr dw r w B a → Advanced p g h gh n dr dw r w B a
-advanced-by {g = g} {h = h} {gh = gh} {n = n} {dr = dr} {dw = dw} {r = r} {w = w} {B = B} {a = a} e i = subst (λ p. Advanced p g h gh n dr dw r w B a) (e .is) i
+pub advanced-by : {p : ℕ} {q : Modulus} {g h gh : List ℕ} {dr dw : ℕ} {r w B : List ℕ} {a : Advance} → PreparedOf p q → Advanced (q .p) g h gh dr dw r w B a → Advanced p g h gh dr dw r w B a
+advanced-by {g = g} {h = h} {gh = gh} {dr = dr} {dw = dw} {r = r} {w = w} {B = B} {a = a} e i = subst (λ p. Advanced p g h gh dr dw r w B a) (e .is) i
 
-module _ {p : ℕ} {g h gh : List ℕ} {n dr dw : ℕ} {r w B : List ℕ} (i : AdvanceIn p g h gh n dr dw r w B) {b : Seven} (l : SevenLoaded B b) where
+module _ {p : ℕ} {g h gh : List ℕ} {n dr dw : ℕ} {r w B : List ℕ} (i : AdvanceIn p g h gh dr dw r w B) (n-is : n ≡ dr + dw) {b : Seven} (l : SevenLoaded B b) where
   abbrev A : Accepted p (i .G) (i .H)
   A = i .keeps .accepted
 
@@ -119,53 +118,56 @@ module _ {p : ℕ} {g h gh : List ℕ} {n dr dw : ℕ} {r w B : List ℕ} (i : A
   pub are-rows : AreRows p b
   are-rows = rows-are l (i .is-record .each)
 
+  sum-is : n ≡ A .degG + A .degH
+  sum-is = n-is ∙ degrees (i .keeps) A
+
   pub n-small : n ≤ 16
-  n-small = let e : n ≡ A .degG + A .degH = i .keeps .known A .n-is in let q : A .degG + A .degH ≤ 16 = A .sum in omega arith
+  n-small = let e = room (i .keeps) in omega arith
 
   pub gh-size : Size gh (n + 1)
-  gh-size = subst (Size gh) (omega (arith, i .keeps .known A .n-is))
-      (size-of (reading p (A .prime)) (i .keeps .hgh) (d.has-eq (reading p (A .prime) .𝓥) (d.has-mul (reading p (A .prime) .𝓥) (setting A .roots .G-deg) (setting A .roots .H-deg)) (sym (i .keeps .known A .holds .gh-is))))
+  gh-size = subst (Size gh) (omega (arith, sum-is))
+      (size-of (reading p (A .prime)) (gh-row (i .keeps)) (d.has-eq (reading p (A .prime) .𝓥) (d.has-mul (reading p (A .prime) .𝓥) (setting A .roots .G-deg) (setting A .roots .H-deg)) (sym (holds-of (i .keeps) A .gh-is))))
 
   -- G H leads at n
   lead-at : (m : ℕ) → Size gh m → getD gh n 0 ≡ getD gh (m - 1) 0
   lead-at m s = let e : m ≡ n + 1 = size-one s gh-size in ap (λ j. getD gh j 0) (let w : n ≡ m - 1 = omega arith in w)
 
   pub lead-low : getD gh n 0 ≤ p
-  lead-low = let t : getD gh n 0 < p = i .keeps .hgh .each n in omega arith
+  lead-low = let t : getD gh n 0 < p = gh-row (i .keeps) .each n in omega arith
 
   pub divided-in : GeneratorsIn p (n + 1) g h gh (p - getD gh n 0) b
   divided-in = record {
-    hg = i .keeps .hg;
-    hh = i .keeps .hh;
-    hgh = i .keeps .hgh;
+    hg = g-row (i .keeps);
+    hh = h-row (i .keeps);
+    hgh = gh-row (i .keeps);
     rows = are-rows;
     inverse = λ m s. ap (λ t. p - t) (lead-at m s);
     G = i .G;
     H = i .H;
     σ = A;
-    holds = i .keeps .known A .holds;
+    holds = holds-of (i .keeps) A;
     good = good-rows;
-    past = (let q : n ≡ A .degG + A .degH = i .keeps .known A .n-is in omega arith);
+    past = (let q : n ≡ A .degG + A .degH = sum-is in omega arith);
     fits = (let q : n ≤ 16 = n-small in omega arith);
   }
 
   -- the lengths of G, H and G H; deg G = 2 deg w − deg r and deg H = 2 deg r − deg w
   pub degrees-small : (dr ≤ 16) × (dw ≤ 16)
-  degrees-small = (omega (arith, i .keeps .known A .dr-is, i .keeps .known A .n-is, sizes A b good-rows .both, n-small), omega (arith, i .keeps .known A .dw-is, i .keeps .known A .n-is, sizes A b good-rows .both, n-small))
+  degrees-small = (omega (arith, dr-is (i .keeps) A, sum-is, sizes A b good-rows .both, n-small), omega (arith, dw-is (i .keeps) A, sum-is, sizes A b good-rows .both, n-small))
 
   pub dr-low : dr ≤ 2 * dw
-  dr-low = omega (arith, i .keeps .known A .dr-is, i .keeps .known A .dw-is, sizes A b good-rows .two-r, sizes A b good-rows .both)
+  dr-low = omega (arith, dr-is (i .keeps) A, dw-is (i .keeps) A, sizes A b good-rows .two-r, sizes A b good-rows .both)
 
   pub dw-low : dw ≤ 2 * dr
-  dw-low = omega (arith, i .keeps .known A .dr-is, i .keeps .known A .dw-is, sizes A b good-rows .two-r, sizes A b good-rows .both)
+  dw-low = omega (arith, dr-is (i .keeps) A, dw-is (i .keeps) A, sizes A b good-rows .two-r, sizes A b good-rows .both)
 
   pub g-size : Size g (2 * dw + 1 - dr)
-  g-size = subst (Size g) (omega (arith, i .keeps .known A .dr-is, i .keeps .known A .dw-is, sizes A b good-rows .two-r, sizes A b good-rows .both))
-      (size-of (reading p (A .prime)) (i .keeps .hg) (d.has-eq (reading p (A .prime) .𝓥) (setting A .roots .G-deg) (sym (i .keeps .known A .holds .g-is))))
+  g-size = subst (Size g) (omega (arith, dr-is (i .keeps) A, dw-is (i .keeps) A, sizes A b good-rows .two-r, sizes A b good-rows .both))
+      (size-of (reading p (A .prime)) (g-row (i .keeps)) (d.has-eq (reading p (A .prime) .𝓥) (setting A .roots .G-deg) (sym (holds-of (i .keeps) A .g-is))))
 
   pub h-size : Size h (2 * dr + 1 - dw)
-  h-size = subst (Size h) (omega (arith, i .keeps .known A .dr-is, i .keeps .known A .dw-is, sizes A b good-rows .two-r, sizes A b good-rows .both))
-      (size-of (reading p (A .prime)) (i .keeps .hh) (d.has-eq (reading p (A .prime) .𝓥) (setting A .roots .H-deg) (sym (i .keeps .known A .holds .h-is))))
+  h-size = subst (Size h) (omega (arith, dr-is (i .keeps) A, dw-is (i .keeps) A, sizes A b good-rows .two-r, sizes A b good-rows .both))
+      (size-of (reading p (A .prime)) (h-row (i .keeps)) (d.has-eq (reading p (A .prime) .𝓥) (setting A .roots .H-deg) (sym (holds-of (i .keeps) A .h-is))))
 
   pub shorter : (lm lu : ℕ) → Size (b .m0) lm → Size (b .u) lu → lu ≤ lm
   shorter lm lu sm su = degree-of A b are-rows good-rows lm lu sm su .0
@@ -174,17 +176,17 @@ module _ {p : ℕ} {g h gh : List ℕ} {n dr dw : ℕ} {r w B : List ℕ} (i : A
   generator-rows ho = record { hx = ho .hx; hy = ho .hy; hmb = ho .hmb; hmc = ho .hmc; hnb = ho .hnb; hnc = ho .hnc; hu = ho .hu }
 
   pub cut-fits : {o : Generators} → AreGenerators p g h gh b o → o .cut ≤ n
-  cut-fits ho = cut-low A (i .keeps) b good-rows (generator-rows ho) (ho .each A (i .keeps .known A .holds) good-rows)
+  cut-fits ho = cut-low A (i .keeps) n-is b good-rows (generator-rows ho) (ho .each A (holds-of (i .keeps) A) good-rows)
 
   pub reduced-in : {o : Generators} → AreGenerators p g h gh b o → BasisIn (frame (ready p) r w dr dw) (pairOf o) (n + 1 - o .cut) (o .u) (o .x) (o .y)
-  reduced-in ho = basis-in A (i .keeps) b good-rows (generator-rows ho) (ho .each A (i .keeps .known A .holds) good-rows)
+  reduced-in ho = basis-in A (i .keeps) n-is b good-rows (generator-rows ho) (ho .each A (holds-of (i .keeps) A) good-rows)
 
   pub advanced-of : {o : Generators} → AreGenerators p g h gh b o → (lm lu : ℕ) → Size (b .m0) lm → Size (b .u) lu
-      → (a : Advance) → Based (frame (ready p) r w dr dw) (pairOf o) (o .u) (o .x) (o .y) (a .basis) → a .degree ≡ lm - lu → Advanced p g h gh n dr dw r w B a
+      → (a : Advance) → Based (frame (ready p) r w dr dw) (pairOf o) (o .u) (o .x) (o .y) (a .basis) → a .degree ≡ lm - lu → Advanced p g h gh dr dw r w B a
   advanced-of {o} ho lm lu sm su a hb e = λ G H kp rec.
       let goodAt : (A : Accepted p G H) → Good (setting A) (rowsOf A b) = λ A. rows-good A l (rec .good A) in
       let step : (A : Accepted p G H) → Good (setting A) (basisOf A (a .basis)) × Next (setting A) (rowsOf A b) (basisOf A (a .basis)) =
-      λ A. made A (kp .known A) b (goodAt A) (ho .each A (kp .known A .holds) (goodAt A)) (a .basis) (hb .meant (meaning A (kp .known A))) in
+      λ A. made A kp b (goodAt A) (ho .each A (holds-of kp A) (goodAt A)) (a .basis) (hb .meant (meaning A kp)) in
       record {
         is-record = record { size = hb .size; each = hb .each; good = λ A. step A .0 };
         next = λ A. subst (λ z. Next (setting A) z (basisOf A (a .basis))) (rows-path A l) (step A .1);

@@ -32,7 +32,8 @@ use Rattle.basis_parts.specs.Frame.{frame, Meaning, Short}
 use Rattle.basis_reduce.specs.Clear.{Pair, pair, ClearIn}
 use Rattle.basis_scale.specs.Based.{BasisIn}
 use Rattle.poly_rows.proofs.Lengths.{row-short, size-of, odd-prime}
-use Rattle.step_next.specs.Steps.{Known, Keeps}
+use Rattle.field_series.specs.Keeps.{Keeps}
+use Rattle.basis_field.proofs.Keeps.{dr-is, dw-is, degrees, r-reads, w-reads, r-row, w-row}
 
 abbrev pub pairOf : Generators → Pair
 pairOf o = pair (o .mb) (o .mc) (o .nb) (o .nc)
@@ -47,29 +48,26 @@ pub record RowsOf (p : ℕ) (o : Generators) : Type 0 where
   pub hnc : Row p (o .nc)
   pub hu : Row p (o .u)
 
-module _ {p : ℕ} {G H : List ℕ} (A : Accepted p G H) {g h gh : List ℕ} {n dr dw : ℕ} {r w : List ℕ} (k : Known A g h gh n dr dw r w) where
+module _ {p : ℕ} {G H : List ℕ} (A : Accepted p G H) {g h gh : List ℕ} {dr dw : ℕ} {r w : List ℕ} (k : Keeps p G H g h gh dr dw r w) where
   abbrev pub meaning : Meaning (frame (ready p) r w dr dw)
   meaning = record {
     prime = A .prime;
     r = setting A .roots .r;
     w = setting A .roots .w;
-    r-deg = subst (Has (reading p (A .prime) .𝓥) (setting A .roots .r)) (sym (k .dr-is)) (setting A .roots .r-deg);
-    w-deg = subst (Has (reading p (A .prime) .𝓥) (setting A .roots .w)) (sym (k .dw-is)) (setting A .roots .w-deg);
-    r-reads = k .r-reads;
-    w-reads = k .w-reads;
+    r-deg = subst (Has (reading p (A .prime) .𝓥) (setting A .roots .r)) (sym (dr-is k A)) (setting A .roots .r-deg);
+    w-deg = subst (Has (reading p (A .prime) .𝓥) (setting A .roots .w)) (sym (dw-is k A)) (setting A .roots .w-deg);
+    r-reads = r-reads k A;
+    w-reads = w-reads k A;
     two = setting A .roots .two≢;
   }
 
-module _ {p : ℕ} {G H : List ℕ} (A : Accepted p G H) {g h gh : List ℕ} {n dr dw : ℕ} {r w : List ℕ} (kp : Keeps p G H g h gh n dr dw r w)
+module _ {p : ℕ} {G H : List ℕ} (A : Accepted p G H) {g h gh : List ℕ} {n dr dw : ℕ} {r w : List ℕ} (k : Keeps p G H g h gh dr dw r w) (n-is : n ≡ dr + dw)
     (b : Seven) (good : Good (setting A) (rowsOf A b)) {o : Generators} (ho : RowsOf p o) (m : Generated A b o) where
   abbrev ρ : Reading p
   ρ = reading p (A .prime)
 
   abbrev S : Setting
   S = setting A
-
-  k : Known A g h gh n dr dw r w
-  k = kp .known A
 
   rm : Room (setting A) (rowsOf A b) (m .k) (m .c)
   rm = room (setting A) (rowsOf A b) good (m .k) (m .c)
@@ -116,7 +114,7 @@ module _ {p : ℕ} {G H : List ℕ} (A : Accepted p G H) {g h gh : List ℕ} {n 
       ]
 
   abbrev μ : Meaning (frame (ready p) r w dr dw)
-  μ = meaning A (kp .known A)
+  μ = meaning A k
 
   -- the sizes of the two elements
   mb-is : base (setting A) (rowsOf A b) (m .k) (m .c) .M .b .0 ≡ row ρ (o .mb)
@@ -160,10 +158,10 @@ module _ {p : ℕ} {G H : List ℕ} (A : Accepted p G H) {g h gh : List ℕ} {n 
 
   -- the numbers
   whole : suc (rm .s) ≡ n + 1 - o .cut
-  whole = let e : rm .s + rm .γ ≡ A .degG + A .degH = rm .whole in let f : rm .γ ≡ o .cut = γ-is in let q : n ≡ A .degG + A .degH = k .n-is in omega arith
+  whole = let e : rm .s + rm .γ ≡ A .degG + A .degH = rm .whole in let f : rm .γ ≡ o .cut = γ-is in let q : n ≡ A .degG + A .degH = n-is ∙ degrees k A in omega arith
 
   pub cut-low : o .cut ≤ n
-  cut-low = let e : rm .s + rm .γ ≡ A .degG + A .degH = rm .whole in let f : rm .γ ≡ o .cut = γ-is in let q : n ≡ A .degG + A .degH = k .n-is in omega arith
+  cut-low = let e : rm .s + rm .γ ≡ A .degG + A .degH = rm .whole in let f : rm .γ ≡ o .cut = γ-is in let q : n ≡ A .degG + A .degH = n-is ∙ degrees k A in omega arith
 
   a≤s : rm .a ≤ rm .s
   a≤s = let e : rm .a + rm .b ≡ rm .s + rm .u = rm .sum in let q : rm .u < rm .b = rm .u<b in omega arith
@@ -176,7 +174,7 @@ module _ {p : ℕ} {G H : List ℕ} (A : Accepted p G H) {g h gh : List ℕ} {n 
       let z = sizes A b good in
       let e : rm .s + rm .γ ≡ A .degG + A .degH = rm .whole in
       let q : setting A .roots .dr + setting A .roots .dw ≡ A .degG + A .degH = z .both in
-      let f : dr ≡ setting A .roots .dr = k .dr-is in
+      let f : dr ≡ setting A .roots .dr = dr-is k A in
       let l : rm .γ < setting A .roots .dw = γ-dw in
       omega (arith, e, q, f, l)
 
@@ -185,7 +183,7 @@ module _ {p : ℕ} {G H : List ℕ} (A : Accepted p G H) {g h gh : List ℕ} {n 
       let z = sizes A b good in
       let e : rm .s + rm .γ ≡ A .degG + A .degH = rm .whole in
       let q : setting A .roots .dr + setting A .roots .dw ≡ A .degG + A .degH = z .both in
-      let f : dw ≡ setting A .roots .dw = k .dw-is in
+      let f : dw ≡ setting A .roots .dw = dw-is k A in
       let l : rm .γ < setting A .roots .dr = γ-dr in
       omega (arith, e, q, f, l)
 
@@ -202,8 +200,8 @@ module _ {p : ℕ} {G H : List ℕ} (A : Accepted p G H) {g h gh : List ℕ} {n 
     room = record {
       fine = record {
         modulus = ready-prepared p (record { big = A .prime .big; small = (let l : p ≤ 65535 = A .high in omega arith) });
-        hr = kp .hr;
-        hw = kp .hw;
+        hr = r-row k;
+        hw = w-row k;
       };
       fits = (let e : rm .s + rm .γ ≡ A .degG + A .degH = rm .whole in let q : A .degG + A .degH ≤ 16 = A .sum in omega arith);
       low-r = dr-low;
@@ -250,8 +248,8 @@ module _ {p : ℕ} {G H : List ℕ} (A : Accepted p G H) {g h gh : List ℕ} {n 
         odd = odd-prime p (A .prime) (A .low);
         fits = omega arith;
         hd = row-short ρ 17 (ho .hu) (d.has-up (ρ .𝓥) 17 u-has (omega arith));
-        h1 = row-short ρ (suc dr) (ho .hx) (d.lt-eq (ρ .𝓥) (subst (λ j. Lt (ρ .𝓥) (m .k .of-r .β .0) (suc j)) (sym (k .dr-is)) (nx .β-lt)) (sym (ap (λ t. t .0) (m .x-is))));
-        h2 = row-short ρ (suc dw) (ho .hy) (d.lt-eq (ρ .𝓥) (subst (λ j. Lt (ρ .𝓥) (m .k .of-w .β .0) (suc j)) (sym (k .dw-is)) (ny .β-lt)) (sym (ap (λ t. t .0) (m .y-is))));
+        h1 = row-short ρ (suc dr) (ho .hx) (d.lt-eq (ρ .𝓥) (subst (λ j. Lt (ρ .𝓥) (m .k .of-r .β .0) (suc j)) (sym (dr-is k A)) (nx .β-lt)) (sym (ap (λ t. t .0) (m .x-is))));
+        h2 = row-short ρ (suc dw) (ho .hy) (d.lt-eq (ρ .𝓥) (subst (λ j. Lt (ρ .𝓥) (m .k .of-w .β .0) (suc j)) (sym (dw-is k A)) (ny .β-lt)) (sym (ap (λ t. t .0) (m .y-is))));
         u = rm .u;
         d-size = size-of ρ (ho .hu) u-has;
         clear = clear-in;

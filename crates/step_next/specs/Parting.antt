@@ -1,10 +1,10 @@
 -- A step on rows, and its first half: from the record to the generators of the ideal divided by m.
---   AdvanceOn   what `advanced` asks, the modulus prepared, and seven zero rows
+--   AdvanceOn   what `advanced` asks, the modulus prepared, with n = deg GH, and seven zero rows
 --   PartIn      the same for some series r, w of the degrees dr, dw
 --   Parting     the generators (`Divided` of crate step_divide) of the seven rows of the record, and the degree of m
 use mathlib.Core.Path.{_≡_}
 use mathlib.Core.List.{List}
-use Prim.Native.Nat.{ℕ, _-_}
+use Prim.Native.Nat.{ℕ, _+_, _-_}
 use lib.ListN.{replicate}
 use Rattle.num_mod.specs.Prepared.{PreparedOf}
 use Rattle.num_mod.specs.declared.Modulus.{Modulus}
@@ -15,7 +15,8 @@ use Rattle.step_next.specs.Steps.{AdvanceIn}
 use Rattle.step_next.specs.declared.Measures.{Measures}
 
 pub record AdvanceOn (q : Modulus) (g h gh : List ℕ) (n dr dw : ℕ) (r w B : List ℕ) (x y : Three) (d : List ℕ) : Type 0 where
-  pub inp : AdvanceIn (q .p) g h gh n dr dw r w B
+  pub inp : AdvanceIn (q .p) g h gh dr dw r w B
+  pub n-is : n ≡ dr + dw
   pub modulus : PreparedOf (q .p) q
   pub blank-x : Blank x
   pub blank-y : Blank y

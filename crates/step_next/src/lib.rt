@@ -110,7 +110,7 @@ fn advance_in(
     d: &mut [u64; 32],
 ) -> Advance
     requires { ⌜ AdvanceOn q (now g) (now h) (now gh) n dr dw (now r) (now w) (now b) (three (now nc) (now x) (now mc)) (three (now nb) (now y) (now mb)) (now d) ⌝ }
-    ensures { λ o. ⌜ Advanced (q .p) (now (g .entry)) (now (h .entry)) (now (gh .entry)) n dr dw (now (r .entry)) (now (w .entry)) (now (b .entry)) o ⌝ }
+    ensures { λ o. ⌜ Advanced (q .p) (now (g .entry)) (now (h .entry)) (now (gh .entry)) dr dw (now (r .entry)) (now (w .entry)) (now (b .entry)) o ⌝ }
 {
     let k = parted(q, g, h, gh, n, dr, dw, b, nc, x, mc, nb, y, mb, d);
     let f = Bounds {
@@ -126,23 +126,23 @@ fn advance_in(
     }
 }
 
-// What a field keeps from step to step is lent: G, H and G·H, n = deg GH, the degrees of r and w and their first 32 coefficients.
+// What a field keeps from step to step is lent: G, H and G·H, the degrees of r and w and their first 32 coefficients.
 pub fn advanced(
     p: u64,
     g: &[u64; 32],
     h: &[u64; 32],
     gh: &[u64; 32],
-    n: usize,
     dr: usize,
     dw: usize,
     r: &[u64; 32],
     w: &[u64; 32],
     b: &[u16; 119],
 ) -> Advance
-    requires { ⌜ AdvanceIn p (now g) (now h) (now gh) n dr dw (now r) (now w) (now b) ⌝ }
-    ensures { λ o. ⌜ Advanced p (now (g .entry)) (now (h .entry)) (now (gh .entry)) n dr dw (now (r .entry)) (now (w .entry)) (now (b .entry)) o ⌝ }
+    requires { ⌜ AdvanceIn p (now g) (now h) (now gh) dr dw (now r) (now w) (now b) ⌝ }
+    ensures { λ o. ⌜ Advanced p (now (g .entry)) (now (h .entry)) (now (gh .entry)) dr dw (now (r .entry)) (now (w .entry)) (now (b .entry)) o ⌝ }
 {
     let q = prepare(p);
+    let n = dr + dw;
     let mut nc: [u64; 32] = [0; 32];
     let mut x: [u64; 32] = [0; 32];
     let mut mc: [u64; 32] = [0; 32];
@@ -182,5 +182,5 @@ pub fn next_in_field(c: field_series::Cubic, b: [u16; 119]) -> Advance
     let g = f.g;
     let h = f.h;
     let gh = f.gh;
-    advanced(f.p, &g, &h, &gh, f.dr + f.dw, f.dr, f.dw, &r, &w, &b)
+    advanced(f.p, &g, &h, &gh, f.dr, f.dw, &r, &w, &b)
 }

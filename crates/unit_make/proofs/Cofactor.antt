@@ -20,8 +20,9 @@ use Rattle.math_ideals.specs.Element.{O, sc, norm, cof}
 use Rattle.math_ideals.proofs.Sizes.{sc-a, sc-b, sc-c}
 use Rattle.basis_record.specs.Record.{setting}
 use Rattle.field_series.specs.declared.Cubic.{Cubic}
-use Rattle.basis_field.specs.Known.{Known}
-use Rattle.step_next.proofs.Kept.{keeps-of}
+use Rattle.field_series.specs.Keeps.{Keeps}
+use Rattle.basis_field.proofs.Keeps.{modulus}
+use Rattle.basis_field.proofs.Keeps as keeps
 use Rattle.poly_rows.specs.Leaf.{Given, Opposite}
 use Rattle.poly_long.specs.Long.{Stored}
 use Rattle.unit_rows.specs.Six.{cut}
@@ -29,31 +30,22 @@ use Rattle.unit_rows.proofs.Multiply.{cut-same}
 use Rattle.unit_inverse.specs.Inverse.{element, InvertIn, Inverted}
 use Rattle.unit_make.specs.Rows.{six}
 use Rattle.unit_make.specs.Making.{InverseIn, Inverses}
-use Rattle.unit_make.proofs.Turning.{p-is, kept, storable, storable-at, row-stored, six-path}
+use Rattle.unit_make.proofs.Turning.{storable, row-stored, six-path}
 
 -- - G H
-pub minus-in : {f : Cubic} → Known f → Given (f .field .p) (f .field .gh)
-minus-in {f} k = let s = storable-at k in record {
-  modulus = record { big = s .big; small = (let u : f .field .p < 65536 = s .small in omega arith) };
-  hx = subst (λ q. Row q (f .field .gh)) (sym (p-is f (k .prefix) (k .accepted))) (kept k .hgh);
-}
+pub minus-in : {p : ℕ} {G H g h gh : List ℕ} {dr dw : ℕ} {r w : List ℕ} → Keeps p G H g h gh dr dw r w → Given p gh
+minus-in k = record { modulus = modulus k; hx = keeps.gh-row k }
 
-pub stored-minus : {f : Cubic} → Known f → (m : List ℕ) → Opposite (f .field .p) (f .field .gh) m → Stored m
-stored-minus k m o = row-stored (storable-at k) (o .is-row)
+pub stored-minus : {p : ℕ} {G H x m : List ℕ} → Accepted p G H → Opposite p x m → Stored m
+stored-minus A o = row-stored (storable A) (o .is-row)
 
 module _ (f : Cubic) (c k : ℕ) (rows s g h gh m ngh : List ℕ) (eg : g ≡ f .field .g) (eh : h ≡ f .field .h) (egh : gh ≡ f .field .gh) (em : ngh ≡ m) (opposite : Opposite (f .field .p) (f .field .gh) m) where
   module _ (i : InverseIn f c k rows s) where
     abbrev p : ℕ
-    p = i .known .p
+    p = f .field .p
 
     abbrev A : Accepted p (i .known .G) (i .known .H)
-    A = i .known .accepted
-
-    q-is : f .field .p ≡ p
-    q-is = p-is f (i .known .prefix) A
-
-    opposite′ : Opposite p (f .field .gh) m
-    opposite′ = subst (λ q. Opposite q (f .field .gh) m) q-is opposite
+    A = i .known .kept .accepted
 
     module _ (pr : Prime p) where
       abbrev A′ : Accepted p (i .known .G) (i .known .H)
@@ -63,16 +55,16 @@ module _ (f : Cubic) (c k : ℕ) (rows s g h gh m ngh : List ℕ) (eg : g ≡ f 
       ρ = reading p pr
 
       g-row : row ρ g ≡ row ρ (i .known .G)
-      g-row = ap (row ρ) eg ∙ kept (i .known) .known A′ .holds .g-is
+      g-row = ap (row ρ) eg ∙ keeps.holds-of (i .known .kept) A′ .g-is
 
       h-row : row ρ h ≡ row ρ (i .known .H)
-      h-row = ap (row ρ) eh ∙ kept (i .known) .known A′ .holds .h-is
+      h-row = ap (row ρ) eh ∙ keeps.holds-of (i .known .kept) A′ .h-is
 
       gh-row : row ρ gh ≡ ρ .𝓥 .L .ops .mul (row ρ g) (row ρ h)
-      gh-row = ap (row ρ) egh ∙ kept (i .known) .known A′ .holds .gh-is ∙ sym (ap₂ (ρ .𝓥 .L .ops .mul) g-row h-row)
+      gh-row = ap (row ρ) egh ∙ keeps.holds-of (i .known .kept) A′ .gh-is ∙ sym (ap₂ (ρ .𝓥 .L .ops .mul) g-row h-row)
 
       ngh-row : row ρ ngh ≡ ρ .𝓥 .L .ops .neg (row ρ gh)
-      ngh-row = ap (row ρ) em ∙ opposite′ .law pr ∙ ap (λ z. ρ .𝓥 .L .ops .neg (row ρ z)) (sym egh)
+      ngh-row = ap (row ρ) em ∙ opposite .law pr ∙ ap (λ z. ρ .𝓥 .L .ops .neg (row ρ z)) (sym egh)
 
       cof-is : cofT (ρ .𝓥 .L .ops) (row ρ (i .known .G)) (row ρ (i .known .H)) (element ρ 0 c rows) ≡ cofT (ρ .𝓥 .L .ops) (row ρ g) (row ρ h) (element ρ 0 c rows)
       cof-is = ap₂ (λ x y. cofT (ρ .𝓥 .L .ops) x y (element ρ 0 c rows)) (sym g-row) (sym h-row)
@@ -86,18 +78,18 @@ module _ (f : Cubic) (c k : ℕ) (rows s g h gh m ngh : List ℕ) (eg : g ≡ f 
           )
 
     pub invert-in : InvertIn (f .field .p) c k g h gh ngh rows s
-    invert-in = subst (λ q. InvertIn q c k g h gh ngh rows s) (sym q-is) (record {
+    invert-in = record {
       modulus = storable A;
       prime = A .prime;
       most = i .space .most;
       upto = i .upto;
-      g-most = (let o : length g ≡ 32 = ap length eg ∙ kept (i .known) .hg .size in omega arith);
-      h-most = (let o : length h ≡ 32 = ap length eh ∙ kept (i .known) .hh .size in omega arith);
-      gh-most = (let o : length gh ≡ 32 = ap length egh ∙ kept (i .known) .hgh .size in omega arith);
+      g-most = (let o : length g ≡ 32 = ap length eg ∙ keeps.g-row (i .known .kept) .size in omega arith);
+      h-most = (let o : length h ≡ 32 = ap length eh ∙ keeps.h-row (i .known .kept) .size in omega arith);
+      gh-most = (let o : length gh ≡ 32 = ap length egh ∙ keeps.gh-row (i .known .kept) .size in omega arith);
       ngh-most = (let o : length ngh ≡ 32 = ap length em ∙ opposite .is-row .size in omega arith);
       room = (let w : length rows ≡ 6 * c = i .space .whole in omega arith);
       s-room = i .space .even;
-      each = λ j. subst (λ q. getD rows j 0 < q) q-is (i .each j);
+      each = i .each;
       blank = i .rest;
       gh-is = gh-row;
       ngh-is = ngh-row;
@@ -105,22 +97,21 @@ module _ (f : Cubic) (c k : ℕ) (rows s g h gh m ngh : List ℕ) (eg : g ≡ f 
       b-fits = λ pr. subst (λ v. Lt (ρ pr .𝓥) (v .b) k) (cof-is pr) (i .fits (A′ pr) .b-lt);
       c-fits = λ pr. subst (λ v. Lt (ρ pr .𝓥) (v .c) k) (cof-is pr) (i .fits (A′ pr) .c-lt);
       constant = constant;
-    })
+    }
 
   pub inverses : (rows′ s′ : List ℕ) → Inverted (f .field .p) c g h rows s rows′ s′ → Inverses f c rows s rows′ s′
   inverses rows′ s′ t = record {
     size = t .size;
     blank = t .blank;
     each = t .each;
-    law = λ p G H A pre ν e.
-        let S = setting A in let ρ = reading p (A .prime) in let o = ρ .𝓥 .L .ops in
-        let t′ : Inverted p c g h rows s rows′ s′ = subst (λ q. Inverted q c g h rows s rows′ s′) (p-is f pre A) t in
-        let hold = keeps-of f pre A .known A .holds in
+    law = λ G H A pre ν e.
+        let S = setting A in let ρ = reading (f .field .p) (A .prime) in let o = ρ .𝓥 .L .ops in
+        let hold = keeps.holds-of pre A in
         let eG : row ρ g ≡ row ρ G = ap (row ρ) eg ∙ hold .g-is in
         let eH : row ρ h ≡ row ρ H = ap (row ρ) eh ∙ hold .h-is in
         let C = cof S (six A c 0 rows) in
         let cs : cofT o (row ρ g) (row ρ h) (element ρ 0 c rows) ≡ cofT o (row ρ G) (row ρ H) (element ρ 0 c rows) = ap₂ (λ x y. cofT o x y (element ρ 0 c rows)) eG eH in
-        let (x, y, z) = t′ .law (A .prime) (ν .0) (ap₂ (λ u v. o .mul (normT o u v (element ρ 0 c rows)) (ν .0)) eG eH ∙ sym (ap (λ v. v .0) e)) in
+        let (x, y, z) = t .law (A .prime) (ν .0) (ap₂ (λ u v. o .mul (normT o u v (element ρ 0 c rows)) (ν .0)) eG eH ∙ sym (ap (λ v. v .0) e)) in
         let same : (at : ℕ) → at + c ≤ c + c + c → row ρ (cut at c rows′) ≡ row ρ (cut at c rows) = (λ at l. ap (row ρ) (cut-same at c rows′ rows (λ j u. t .before (at + j) (omega arith)))) in (
           six-path A c 0 rows′ (six A c 0 rows) (same 0 (omega arith)) (same (0 + c) (omega arith)) (same (0 + c + c) (omega arith)),
           six-path A c (c + c + c) rows′ (O S .ops .mul (sc S ν) C)

@@ -16,12 +16,12 @@ use Rattle.unit_rows.specs.Six.{MonicIn, MonicMade}
 use Rattle.field_series.specs.declared.Cubic.{Cubic}
 use Rattle.unit_make.specs.Rows.{six, Holds}
 use Rattle.unit_make.specs.Making.{InverseIn, Inverses, FinishIn, Finishes}
-use Rattle.unit_make.proofs.Turning.{p-is, storable}
+use Rattle.unit_make.proofs.Turning.{storable}
 use Rattle.unit_make.proofs.Ending.{top-some, fits-at, unit-at, unit-of}
 
 module _ (f : Cubic) (c d : ℕ) (rows s : List ℕ) (t : FinishIn f c d rows s) where
   abbrev p : ℕ
-  p = t .task .known .p
+  p = f .field .p
 
   abbrev G : List ℕ
   G = t .task .known .G
@@ -30,16 +30,13 @@ module _ (f : Cubic) (c d : ℕ) (rows s : List ℕ) (t : FinishIn f c d rows s)
   H = t .task .known .H
 
   abbrev A : Accepted p G H
-  A = t .task .known .accepted
-
-  q-is : f .field .p ≡ p
-  q-is = p-is f (t .task .known .prefix) A
+  A = t .task .known .kept .accepted
 
   top-at : 0 < getD rows (d + 1 - 1) 0
   top-at = subst (λ j. 0 < getD rows j 0) (let o : d ≡ d + 1 - 1 = omega arith in o) (top-some A (t .along) (t .task .is-first .start A) (t .task .closes .closing A) (t .task .room))
 
   pub monic-in : MonicIn (f .field .p) c (d + 1) rows
-  monic-in = subst (λ q. MonicIn q c (d + 1) rows) (sym q-is) (record {
+  monic-in = record {
     modulus = storable A;
     prime = A .prime;
     some = omega arith;
@@ -48,14 +45,11 @@ module _ (f : Cubic) (c d : ℕ) (rows s : List ℕ) (t : FinishIn f c d rows s)
     most = t .task .most;
     top = top-at;
     top-below = t .along .each (d + 1 - 1);
-  })
+  }
 
   module _ (rows₁ : List ℕ) (made : MonicMade (f .field .p) c (d + 1) rows rows₁) where
-    monic-at : MonicMade p c (d + 1) rows rows₁
-    monic-at = subst (λ q. MonicMade q c (d + 1) rows rows₁) q-is made
-
-    one-at : (getD rows d 0 * monic-at .by) % p ≡ 1
-    one-at = ap (λ j. (getD rows j 0 * monic-at .by) % p) (let o : d ≡ d + 1 - 1 = omega arith in o) ∙ monic-at .one
+    one-at : (getD rows d 0 * made .by) % p ≡ 1
+    one-at = ap (λ j. (getD rows j 0 * made .by) % p) (let o : d ≡ d + 1 - 1 = omega arith in o) ∙ made .one
 
     pub inverse-in : (s₁ : List ℕ) → length s₁ ≡ length s → InverseIn f c (d / 2 + 1) rows₁ s₁
     inverse-in s₁ es = record {
@@ -64,23 +58,23 @@ module _ (f : Cubic) (c d : ℕ) (rows s : List ℕ) (t : FinishIn f c d rows s)
       upto = (let l : d < c = t .task .room in omega arith);
       each = λ i. elim (decLt i (c + c + c)) [
         | yes u ↦ made .each i u
-        | no u ↦ subst (λ v. v < f .field .p) (sym (made .rest i (omega arith))) (subst (λ q. getD rows i 0 < q) (sym q-is) (t .along .each i))
+        | no u ↦ subst (λ v. v < f .field .p) (sym (made .rest i (omega arith))) (t .along .each i)
       ];
       rest = λ i u. made .rest i u ∙ t .along .rest i u;
-      fits = λ A′. fits-at A′ (t .along) (t .task .is-first .start A′) (t .task .closes .closing A′) (t .task .room) rows₁ (monic-at .by) one-at (monic-at .at);
-      unit = λ A′. unit-at A′ (t .along) (t .task .is-first .start A′) (t .task .closes .closing A′) (t .task .room) rows₁ (monic-at .by) one-at (monic-at .at);
+      fits = λ A′. fits-at A′ (t .along) (t .task .is-first .start A′) (t .task .closes .closing A′) (t .task .room) rows₁ (made .by) one-at (made .at);
+      unit = λ A′. unit-at A′ (t .along) (t .task .is-first .start A′) (t .task .closes .closing A′) (t .task .room) rows₁ (made .by) one-at (made .at);
     }
 
     pub holds-at : (s₁ rows₂ s₂ : List ℕ) → Inverses f c rows₁ s₁ rows₂ s₂ → Holds p G H (t .l) d c rows₂
     holds-at s₁ rows₂ s₂ i = record {
       whole = i .size ∙ made .size ∙ t .along .whole;
-      each = λ j. subst (λ q. getD rows₂ j 0 < q) q-is (i .each j);
+      each = i .each;
       unit = λ A′ B₀ st.
           let S = setting A′ in
           let first = t .task .is-first .start A′ in
-          let (ν, e) = unit-at A′ (t .along) first (t .task .closes .closing A′) (t .task .room) rows₁ (monic-at .by) one-at (monic-at .at) in
-          let (x, y) = i .law p G H A′ (t .task .known .prefix) ν e in
-          let u = unit-of A′ (t .along) first (t .task .closes .closing A′) (t .task .room) rows₁ (monic-at .by) one-at (monic-at .at) ν e in
+          let (ν, e) = unit-at A′ (t .along) first (t .task .closes .closing A′) (t .task .room) rows₁ (made .by) one-at (made .at) in
+          let (x, y) = i .law G H A′ (t .task .known .kept) ν e in
+          let u = unit-of A′ (t .along) first (t .task .closes .closing A′) (t .task .room) rows₁ (made .by) one-at (made .at) ν e in
           subst (λ b. UnitOf S b (t .l) d (six A′ c 0 rows₂) (six A′ c (c + c + c) rows₂)) (start-unique S (basisOf A′ (t .B)) B₀ first st)
           (subst (λ v. UnitOf S (basisOf A′ (t .B)) (t .l) d v (six A′ c (c + c + c) rows₂)) (sym x) (subst (λ v. UnitOf S (basisOf A′ (t .B)) (t .l) d (six A′ c 0 rows₁) v) (sym y) u));
     }

@@ -7,12 +7,12 @@ use mathlib.Core.List.{List}
 use Prim.Native.Nat.{ℕ, suc, _+_, _-_, _<_, _≤_}
 use native.Mathlib.Omega.{arith}
 use lib.ListN.{length, getD, replicate, length-replicate}
+use Rattle.base_answers.specs.Limits.{longest}
 use Rattle.field_series.specs.declared.Cubic.{Cubic}
 use Rattle.step_next.specs.Steps.{Steps}
 use Rattle.step_next.specs.declared.Advance.{Advance}
 use Rattle.step_next.specs.InField.{NextIn, NextOut}
 use Rattle.unit_make.specs.Making.{Blank, Along, MultiplyIn, Multiplies, FurtherIn, Further, ProductIn, ProductOf}
-use Rattle.unit_make.proofs.Turning.{p-is}
 use Rattle.unit_make.proofs.Passing.{stays-below, step-below, along-more, along-end}
 
 -- zeros as long as another list
@@ -24,15 +24,15 @@ blank-as s₀ s e =
 module _ (f : Cubic) (c d : ℕ) (b rows s : List ℕ) where
   module _ (t : FurtherIn f c d b rows s) where
     pub further-next : NextIn f b
-    further-next = record { known = t .task .known; is-record = t .along .is-record }
+    further-next = record { G = t .task .known .G; H = t .task .known .H; keeps = t .task .known .kept; is-record = t .along .is-record }
 
     module _ (o : Advance) (out : NextOut f b o) where
-      pub further-step : Steps (t .task .known .p) (t .task .known .G) (t .task .known .H) b o
-      further-step = out (t .task .known .p) (t .task .known .G) (t .task .known .H) (t .task .known .accepted) (t .task .known .prefix) (t .along .is-record)
+      pub further-step : Steps (f .field .p) (t .task .known .G) (t .task .known .H) b o
+      further-step = out (t .task .known .G) (t .task .known .H) (t .task .known .kept) (t .along .is-record)
 
       pub further-below : d + o .degree < c
       further-below =
-          let l : d + o .degree ≤ t .all = step-below (t .task .known .p) (t .task .known .G) (t .task .known .H) (t .B) (t .task .is-first) c (t .task .closes) (t .task .known .accepted) (t .left) (t .along) o further-step in
+          let l : d + o .degree ≤ t .all = step-below (f .field .p) (t .task .known .G) (t .task .known .H) (t .B) (t .task .is-first) c (t .task .closes) (t .task .known .kept .accepted) (t .left) (t .along) o further-step in
           let r : t .all < c = t .task .room in
           omega arith
 
@@ -50,9 +50,8 @@ module _ (f : Cubic) (c d : ℕ) (b rows s : List ℕ) where
     size = m .size;
     blank = m .blank;
     goes = λ t. let k = t .task .known in
-        let q : f .field .p ≡ k .p = p-is f (k .prefix) (k .accepted) in
-        along-more (k .p) (k .G) (k .H) (t .B) (t .task .is-first) c (t .along) o (further-step t o out) rows′ (m .size)
-        (λ j u. subst (λ n. getD rows′ j 0 < n) q (m .each j u)) (m .rest) (λ A. m .law (k .p) (k .G) (k .H) A (k .prefix));
+        along-more (f .field .p) (k .G) (k .H) (t .B) (t .task .is-first) c (t .along) o (further-step t o out) rows′ (m .size)
+        (m .each) (m .rest) (λ A. m .law (k .G) (k .H) A (k .kept));
   }
 
 module _ (f : Cubic) (c : ℕ) (B : List ℕ) (l : ℕ) (rows₀ s₀ : List ℕ) where
@@ -60,7 +59,7 @@ module _ (f : Cubic) (c : ℕ) (B : List ℕ) (l : ℕ) (rows₀ s₀ : List ℕ
     pub upto : i ≤ l
     pub size : length rows ≡ length rows₀
     pub blank : s ≡ replicate (length s₀) 0
-    pub goes : (t : ProductIn f c B l rows₀ s₀) → Along (t .task .known .p) (t .task .known .G) (t .task .known .H) B c i d b rows
+    pub goes : (t : ProductIn f c B l rows₀ s₀) → Along (f .field .p) (t .task .known .G) (t .task .known .H) B c i d b rows
 
   pub stepping-start : Blank s₀ → Stepping B 0 0 rows₀ s₀
   stepping-start e = record { upto = omega arith; size = refl; blank = e; goes = λ t. t .along }
@@ -71,7 +70,7 @@ module _ (f : Cubic) (c : ℕ) (B : List ℕ) (l : ℕ) (rows₀ s₀ : List ℕ
       size = st .size;
       blank = st .blank;
       goes = λ t. let k = t .task .known in
-          along-end (k .p) (k .G) (k .H) B (t .task .is-first) c (t .task .closes) (k .accepted) (subst (λ j. Along (k .p) (k .G) (k .H) B c j d b rows) e (st .goes t));
+          along-end (f .field .p) (k .G) (k .H) B (t .task .is-first) c (t .task .closes) (k .kept .accepted) (subst (λ j. Along (f .field .p) (k .G) (k .H) B c j d b rows) e (st .goes t));
     }
 
     module _ (u : i < l) where
@@ -88,13 +87,13 @@ module _ (f : Cubic) (c : ℕ) (B : List ℕ) (l : ℕ) (rows₀ s₀ : List ℕ
         blank = x;
       }
 
-      pub stepping-below : ProductIn f c B l rows₀ s₀ → (o : Advance) (rows′ s′ : List ℕ) → Further f c d b rows s o rows′ s′ → d + o .degree ≤ 4096
+      pub stepping-below : ProductIn f c B l rows₀ s₀ → (o : Advance) (rows′ s′ : List ℕ) → Further f c d b rows s o rows′ s′ → d + o .degree ≤ longest
       unfolding stepping-further
       stepping-below t o rows′ s′ g =
           let k = t .task .known in
-          let n : d + o .degree ≤ t .d = stays-below (k .p) (k .G) (k .H) B (t .task .is-first) c (t .task .closes) (k .accepted) u (g .goes (stepping-further t)) in
+          let n : d + o .degree ≤ t .d = stays-below (f .field .p) (k .G) (k .H) B (t .task .is-first) c (t .task .closes) (k .kept .accepted) u (g .goes (stepping-further t)) in
           let r : t .d < c = t .task .room in
-          let m : c ≤ 4096 = t .task .most in
+          let m : c ≤ longest = t .task .most in
           omega arith
 
       pub stepping-more : (o : Advance) (rows′ s′ : List ℕ) → Further f c d b rows s o rows′ s′ → (i′ : ℕ) → i′ ≡ suc i → Stepping (o .basis) (d + o .degree) i′ rows′ s′

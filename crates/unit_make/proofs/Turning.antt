@@ -1,10 +1,9 @@
 -- One multiplication: the opened field meets what `unit_rows::turn` asks, and what it hands out is the exact division of E M by U.
---   p-is             the opened field keeps its p
 --   stored           its rows of G, H, G H fit 16 bits
 --   monic-part       the row U of a record ends in 1
 --   turn-in          what `turn` asks
 --   multiplies       what it hands out
-use mathlib.Core.Path.{_≡_, sym, ap, ap₂, _∙_, subst}
+use mathlib.Core.Path.{_≡_, sym, ap, ap₂, _∙_}
 use mathlib.Core.Logic.{_≢_}
 use mathlib.Core.List.{List}
 use Prim.Native.Nat.{ℕ, zero, suc, _+_, _*_, _-_, _<_, _≤_}
@@ -21,24 +20,18 @@ use Rattle.math_rows.proofs.Rows.{size-lead}
 use Rattle.math_rows.proofs.Floors.{zero-row}
 use Rattle.math_rows.proofs.Unique.{cast-inj}
 use Rattle.field_open.specs.Refusal.{Accepted}
-use Rattle.field_open.specs.Opening as F
 use Rattle.math_ideals.specs.Element.{O}
 use Rattle.math_ideals.proofs.Sizes.{O-path, sc-a, sc-b, sc-c}
 use Rattle.math_valued.proofs.Polynomial.{P-path}
 use Rattle.basis_record.specs.Record.{setting, basisOf, IsRecord}
-use Rattle.field_series.specs.Answer.{Prefix}
+use Rattle.field_series.specs.Keeps.{Keeps}
 use Rattle.field_series.specs.declared.Cubic.{Cubic}
-use Rattle.basis_field.specs.Known.{Known}
-use Rattle.step_next.specs.Steps.{Keeps}
-use Rattle.step_next.proofs.Kept.{keeps-of}
+use Rattle.basis_field.proofs.Keeps.{g-row, h-row, gh-row, holds-of}
 use Rattle.poly_long.specs.Long.{Storable, Stored}
 use Rattle.unit_rows.specs.Six.{cut, Monic, TurnIn, Turn}
 use Rattle.unit_make.specs.Rows.{six}
 use Rattle.unit_make.specs.Making.{Blank, MultiplyIn, Multiplies}
 use Rattle.unit_make.proofs.Rows.{cut-below}
-
-pub p-is : {p : ℕ} {G H : List ℕ} (f : Cubic) → Prefix p G H f → Accepted p G H → f .field .p ≡ p
-p-is f h A = h .field (A .degG) (A .degH) (A .listG) (A .listH) .prime
 
 pub storable : {p : ℕ} {G H : List ℕ} → Accepted p G H → Storable p
 storable {p} A = let l : 5 ≤ p = A .low in let u : p ≤ 65535 = A .high in record { big = omega arith; small = omega arith }
@@ -47,20 +40,15 @@ pub row-stored : {p : ℕ} {x : List ℕ} → Storable p → Row p x → Stored 
 row-stored {p} {x} s h = record { size = h .size; each = λ i. let l : getD x i 0 < p = h .each i in let u : p < 65536 = s .small in omega arith }
 
 -- the rows that an opened field keeps
-abbrev pub kept : {f : Cubic} (k : Known f) → Keeps (k .p) (k .G) (k .H) (f .field .g) (f .field .h) (f .field .gh) (f .field .dr + f .field .dw) (f .field .dr) (f .field .dw) (f .r) (f .w)
-kept {f} k = keeps-of f (k .prefix) (k .accepted)
+module _ {p : ℕ} {G H g h gh : List ℕ} {dr dw : ℕ} {r w : List ℕ} (k : Keeps p G H g h gh dr dw r w) where
+  pub stored-g : Stored g
+  stored-g = row-stored (storable (k .accepted)) (g-row k)
 
-pub storable-at : {f : Cubic} → Known f → Storable (f .field .p)
-storable-at {f} k = subst Storable (sym (p-is f (k .prefix) (k .accepted))) (storable (k .accepted))
+  pub stored-h : Stored h
+  stored-h = row-stored (storable (k .accepted)) (h-row k)
 
-pub stored-g : {f : Cubic} → Known f → Stored (f .field .g)
-stored-g k = row-stored (storable (k .accepted)) (kept k .hg)
-
-pub stored-h : {f : Cubic} → Known f → Stored (f .field .h)
-stored-h k = row-stored (storable (k .accepted)) (kept k .hh)
-
-pub stored-gh : {f : Cubic} → Known f → Stored (f .field .gh)
-stored-gh k = row-stored (storable (k .accepted)) (kept k .hgh)
+  pub stored-gh : Stored gh
+  stored-gh = row-stored (storable (k .accepted)) (gh-row k)
 
 -- ---- leading coefficients of lists
 module _ {p : ℕ} (ρ : Reading p) (l : List ℕ) (each : (i : ℕ) → getD l i 0 < p) where
@@ -89,15 +77,15 @@ module _ {p : ℕ} {G H : List ℕ} (A : Accepted p G H) where
 
 module _ (f : Cubic) (c n : ℕ) (b rows s g h gh : List ℕ) (eg : g ≡ f .field .g) (eh : h ≡ f .field .h) (egh : gh ≡ f .field .gh) where
   pub turn-in : MultiplyIn f c n b rows s → TurnIn (f .field .p) c n g h gh b rows s
-  turn-in i = let k = i .known in
+  turn-in i = let k = i .known .kept in
       let w : length rows ≡ 6 * c = i .space .whole in
       let v : length s ≡ length rows = i .space .even in
       record {
         times = record {
-          modulus = storable-at k;
-          g-most = (let o : length g ≡ 32 = ap length eg ∙ kept k .hg .size in omega arith);
-          h-most = (let o : length h ≡ 32 = ap length eh ∙ kept k .hh .size in omega arith);
-          gh-most = (let o : length gh ≡ 32 = ap length egh ∙ kept k .hgh .size in omega arith);
+          modulus = storable (k .accepted);
+          g-most = (let o : length g ≡ 32 = ap length eg ∙ g-row k .size in omega arith);
+          h-most = (let o : length h ≡ 32 = ap length eh ∙ h-row k .size in omega arith);
+          gh-most = (let o : length gh ≡ 32 = ap length egh ∙ gh-row k .size in omega arith);
           b-size = i .is-record .size;
           monic = monic-part (k .accepted) b (i .is-record);
           most = i .space .most;
@@ -114,15 +102,14 @@ module _ (f : Cubic) (c n : ℕ) (b rows s g h gh : List ℕ) (eg : g ≡ f .fie
     blank = t .blank;
     each = t .each;
     rest = t .rest;
-    law = λ p G H A pre E′ fit e.
-        let S = setting A in let ρ = reading p (A .prime) in let o = ρ .𝓥 .L .ops in
-        let t′ : Turn p c n g h gh b rows s rows′ s′ = subst (λ q. Turn q c n g h gh b rows s rows′ s′) (p-is f pre A) t in
-        let k = keeps-of f pre A .known A .holds in
+    law = λ G H A pre E′ fit e.
+        let S = setting A in let ρ = reading (f .field .p) (A .prime) in let o = ρ .𝓥 .L .ops in
+        let k = holds-of pre A in
         let M = basisOf A b .M in
         let y₁ : row ρ (cut (0 + c) c rows) ≡ row ρ (cut c c rows) = ap (λ k. row ρ (cut k c rows)) (let q : 0 + c ≡ c = omega arith in q) in
         let y₂ : row ρ (cut (0 + c + c) c rows) ≡ row ρ (cut (c + c) c rows) = ap (λ k. row ρ (cut k c rows)) (let q : 0 + c + c ≡ c + c = omega arith in q) in
         let E = row ρ (cut 0 c rows) in
-        let (x, y, z) = t′ .law (A .prime) (E′ .a .0) (E′ .b .0) (E′ .c .0) (E′ .a .1) (E′ .b .1) (E′ .c .1) (fit .a-lt) (fit .b-lt) (fit .c-lt)
+        let (x, y, z) = t .law (A .prime) (E′ .a .0) (E′ .b .0) (E′ .c .0) (E′ .a .1) (E′ .b .1) (E′ .c .1) (fit .a-lt) (fit .b-lt) (fit .c-lt)
         (sym (sc-a S (basisOf A b .U) E′) ∙ ap (λ v. v .a .0) (sym e)
         ∙ ap₂ (λ u v. o .add (o .mul E (M .a .0)) (o .mul (o .add (o .mul u (M .c .0)) (o .mul v (M .b .0))) (o .mul (S .roots .G .0) (S .roots .H .0)))) y₁ y₂
         ∙ ap (λ v. o .add (o .mul E (M .a .0)) (o .mul (o .add (o .mul (row ρ (cut c c rows)) (M .c .0)) (o .mul (row ρ (cut (c + c) c rows)) (M .b .0))) v)) (sym (ap (row ρ) egh ∙ k .gh-is)))

@@ -19,7 +19,7 @@ module _ (f : Cubic) (B : List ℕ) (l d c : ℕ) (rows s : List ℕ) where
     pub make-product : MakeIn f B l d c rows s → ProductIn f c B l rows₁ s₁
     make-product t = let k = t .task .known in
         let (x, y) = blank-as s s₁ (a .blank) in
-        let h : Along (k .p) (k .G) (k .H) B c 0 0 B rows₁ = along-start (k .p) (k .G) (k .H) B (t .task .is-first) c (let q : 5 ≤ k .p = k .accepted .low in omega arith) (let r : d < c = t .task .room in omega arith) rows₁ (a .one ∙ ap begun (t .whole)) in
+        let h : Along (f .field .p) (k .G) (k .H) B c 0 0 B rows₁ = along-start (f .field .p) (k .G) (k .H) B (t .task .is-first) c (let q : 5 ≤ f .field .p = k .kept .accepted .low in omega arith) (let r : d < c = t .task .room in omega arith) rows₁ (a .one ∙ ap begun (t .whole)) in
         record { d = d; task = t .task; along = h; even = y ∙ t .even ∙ t .whole ∙ sym (h .whole); blank = x }
 
     module _ (rows₂ s₂ : List ℕ) (b : ProductOf f c B l rows₁ s₁ rows₂ s₂) where

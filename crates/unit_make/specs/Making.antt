@@ -21,9 +21,8 @@ use Rattle.math_ideals.specs.Element.{O, sc, norm, cof}
 use Rattle.math_chain.specs.Chain.{Chain, Product}
 use Rattle.math_chain.specs.Unit.{Fit}
 use Rattle.basis_record.specs.Record.{setting, basisOf, IsRecord}
-use Rattle.field_series.specs.Answer.{Prefix}
+use Rattle.field_series.specs.Keeps.{Kept, Known}
 use Rattle.field_series.specs.declared.Cubic.{Cubic}
-use Rattle.basis_field.specs.Known.{Known}
 use Rattle.basis_field.specs.First.{IsFirst}
 use Rattle.step_next.specs.declared.Advance.{Advance}
 use Rattle.walk_chain.specs.Walk.{Closes}
@@ -42,7 +41,7 @@ pub record Space (c : ℕ) (rows s : List ℕ) : Type 0 where
 -- ---- E times m
 pub record MultiplyIn (f : Cubic) (c n : ℕ) (b rows s : List ℕ) : Type 0 where
   pub known : Known f
-  pub is-record : IsRecord (known .p) (known .G) (known .H) b
+  pub is-record : IsRecord (f .field .p) (known .G) (known .H) b
   pub space : Space c rows s
   pub upto : n ≤ c
   pub blank : Blank s
@@ -52,15 +51,15 @@ pub record Multiplies (f : Cubic) (c n : ℕ) (b rows s rows′ s′ : List ℕ)
   pub blank : s′ ≡ replicate (length s) 0
   pub each : (i : ℕ) → i < c + c + c → getD rows′ i 0 < f .field .p
   pub rest : (i : ℕ) → c + c + c ≤ i → getD rows′ i 0 ≡ getD rows i 0
-  pub law : (p : ℕ) (G H : List ℕ) (A : Accepted p G H) → Prefix p G H f → let S = setting A in (E′ : O S .El) → Fit S n E′
+  pub law : (G H : List ℕ) (A : Accepted (f .field .p) G H) → Kept f G H → let S = setting A in (E′ : O S .El) → Fit S n E′
       → O S .ops .mul (six A c 0 rows) (basisOf A b .M) ≡ O S .ops .mul (sc S (basisOf A b .U)) E′ → six A c 0 rows′ ≡ E′
 
 -- ---- the product of the m passed
 pub record Task (f : Cubic) (B : List ℕ) (c l d : ℕ) : Type 0 where
   pub known : Known f
-  pub is-first : IsFirst (known .p) (known .G) (known .H) B
+  pub is-first : IsFirst (f .field .p) (known .G) (known .H) B
   pub last : List ℕ
-  pub closes : Closes (known .p) (known .G) (known .H) B l d last
+  pub closes : Closes (f .field .p) (known .G) (known .H) B l d last
   pub room : d < c
   pub most : c ≤ longest
 
@@ -85,26 +84,26 @@ pub record FurtherIn (f : Cubic) (c d : ℕ) (b rows s : List ℕ) : Type 0 wher
   pub task : Task f B c l all
   pub i : ℕ
   pub left : i < l
-  pub along : Along (task .known .p) (task .known .G) (task .known .H) B c i d b rows
+  pub along : Along (f .field .p) (task .known .G) (task .known .H) B c i d b rows
   pub even : length s ≡ length rows
   pub blank : Blank s
 
 pub record Further (f : Cubic) (c d : ℕ) (b rows s : List ℕ) (o : Advance) (rows′ s′ : List ℕ) : Type 0 where
   pub size : length rows′ ≡ length rows
   pub blank : s′ ≡ replicate (length s) 0
-  pub goes : (t : FurtherIn f c d b rows s) → Along (t .task .known .p) (t .task .known .G) (t .task .known .H) (t .B) c (suc (t .i)) (d + o .degree) (o .basis) rows′
+  pub goes : (t : FurtherIn f c d b rows s) → Along (f .field .p) (t .task .known .G) (t .task .known .H) (t .B) c (suc (t .i)) (d + o .degree) (o .basis) rows′
 
 pub record ProductIn (f : Cubic) (c : ℕ) (B : List ℕ) (l : ℕ) (rows s : List ℕ) : Type 0 where
   pub d : ℕ
   pub task : Task f B c l d
-  pub along : Along (task .known .p) (task .known .G) (task .known .H) B c 0 0 B rows
+  pub along : Along (f .field .p) (task .known .G) (task .known .H) B c 0 0 B rows
   pub even : length s ≡ length rows
   pub blank : Blank s
 
 pub record ProductOf (f : Cubic) (c : ℕ) (B : List ℕ) (l : ℕ) (rows s rows′ s′ : List ℕ) : Type 0 where
   pub size : length rows′ ≡ length rows
   pub blank : s′ ≡ replicate (length s) 0
-  pub goes : (t : ProductIn f c B l rows s) → Along (t .task .known .p) (t .task .known .G) (t .task .known .H) B c l (t .d) (t .task .last) rows′
+  pub goes : (t : ProductIn f c B l rows s) → Along (f .field .p) (t .task .known .G) (t .task .known .H) B c l (t .d) (t .task .last) rows′
 
 -- ---- the inverse, and the end
 pub record InverseIn (f : Cubic) (c k : ℕ) (rows s : List ℕ) : Type 0 where
@@ -113,14 +112,14 @@ pub record InverseIn (f : Cubic) (c k : ℕ) (rows s : List ℕ) : Type 0 where
   pub upto : k ≤ c
   pub each : (i : ℕ) → getD rows i 0 < f .field .p
   pub rest : (i : ℕ) → c + c + c ≤ i → getD rows i 0 ≡ 0
-  pub fits : (A : Accepted (known .p) (known .G) (known .H)) → Fit (setting A) k (cof (setting A) (six A c 0 rows))
-  pub unit : (A : Accepted (known .p) (known .G) (known .H)) → IsUnit (setting A .𝓥) (norm (setting A) (six A c 0 rows))
+  pub fits : (A : Accepted (f .field .p) (known .G) (known .H)) → Fit (setting A) k (cof (setting A) (six A c 0 rows))
+  pub unit : (A : Accepted (f .field .p) (known .G) (known .H)) → IsUnit (setting A .𝓥) (norm (setting A) (six A c 0 rows))
 
 pub record Inverses (f : Cubic) (c : ℕ) (rows s rows′ s′ : List ℕ) : Type 0 where
   pub size : length rows′ ≡ length rows
   pub blank : s′ ≡ replicate (length s) 0
   pub each : (i : ℕ) → getD rows′ i 0 < f .field .p
-  pub law : (p : ℕ) (G H : List ℕ) (A : Accepted p G H) → Prefix p G H f → let S = setting A in (ν : P S)
+  pub law : (G H : List ℕ) (A : Accepted (f .field .p) G H) → Kept f G H → let S = setting A in (ν : P S)
       → polys (S .𝓥) .ops .𝟏 ≡ polys (S .𝓥) .ops .mul (norm S (six A c 0 rows)) ν
       → (six A c 0 rows′ ≡ six A c 0 rows) × (six A c (c + c + c) rows′ ≡ O S .ops .mul (sc S ν) (cof S (six A c 0 rows)))
 
@@ -128,13 +127,13 @@ pub record FinishIn (f : Cubic) (c d : ℕ) (rows s : List ℕ) : Type 0 where
   pub B : List ℕ
   pub l : ℕ
   pub task : Task f B c l d
-  pub along : Along (task .known .p) (task .known .G) (task .known .H) B c l d (task .last) rows
+  pub along : Along (f .field .p) (task .known .G) (task .known .H) B c l d (task .last) rows
   pub even : length s ≡ length rows
 
 pub record Finishes (f : Cubic) (c d : ℕ) (rows s rows′ s′ : List ℕ) : Type 0 where
   pub size : length rows′ ≡ length rows
   pub blank : s′ ≡ replicate (length s) 0
-  pub goes : (t : FinishIn f c d rows s) → Holds (t .task .known .p) (t .task .known .G) (t .task .known .H) (t .l) d c rows′
+  pub goes : (t : FinishIn f c d rows s) → Holds (f .field .p) (t .task .known .G) (t .task .known .H) (t .l) d c rows′
 
 pub record MakeIn (f : Cubic) (B : List ℕ) (l d c : ℕ) (rows s : List ℕ) : Type 0 where
   pub task : Task f B c l d
@@ -144,4 +143,4 @@ pub record MakeIn (f : Cubic) (B : List ℕ) (l d c : ℕ) (rows s : List ℕ) :
 pub record Making (f : Cubic) (B : List ℕ) (l d c : ℕ) (rows s rows′ s′ : List ℕ) : Type 0 where
   pub size : length rows′ ≡ length rows
   pub blank : s′ ≡ replicate (length s) 0
-  pub goes : (t : MakeIn f B l d c rows s) → Holds (t .task .known .p) (t .task .known .G) (t .task .known .H) l d c rows′
+  pub goes : (t : MakeIn f B l d c rows s) → Holds (f .field .p) (t .task .known .G) (t .task .known .H) l d c rows′

@@ -12,7 +12,8 @@ use Rattle.field_open.specs.Refusal.{Accepted}
 use Rattle.math_chain.specs.Chain.{Chain, Closing, Open, here, then}
 use Rattle.math_chain.proofs.Walk.{degree-of, degree-unique, open-none, closes, open-more}
 use Rattle.basis_record.specs.Record.{setting, basisOf, IsRecord}
-use Rattle.step_next.specs.Steps.{Keeps, Steps, Advanced}
+use Rattle.field_series.specs.Keeps.{Keeps}
+use Rattle.step_next.specs.Steps.{Steps, Advanced}
 use Rattle.step_next.specs.declared.Advance.{Advance}
 use Rattle.walk_chain.specs.declared.Walked.{Walked}
 use Rattle.walk_chain.specs.Closed.{ClosedIn, OnePart}
@@ -47,8 +48,8 @@ module _ (p : ℕ) (G H B b : List ℕ) (s d : ℕ) (reaches : Reaches p G H B s
       let q : A .degG + A .degH ≤ 16 = A .sum in
       omega arith
 
-module _ (p : ℕ) (g h gh : List ℕ) (n dr dw : ℕ) (r w B : List ℕ) (budget : ℕ) where
-  pub going-start : Going p g h gh n dr dw r w B budget B 0 0
+module _ (p : ℕ) (g h gh : List ℕ) (dr dw : ℕ) (r w B : List ℕ) (budget : ℕ) where
+  pub going-start : Going p g h gh dr dw r w B budget B 0 0
   going-start = record {
     upto = omega arith;
     small = omega arith;
@@ -56,12 +57,12 @@ module _ (p : ℕ) (g h gh : List ℕ) (n dr dw : ℕ) (r w B : List ℕ) (budge
     free = λ G H k is A. open-none (setting A) (basisOf A B);
   }
 
-  module _ (i : GoIn p g h gh n dr dw r w B budget) (b : List ℕ) (s d : ℕ) (st : Going p g h gh n dr dw r w B budget b s d) where
+  module _ (i : GoIn p g h gh dr dw r w B budget) (b : List ℕ) (s d : ℕ) (st : Going p g h gh dr dw r w B budget b s d) where
     pub record-at : IsRecord p (i .G) (i .H) b
     record-at = st .reaches (i .G) (i .H) (i .keeps) (i .is-record) .is-record
 
     -- the budget is spent
-    pub gone-spent : s ≡ budget → Gone p g h gh n dr dw r w B budget (record { refusal = 10; steps = s; sum = d; basis = b })
+    pub gone-spent : s ≡ budget → Gone p g h gh dr dw r w B budget (record { refusal = 10; steps = s; sum = d; basis = b })
     gone-spent e G H k is = inr (record {
       number = refl;
       all = e;
@@ -69,8 +70,8 @@ module _ (p : ℕ) (g h gh : List ℕ) (n dr dw : ℕ) (r w B : List ℕ) (budge
       reaches = subst (λ m. Reaches p G H B m d b) e (st .reaches G H k is);
     })
 
-    module _ (o : Advance) (adv : Advanced p g h gh n dr dw r w b o) where
-      more : (G H : List ℕ) → Keeps p G H g h gh n dr dw r w → IsRecord p G H B → Reaches p G H B (suc s) (d + o .degree) (o .basis)
+    module _ (o : Advance) (adv : Advanced p g h gh dr dw r w b o) where
+      more : (G H : List ℕ) → Keeps p G H g h gh dr dw r w → IsRecord p G H B → Reaches p G H B (suc s) (d + o .degree) (o .basis)
       more G H k is = reaches-more p G H B b s d (st .reaches G H k is) o (adv G H k (st .reaches G H k is .is-record))
 
       pub degree-at : o .degree ≤ 16
@@ -80,7 +81,7 @@ module _ (p : ℕ) (g h gh : List ℕ) (n dr dw : ℕ) (r w B : List ℕ) (budge
       closed-at = closed-in p (i .G) (i .H) (o .basis) (adv (i .G) (i .H) (i .keeps) record-at .is-record)
 
       -- it closes
-      pub gone-closed : s < budget → (s′ d′ : ℕ) → s′ ≡ suc s → d′ ≡ d + o .degree → OnePart p (o .basis) true → Gone p g h gh n dr dw r w B budget (record { refusal = 0; steps = s′; sum = d′; basis = o .basis })
+      pub gone-closed : s < budget → (s′ d′ : ℕ) → s′ ≡ suc s → d′ ≡ d + o .degree → OnePart p (o .basis) true → Gone p g h gh dr dw r w B budget (record { refusal = 0; steps = s′; sum = d′; basis = o .basis })
       gone-closed l s′ d′ e f one G H k is = inl (record {
         within = omega arith;
         number = refl;
@@ -93,7 +94,7 @@ module _ (p : ℕ) (g h gh : List ℕ) (n dr dw : ℕ) (r w B : List ℕ) (budge
       })
 
       -- it goes on
-      pub going-more : s < budget → (s′ d′ : ℕ) → s′ ≡ suc s → d′ ≡ d + o .degree → OnePart p (o .basis) false → Going p g h gh n dr dw r w B budget (o .basis) s′ d′
+      pub going-more : s < budget → (s′ d′ : ℕ) → s′ ≡ suc s → d′ ≡ d + o .degree → OnePart p (o .basis) false → Going p g h gh dr dw r w B budget (o .basis) s′ d′
       going-more l s′ d′ e f other =
           let q : o .degree ≤ 16 = degree-at in
           let t : d ≤ 16 * s = st .small in record {

@@ -2,5 +2,4 @@ pub mod Walk
 pub mod TakenUp
 pub mod One
 pub mod Going
-pub mod Kept
 pub mod Even

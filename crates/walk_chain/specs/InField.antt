@@ -1,22 +1,14 @@
--- The walk in an opened field.
+-- The walk in an opened field: what `go` asks and hands out, read off the struct.
 --   WalkedIn c B n      c is an opened field with the first coefficients of its series, B a record of it, n a budget within its rule
---   WalkedOut c B n o   o is the walk from B: closed within the budget, or the budget spent, whatever accepted p, G, H it is opened from
-use mathlib.Core.Logic.{_⊎_}
+--   WalkedOut c B n o   o is the walk from B: closed within the budget, or the budget spent, whatever accepted G, H the field is opened from
 use mathlib.Core.List.{List}
-use Prim.Native.Nat.{ℕ, _≤_}
-use Rattle.base_answers.specs.Limits.{most}
-use Rattle.field_open.specs.Refusal.{Accepted}
-use Rattle.basis_record.specs.Record.{IsRecord}
-use Rattle.field_series.specs.Answer.{Prefix}
+use Prim.Native.Nat.{ℕ}
 use Rattle.field_series.specs.declared.Cubic.{Cubic}
-use Rattle.basis_field.specs.Known.{Known}
 use Rattle.walk_chain.specs.declared.Walked.{Walked}
-use Rattle.walk_chain.specs.Walk.{Closed, Spent}
+use Rattle.walk_chain.specs.Going.{GoIn, Gone}
 
-pub record WalkedIn (c : Cubic) (B : List ℕ) (n : ℕ) : Type 0 where
-  pub known : Known c
-  pub is-record : IsRecord (known .p) (known .G) (known .H) B
-  pub within : n ≤ most
+abbrev pub WalkedIn : Cubic → List ℕ → ℕ → Type 0
+WalkedIn c B n = GoIn (c .field .p) (c .field .g) (c .field .h) (c .field .gh) (c .field .dr) (c .field .dw) (c .r) (c .w) B n
 
 abbrev pub WalkedOut : Cubic → List ℕ → ℕ → Walked → Type 0
-WalkedOut c B n o = (p : ℕ) (G H : List ℕ) → Accepted p G H → Prefix p G H c → IsRecord p G H B → Closed p G H n B o ⊎ Spent p G H n B o
+WalkedOut c B n o = Gone (c .field .p) (c .field .g) (c .field .h) (c .field .gh) (c .field .dr) (c .field .dw) (c .r) (c .w) B n o

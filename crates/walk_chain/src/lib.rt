@@ -36,7 +36,6 @@ pub fn go(
     g: &[u64; 32],
     h: &[u64; 32],
     gh: &[u64; 32],
-    n: usize,
     dr: usize,
     dw: usize,
     r: &[u64; 32],
@@ -44,14 +43,14 @@ pub fn go(
     from: [u16; 119],
     budget: u64,
 ) -> Walked
-    requires { ⌜ GoIn p (now g) (now h) (now gh) n dr dw (now r) (now w) from budget ⌝ }
-    ensures { λ o. ⌜ Gone p (now (g .entry)) (now (h .entry)) (now (gh .entry)) n dr dw (now (r .entry)) (now (w .entry)) from budget o ⌝ }
+    requires { ⌜ GoIn p (now g) (now h) (now gh) dr dw (now r) (now w) from budget ⌝ }
+    ensures { λ o. ⌜ Gone p (now (g .entry)) (now (h .entry)) (now (gh .entry)) dr dw (now (r .entry)) (now (w .entry)) from budget o ⌝ }
 {
     let mut b = from;
     let mut steps: u64 = 0;
     let mut sum: u64 = 0;
     while steps < budget {
-        let o = advanced(p, g, h, gh, n, dr, dw, r, w, &b);
+        let o = advanced(p, g, h, gh, dr, dw, r, w, &b);
         let d = o.degree;
         let c = o.basis;
         sum += d;
@@ -86,5 +85,5 @@ pub fn walk_in_field(c: field_series::Cubic, b: [u16; 119], budget: u64) -> Walk
     let g = f.g;
     let h = f.h;
     let gh = f.gh;
-    go(f.p, &g, &h, &gh, f.dr + f.dw, f.dr, f.dw, &r, &w, b, budget)
+    go(f.p, &g, &h, &gh, f.dr, f.dw, &r, &w, b, budget)
 }

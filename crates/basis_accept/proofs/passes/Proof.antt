@@ -2,7 +2,7 @@
 use Prim.Native.Nat.{_≤_, _+_}
 use native.Mathlib.Omega.{arith}
 use borrow.Author.Needs.{needs}
-use Rattle.basis_field.proofs.Ground.{known-modulus}
+use Rattle.basis_field.proofs.Keeps.{modulus}
 use Rattle.basis_accept.proofs.Accepting.{narrow-in, sum-low, shaped-by, shaped-from, alone-from, under-from, shaped-in, alone-in, under-in, passes-as, not-narrow, not-shaped, not-alone}
 use Rattle.basis_accept.proofs.passes.Statement.{statement}
 use Rattle.basis_accept.proofs.passes.Tie as tie
@@ -23,7 +23,7 @@ narrow-requires : tie.Need-narrow-requires
 narrow-requires c κs = narrow-in (c .before .before .before .before .before .pre)
 
 prepare-requires : tie.Need-prepare-requires
-prepare-requires c κs = known-modulus (c .before .before .before .before .before .before .before .pre .known)
+prepare-requires c κs = modulus (c .before .before .before .before .before .before .before .pre .known .kept)
 
 add-t25 : tie.Need-add-t25
 add-t25 c = let l = sum-low (c .before .before .before .before .before .before .before .before .before .pre) in record { fits = omega (arith, l) }

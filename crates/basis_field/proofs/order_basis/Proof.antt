@@ -2,7 +2,7 @@
 use Prim.Native.Nat.{_≤_, _+_}
 use native.Mathlib.Omega.{arith}
 use borrow.Author.Needs.{needs}
-use Rattle.basis_field.proofs.Ground.{room, known-modulus}
+use Rattle.basis_field.proofs.Keeps.{modulus, room}
 use Rattle.basis_field.proofs.First.{order-by, based-by, first-in, is-first}
 use Rattle.basis_field.proofs.order_basis.Statement.{statement}
 use Rattle.basis_field.proofs.order_basis.Tie as tie
@@ -11,21 +11,21 @@ use Rattle.basis_field.proofs.order_basis.Lts as lts
 use Rattle.basis_scale.proofs.order.Reads as order-reads
 
 prepare-requires : tie.Need-prepare-requires
-prepare-requires c κs = let k = c .before .before .before .pre in known-modulus k
+prepare-requires c κs = modulus (c .before .before .before .pre .kept)
 
 add-t7 : tie.Need-add-t7
-add-t7 c = let e = room (c .before .before .before .before .before .pre) in record { fits = omega (arith, e) }
+add-t7 c = let e = room (c .before .before .before .before .before .pre .kept) in record { fits = omega (arith, e) }
 
 add-t8 : tie.Need-add-t8
-add-t8 c = let e = room (c .before .before .before .before .before .pre) in record { fits = omega (arith, e) }
+add-t8 c = let e = room (c .before .before .before .before .before .pre .kept) in record { fits = omega (arith, e) }
 
 order-requires : tie.Need-order-requires
 order-requires c κs =
     let k = c .before .before .before .before .before .before .before .pre in
-    order-by _ (c .before .before .prepare .ensures) _ (first-in (k .accepted) _ (k .prefix))
+    order-by (c .before .before .prepare .ensures) (first-in (k .kept))
 
 returns : tie.Need-returns
-returns c = is-first _ _ (based-by _ (c .before .before .before .prepare .ensures) _ (c .order .ensures))
+returns c = λ G H k. is-first k (based-by (c .before .before .before .prepare .ensures) (c .order .ensures))
 
 pub order-basis-spec : {M : Type 1} → statement M
 order-basis-spec = tie.close (tie.spec prepare-requires add-t7 add-t8 order-requires returns)

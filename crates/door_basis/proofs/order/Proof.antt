@@ -1,10 +1,11 @@
 -- `door_basis::order` meets its contract: zeros beside a refusal, the record of the order beside 0.
-use mathlib.Core.Path.{_≡_, refl}
+use mathlib.Core.Path.{refl}
 use native.Mathlib.Omega.{arith}
 use borrow.Author.Needs.{needs}
-use Rattle.field_open.proofs.Door.{door-refused, door-goes}
+use Rattle.field_open.proofs.Door.{door-refused}
 use Rattle.field_series.proofs.Answer.{expands-number}
-use Rattle.basis_field.proofs.Known.{field-of, prefix-of, known-of}
+use Rattle.basis_field.proofs.Known.{known-of}
+use Rattle.door_basis.proofs.Answer.{orders-made}
 use Rattle.door_basis.proofs.order.Statement.{statement}
 use Rattle.door_basis.proofs.order.Tie as tie
 use Rattle.door_basis.proofs.order.Reads as reads
@@ -22,10 +23,7 @@ order-basis-requires : tie.Need-order-basis-requires
 order-basis-requires c κs = known-of (c .before .open-with-series .ensures) (omega arith)
 
 returns-2 : tie.Need-returns-2
-returns-2 c =
-    let o = c .before .before .open-with-series .ensures in
-    let z = c .before .if1 .left in
-    door-goes (expands-number o) z (refl, c .order-basis .ensures _ _ _ (field-of o z) (prefix-of o z))
+returns-2 c = orders-made (c .before .before .open-with-series .ensures) (c .before .if1 .left) (c .order-basis .ensures)
 
 pub order-spec : {M : Type 1} → statement M
 order-spec = tie.close (tie.spec open-with-series-requires returns order-basis-requires returns-2)

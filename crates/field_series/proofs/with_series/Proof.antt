@@ -5,6 +5,7 @@ use Prim.Native.Nat.{ℕ}
 use lib.ListN.{length}
 use borrow.Author.Needs.{needs}
 use Rattle.field_roots.specs.SeriesOf.{SeriesOf}
+use Rattle.field_series.proofs.Keeps.{holding}
 use Rattle.field_series.proofs.with_series.Statement.{statement}
 use Rattle.field_series.proofs.with_series.Tie as tie
 use Rattle.field_series.proofs.with_series.Reads as reads
@@ -35,11 +36,7 @@ returns : tie.Need-returns
 returns c =
     let s = c .before .before .before .before .before .before .before .before .before in
     let g = c .before .before .before .before .grow .ensures in
-    record {
-      field = s .pre .held;
-      size = ap length (c .before .widened .ensures) ∙ g .size;
-      series = same (c .before .widened .ensures) (c .widened2 .ensures) (g .series);
-    }
+    holding _ _ _ (s .pre .accepted) (s .pre .held) (ap length (c .before .widened .ensures) ∙ g .size) (same (c .before .widened .ensures) (c .widened2 .ensures) (g .series))
 
 pub with-series-spec : {M : Type 1} → statement M
 with-series-spec =

@@ -3,7 +3,9 @@ use mathlib.Core.Path.{refl, sym, ap, _∙_}
 use Prim.Native.Nat.{ℕ}
 use Rattle.num_mod.specs.Prepared.{PreparedOf, ready}
 use Rattle.num_mod.specs.declared.Modulus.{Modulus}
-use Rattle.step_next.proofs.Made.{field-modulus, advance-by, advanced-by}
+use native.Mathlib.Omega.{arith}
+use Rattle.basis_field.proofs.Keeps.{modulus, room}
+use Rattle.step_next.proofs.Made.{advance-by, advanced-by}
 use Rattle.step_next.proofs.advanced.Statement.{statement}
 use Rattle.step_next.proofs.advanced.Tie as tie
 
@@ -12,17 +14,20 @@ own : {p : ℕ} {q : Modulus} → PreparedOf p q → PreparedOf (q .p) q
 own e = record { is = refl; same = e .same ∙ ap ready (sym (e .is)); prepared = e .prepared }
 
 prepare-requires : tie.Need-prepare-requires
-prepare-requires c κs = field-modulus (c .pre)
+prepare-requires c κs = modulus (c .pre .keeps)
+
+add-n : tie.Need-add-n
+add-n c = omega (arith, room (c .before .pre .keeps))
 
 advance-in-requires : tie.Need-advance-in-requires
 advance-in-requires c κs =
-    let at7 = c .before .before .before .before .before .before .before in
-    let at8 = at7 .before in
-    let e = at7 .prepare .ensures in
-    record { inp = advance-by e (at8 .pre); modulus = own e; blank-x = record { a = refl; b = refl; c = refl }; blank-y = record { a = refl; b = refl; c = refl }; blank-d = refl }
+    let at8 = c .before .before .before .before .before .before .before .before in
+    let at9 = at8 .before in
+    let e = at8 .prepare .ensures in
+    record { inp = advance-by e (at9 .pre); n-is = refl; modulus = own e; blank-x = record { a = refl; b = refl; c = refl }; blank-y = record { a = refl; b = refl; c = refl }; blank-d = refl }
 
 returns : tie.Need-returns
 returns c = advanced-by (c .before .before .before .before .before .before .before .before .prepare .ensures) (c .advance-in .ensures)
 
 pub advanced-spec : {M : Type 1} → statement M
-advanced-spec = tie.close (tie.spec prepare-requires advance-in-requires returns)
+advanced-spec = tie.close (tie.spec prepare-requires add-n advance-in-requires returns)

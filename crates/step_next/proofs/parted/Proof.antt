@@ -35,44 +35,46 @@ load-requires-7 : tie.Need-load-requires-7
 load-requires-7 c κs = search needs
 
 mul-l : tie.Need-mul-l
-mul-l c = omega (arith, n-small (c .before .before .before .before .before .before .before .pre .on .inp) (seven-loaded c))
+mul-l c = omega (arith, n-small (c .before .before .before .before .before .before .before .pre .on .inp) (c .before .before .before .before .before .before .before .pre .on .n-is) (seven-loaded c))
 
 element-copy-out-l : tie.Need-element-copy-out-l
-element-copy-out-l c = omega (arith, n-small (c .before .before .before .before .before .before .before .pre .on .inp) (seven-loaded c))
+element-copy-out-l c = omega (arith, n-small (c .before .before .before .before .before .before .before .pre .on .inp) (c .before .before .before .before .before .before .before .pre .on .n-is) (seven-loaded c))
 
 add-divided : tie.Need-add-divided
 add-divided c =
     let at8 = c .before .before .before .before .before .before .before .before in
-    omega (arith, n-small (at8 .pre .on .inp) (seven-loaded (c .before)), degrees-small (at8 .pre .on .inp) (seven-loaded (c .before)))
+    omega (arith, n-small (at8 .pre .on .inp) (at8 .pre .on .n-is) (seven-loaded (c .before)), degrees-small (at8 .pre .on .inp) (at8 .pre .on .n-is) (seven-loaded (c .before)))
 
 mul-divided : tie.Need-mul-divided
 mul-divided c =
     let at8 = c .before .before .before .before .before .before .before .before in
-    omega (arith, n-small (at8 .pre .on .inp) (seven-loaded (c .before)), degrees-small (at8 .pre .on .inp) (seven-loaded (c .before)))
+    omega (arith, n-small (at8 .pre .on .inp) (at8 .pre .on .n-is) (seven-loaded (c .before)), degrees-small (at8 .pre .on .inp) (at8 .pre .on .n-is) (seven-loaded (c .before)))
 
 add-divided-2 : tie.Need-add-divided-2
 add-divided-2 c =
     let at8 = c .before .before .before .before .before .before .before .before in
-    omega (arith, n-small (at8 .pre .on .inp) (seven-loaded (c .before)), degrees-small (at8 .pre .on .inp) (seven-loaded (c .before)))
+    omega (arith, n-small (at8 .pre .on .inp) (at8 .pre .on .n-is) (seven-loaded (c .before)), degrees-small (at8 .pre .on .inp) (at8 .pre .on .n-is) (seven-loaded (c .before)))
 
 mul-divided-2 : tie.Need-mul-divided-2
 mul-divided-2 c =
     let at8 = c .before .before .before .before .before .before .before .before in
-    omega (arith, n-small (at8 .pre .on .inp) (seven-loaded (c .before)), degrees-small (at8 .pre .on .inp) (seven-loaded (c .before)))
+    omega (arith, n-small (at8 .pre .on .inp) (at8 .pre .on .n-is) (seven-loaded (c .before)), degrees-small (at8 .pre .on .inp) (at8 .pre .on .n-is) (seven-loaded (c .before)))
 
 add-divided-3 : tie.Need-add-divided-3
 add-divided-3 c =
     let at8 = c .before .before .before .before .before .before .before .before in
-    omega (arith, n-small (at8 .pre .on .inp) (seven-loaded (c .before)), degrees-small (at8 .pre .on .inp) (seven-loaded (c .before)))
+    omega (arith, n-small (at8 .pre .on .inp) (at8 .pre .on .n-is) (seven-loaded (c .before)), degrees-small (at8 .pre .on .inp) (at8 .pre .on .n-is) (seven-loaded (c .before)))
 
 sub-divided : tie.Need-sub-divided
-sub-divided c = omega (arith, dr-low (c .before .before .before .before .before .before .before .before .pre .on .inp) (seven-loaded (c .before)))
+sub-divided c = omega (arith, dr-low (c .before .before .before .before .before .before .before .before .pre .on .inp) (c .before .before .before .before .before .before .before .before .pre .on .n-is) (seven-loaded (c .before)))
 
 sub-divided-2 : tie.Need-sub-divided-2
-sub-divided-2 c = omega (arith, dw-low (c .before .before .before .before .before .before .before .before .pre .on .inp) (seven-loaded (c .before)))
+sub-divided-2 c = omega (arith, dw-low (c .before .before .before .before .before .before .before .before .pre .on .inp) (c .before .before .before .before .before .before .before .before .pre .on .n-is) (seven-loaded (c .before)))
 
 sub-divided-3 : tie.Need-sub-divided-3
-sub-divided-3 c = lead-low (c .before .before .before .before .before .before .before .before .before .pre .on .inp) (seven-loaded (c .before .before))
+sub-divided-3 c =
+    let s = c .before .before .before .before .before .before .before .before .before .pre .on in
+    lead-low (s .inp) (s .n-is) (seven-loaded (c .before .before))
 
 divided-requires : tie.Need-divided-requires
 divided-requires c κs =
@@ -81,12 +83,11 @@ divided-requires c κs =
     let s = at23 .pre in
     let l = seven-loaded (at16) in
     record {
-      inp = divided-in (s .on .inp) l;
+      inp = divided-in (s .on .inp) (s .on .n-is) l;
       modulus = s .on .modulus .prepared;
-      sg = g-size (s .on .inp) l;
-      sh = h-size (s .on .inp) l;
-      sgh = gh-size (s .on .inp)
-          l;
+      sg = g-size (s .on .inp) (s .on .n-is) l;
+      sh = h-size (s .on .inp) (s .on .n-is) l;
+      sgh = gh-size (s .on .inp) (s .on .n-is) l;
       blank-x = s .on .blank-x;
       blank-y = s .on .blank-y;
       blank-d = s .on .blank-d;
@@ -96,7 +97,7 @@ sub-t26 : tie.Need-sub-t26
 sub-t26 c =
     let at18 = c .before .before .before .before .before .before .before .before .before .before .before .before .before .before .before .before .before .before in
     let at25 = at18 .before .before .before .before .before .before .before in
-    shorter (at25 .pre .on .inp) (seven-loaded (at18)) _ _ (c .before .divided .ensures .was-m0) (c .before .divided .ensures .was-u)
+    shorter (at25 .pre .on .inp) (at25 .pre .on .n-is) (seven-loaded (at18)) _ _ (c .before .divided .ensures .was-m0) (c .before .divided .ensures .was-u)
 
 returns : tie.Need-returns
 returns c =

@@ -9,19 +9,19 @@ use Rattle.unit_make.proofs.inverted.Statement.{statement}
 use Rattle.unit_make.proofs.inverted.Tie as tie
 
 minus-requires : tie.Need-minus-requires
-minus-requires c κs = minus-in (c .before .before .before .before .before .before .before .pre .known)
+minus-requires c κs = minus-in (c .before .before .before .before .before .before .before .pre .known .kept)
 
 narrow-requires : tie.Need-narrow-requires
-narrow-requires c κs = stored-g (c .before .before .before .before .before .before .before .before .before .pre .known)
+narrow-requires c κs = stored-g (c .before .before .before .before .before .before .before .before .before .pre .known .kept)
 
 narrow-requires-2 : tie.Need-narrow-requires-2
-narrow-requires-2 c κs = stored-h (c .before .before .before .before .before .before .before .before .before .before .before .pre .known)
+narrow-requires-2 c κs = stored-h (c .before .before .before .before .before .before .before .before .before .before .before .pre .known .kept)
 
 narrow-requires-3 : tie.Need-narrow-requires-3
-narrow-requires-3 c κs = stored-gh (c .before .before .before .before .before .before .before .before .before .before .before .before .before .pre .known)
+narrow-requires-3 c κs = stored-gh (c .before .before .before .before .before .before .before .before .before .before .before .before .before .pre .known .kept)
 
 narrow-requires-4 : tie.Need-narrow-requires-4
-narrow-requires-4 c κs = stored-minus (c .before .before .before .before .before .before .before .before .before .before .before .before .before .before .before .pre .known) _ (c .before .before .before .before .before .before .before .minus .ensures)
+narrow-requires-4 c κs = stored-minus (c .before .before .before .before .before .before .before .before .before .before .before .before .before .before .before .pre .known .kept .accepted) (c .before .before .before .before .before .before .before .minus .ensures)
 
 slice-aggregate-invert : tie.Need-slice-aggregate-invert
 slice-aggregate-invert c = search needs

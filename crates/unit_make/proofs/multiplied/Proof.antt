@@ -8,13 +8,13 @@ use Rattle.unit_make.proofs.multiplied.Statement.{statement}
 use Rattle.unit_make.proofs.multiplied.Tie as tie
 
 narrow-requires : tie.Need-narrow-requires
-narrow-requires c κs = stored-g (c .before .before .before .before .before .before .before .pre .known)
+narrow-requires c κs = stored-g (c .before .before .before .before .before .before .before .pre .known .kept)
 
 narrow-requires-2 : tie.Need-narrow-requires-2
-narrow-requires-2 c κs = stored-h (c .before .before .before .before .before .before .before .before .before .pre .known)
+narrow-requires-2 c κs = stored-h (c .before .before .before .before .before .before .before .before .before .pre .known .kept)
 
 narrow-requires-3 : tie.Need-narrow-requires-3
-narrow-requires-3 c κs = stored-gh (c .before .before .before .before .before .before .before .before .before .before .before .pre .known)
+narrow-requires-3 c κs = stored-gh (c .before .before .before .before .before .before .before .before .before .before .before .pre .known .kept)
 
 slice-aggregate-turn : tie.Need-slice-aggregate-turn
 slice-aggregate-turn c = search needs
