@@ -90,11 +90,15 @@ module _ (c : Cubic) {G H : List ℕ} (h : Kept c G H) (A : Accepted (c .field .
     numbers-in t = t .sizes
 
     closed-in : Tests (setting A) (rowsOf A b) → Closed A b
-    closed-in t = t .closed
+    closed-in t = let k = t .closed in record { rank = k .rank; r-one = k .r-one; w-one = k .w-one; r-M = k .r-M; w-M = k .w-M; r-N = k .r-N; w-N = k .w-N }
 
     -- Good, from the answers
     good-from : Shaped (frameOf c) b true → Alone p b true → Closed A b → Good (setting A) (rowsOf A b)
-    good-from s a k = good-of (setting A) (rowsOf A b) (record { sizes = shaped-at s .yes! refl; seven = a G H A .yes! refl; closed = k })
+    good-from s a k = good-of (setting A) (rowsOf A b) (record {
+      sizes = shaped-at s .yes! refl;
+      seven = a G H A .yes! refl;
+      closed = record { rank = k .rank; r-one = k .r-one; w-one = k .w-one; r-M = k .r-M; w-M = k .w-M; r-N = k .r-N; w-N = k .w-N };
+    })
 
     -- the rows of a good basis end where `narrow` asks
     narrow-of : AreRows p b → Good (setting A) (rowsOf A b) → Narrow (c .field .dw + 1) (c .field .dr + 1) (b .m1) (b .m2) (b .n1) (b .n2)

@@ -1,18 +1,19 @@
 -- Closure under products with r and w ("closed under products with r and w"), as it is tested: on U, M and N.
 --   element σ a b c    the element of three rows
 --   Kept σ b v         r v and w v lie in the lattice of the seven rows b (`Coords` of crate math_ideals: three exact divisions)
---   Closed σ b         the lattice has rank 3, and r, w, r m, w m, r n, w n lie in it (`IsClosed` of crate math_ideals)
+--   Closed σ b         the lattice has rank 3, and r, w, r m, w m, r n, w n lie in it: `IsClosed` of crate math_ideals, by its names
 --   Keeps, Under       an answer that decides the one, the other, at each field that the rows g, h, gh hold
 --   Room p b           how long the rows of b are; with it all products on the way fit into 32 coefficients
 -- Rows of a basis of a reduced ideal are no longer: crate basis_accept tests that first. Two answers of one question are equal: `under-one`.
+use mathlib.Core.Logic.{_≢_}
 use mathlib.Core.Bool.{Bool}
 use mathlib.Core.List.{List}
 use Prim.Native.Nat.{ℕ, zero, suc}
 use Rattle.math_fp.specs.Fp.{Prime}
+use Rattle.math_valued.specs.Polynomial.{polys}
 use Rattle.num_mod.specs.Residue.{IsModulus}
 use Rattle.math_ideals.specs.Element.{O, times-r, times-w}
-use Rattle.math_ideals.specs.Tests.{IsClosed}
-use Rattle.math_ideals.specs.Ideal.{Coords}
+use Rattle.math_ideals.specs.Ideal.{det, Coords}
 use Rattle.field_open.specs.Refusal.{Accepted}
 use Rattle.basis_record.specs.Record.{setting, polyOf}
 use Rattle.math_rows.specs.Row.{Size}
@@ -33,8 +34,14 @@ module _ {p : ℕ} {G H : List ℕ} (σ : Accepted p G H) where
     pub by-r : Coords (setting σ) (rowsOf σ b) (times-r (setting σ) v)
     pub by-w : Coords (setting σ) (rowsOf σ b) (times-w (setting σ) v)
 
-  abbrev pub Closed : Seven → Type 0
-  Closed b = IsClosed (setting σ) (rowsOf σ b)
+  pub record Closed (b : Seven) : Type 0 where
+    pub rank : det (setting σ) (rowsOf σ b) .0 ≢ setting σ .𝓥 .L .ops .𝟎
+    pub r-one : Coords (setting σ) (rowsOf σ b) (record { a = polys (setting σ .𝓥) .ops .𝟎; b = polyOf σ (b .u); c = polys (setting σ .𝓥) .ops .𝟎 })
+    pub w-one : Coords (setting σ) (rowsOf σ b) (record { a = polys (setting σ .𝓥) .ops .𝟎; b = polys (setting σ .𝓥) .ops .𝟎; c = polyOf σ (b .u) })
+    pub r-M : Coords (setting σ) (rowsOf σ b) (times-r (setting σ) (rowsOf σ b .M))
+    pub w-M : Coords (setting σ) (rowsOf σ b) (times-w (setting σ) (rowsOf σ b .M))
+    pub r-N : Coords (setting σ) (rowsOf σ b) (times-r (setting σ) (rowsOf σ b .N))
+    pub w-N : Coords (setting σ) (rowsOf σ b) (times-w (setting σ) (rowsOf σ b .N))
 
 -- how many coefficients the i-th row has at most
 abbrev pub longest : ℕ → ℕ

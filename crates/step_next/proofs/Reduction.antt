@@ -138,10 +138,10 @@ module _ {p : ℕ} {G H : List ℕ} (A : Accepted p G H) {g h gh : List ℕ} {n 
   abbrev Yₐ : List ℕ → List ℕ → ρ .𝓥 .L .El
   Yₐ x y = sizeY (ρ .𝓥 .L .ops) (setting A .roots .r) (setting A .roots .w) (row ρ x) (row ρ y)
 
-  X-is : {b c : ρ .𝓥 .L .El} {x y : List ℕ} → b ≡ row ρ x → c ≡ row ρ y → sizeX (ρ .𝓥 .L .ops) (setting A .roots .r) (setting A .roots .w) b c ≡ Xₐ x y
+  X-is : {b c b′ c′ : ρ .𝓥 .L .El} → b ≡ b′ → c ≡ c′ → sizeX (ρ .𝓥 .L .ops) (setting A .roots .r) (setting A .roots .w) b c ≡ sizeX (ρ .𝓥 .L .ops) (setting A .roots .r) (setting A .roots .w) b′ c′
   X-is e f = ap₂ (sizeX (ρ .𝓥 .L .ops) (setting A .roots .r) (setting A .roots .w)) e f
 
-  Y-is : {b c : ρ .𝓥 .L .El} {x y : List ℕ} → b ≡ row ρ x → c ≡ row ρ y → sizeY (ρ .𝓥 .L .ops) (setting A .roots .r) (setting A .roots .w) b c ≡ Yₐ x y
+  Y-is : {b c b′ c′ : ρ .𝓥 .L .El} → b ≡ b′ → c ≡ c′ → sizeY (ρ .𝓥 .L .ops) (setting A .roots .r) (setting A .roots .w) b c ≡ sizeY (ρ .𝓥 .L .ops) (setting A .roots .r) (setting A .roots .w) b′ c′
   Y-is e f = ap₂ (sizeY (ρ .𝓥 .L .ops) (setting A .roots .r) (setting A .roots .w)) e f
 
   lx1 : Lt (ρ .𝓥) (Xₐ (o .mb) (o .mc)) (suc (rm .a))
