@@ -31,13 +31,13 @@ returns-5 : tie.Need-returns-5
 returns-5 c = answer-no (λ b. c .before .unit-list3 .ensures .no! (not-true _ (c .if5 .taken)) (b .row2))
 
 sub-top : tie.Need-sub-top
-sub-top c = let r = c .before .before .before .before .before .unit-list .ensures .yes! (not-false _ (c .before .before .before .before .if3 .left)) in let z = r .some in omega arith
+sub-top c = let r = c .before .before .before .before .before .unit-list .ensures .yes! (not-false _ (c .before .before .before .before .if3 .left)) in let z = r .whole in omega arith
 
 mul-top : tie.Need-mul-top
 mul-top c = search needs
 
 shared-slice-read-top : tie.Need-shared-slice-read-top
-shared-slice-read-top c = let r = c .before .before .before .before .before .before .unit-list .ensures .yes! (not-false _ (c .before .before .before .before .before .if3 .left)) in let z = r .some in omega arith
+shared-slice-read-top c = let r = c .before .before .before .before .before .before .unit-list .ensures .yes! (not-false _ (c .before .before .before .before .before .if3 .left)) in let z = r .whole in omega arith
 
 first-list-requires : tie.Need-first-list-requires
 first-list-requires c κs = search needs
@@ -46,12 +46,7 @@ returns-6 : tie.Need-returns-6
 returns-6 c = answer-no (λ b. c .before .first-list .ensures .no! (not-true _ (c .if6 .taken)) (b .first))
 
 returns-7 : tie.Need-returns-7
-returns-7 c =
-    let s8 = c .before .before .before .before .before .before .before .before in
-    let s7 = c .before .before .before .before .before .before .before in
-    let s6 = c .before .before .before .before .before .before in
-    answer-yes record
-    { from = omega arith; to = omega arith; row0 = s8 .unit-list .ensures .yes! (not-false _ (s7 .if3 .left)); row1 = s6 .unit-list2 .ensures .yes! (not-false _ (c .before .before .before .before .before .if4 .left)); row2 = c .before .before .before .before .unit-list3 .ensures .yes! (not-false _ (c .before .before .before .if5 .left)); first = c .before .first-list .ensures .yes! (not-false _ (c .if6 .left)) }
+returns-7 c = answer-yes record { from = omega arith; to = omega arith; row0 = c .before .before .before .before .before .before .before .before .unit-list .ensures .yes! (not-false _ (c .before .before .before .before .before .before .before .if3 .left)); row1 = c .before .before .before .before .before .before .unit-list2 .ensures .yes! (not-false _ (c .before .before .before .before .before .if4 .left)); row2 = c .before .before .before .before .unit-list3 .ensures .yes! (not-false _ (c .before .before .before .if5 .left)); first = c .before .first-list .ensures .yes! (not-false _ (c .if6 .left)) }
 
 pub rule-of-spec : {M : Type 1} → statement M
 rule-of-spec =
