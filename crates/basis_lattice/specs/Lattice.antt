@@ -17,7 +17,8 @@ use Rattle.basis_record.specs.Seven.{Seven}
 use Rattle.basis_lattice.specs.Coordinates.{Quotients, ElementIn}
 use Rattle.basis_lattice.specs.declared.Lengths.{Lengths}
 
-pub record InsideIn (p mul lim : ℕ) (a : List ℕ) (na : ℕ) (b : List ℕ) (nb : ℕ) (c : List ℕ) (nc : ℕ) (m : List ℕ) (lm : ℕ) (n : List ℕ) (ln : ℕ) (u : List ℕ) (lu : ℕ) : Type 0 where
+pub record InsideIn (p mul lim : ℕ) (a : List ℕ) (na : ℕ) (b : List ℕ) (nb : ℕ) (c : List ℕ) (nc : ℕ)
+    (m : List ℕ) (lm : ℕ) (n : List ℕ) (ln : ℕ) (u : List ℕ) (lu : ℕ) : Type 0 where
   pub modulus : Modulus p
   pub ready : Ready p mul lim
   pub prime : Prime p

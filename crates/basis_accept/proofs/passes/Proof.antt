@@ -28,16 +28,31 @@ add-t25 : tie.Need-add-t25
 add-t25 c = let l = sum-low (c .before .before .before .before .before .before .before .before .pre) in record { fits = omega (arith, l) }
 
 shaped-requires : tie.Need-shaped-requires
-shaped-requires c κs = shaped-in (c .before .before .before .before .before .before .before .before .before .before .pre) (c .before .before .before .if1 .taken) (c .before .before .before .before .narrow .ensures)
+shaped-requires c κs =
+    let i = c .before .before .before .before .before .before .before .before .before .before .pre in
+    let told-narrow = c .before .before .before .before .narrow .ensures in
+    shaped-in i (c .before .before .before .if1 .taken) told-narrow
 
 alone-requires : tie.Need-alone-requires
 alone-requires c κs = alone-in (c .before .before .before .before .before .before .before .before .before .before .before .before .pre)
 
 under-requires : tie.Need-under-requires
-under-requires c κs = under-in (c .before .before .before .before .before .before .before .before .before .before .before .before .before .before .before .before .before .before .before .before .pre) (c .before .before .before .before .before .before .before .before .before .before .before .before .before .if1 .taken) (c .before .before .before .before .before .before .before .before .before .before .before .before .before .before .narrow .ensures) (c .before .before .before .before .before .before .before .before .if2 .taken) (c .before .before .before .before .before .before .before .before .before .shaped .ensures)
+under-requires c κs =
+    let i = c .before .before .before .before .before .before .before .before .before .before .before .before .before .before .before .before .before .before .before .before .pre in
+    let told-narrow = c .before .before .before .before .before .before .before .before .before .before .before .before .before .before .narrow .ensures in
+    let told-shaped = c .before .before .before .before .before .before .before .before .before .shaped .ensures in
+    under-in i (c .before .before .before .before .before .before .before .before .before .before .before .before .before .if1 .taken) told-narrow (c .before .before .before .before .before .before .before .before .if2 .taken) told-shaped
 
 returns : tie.Need-returns
-returns c = passes-as (c .before .before .before .before .before .before .before .before .before .before .before .before .before .before .before .before .before .before .before .before .before .pre) (c .before .before .before .before .before .before .before .before .before .before .before .before .before .before .if1 .taken) (c .before .before .before .before .before .before .before .before .before .before .before .before .before .before .before .narrow .ensures) (c .before .before .before .before .before .before .before .before .before .if2 .taken) (c .before .before .before .before .before .before .before .before .before .before .shaped .ensures) (c .before .before .before .before .before .before .before .if3 .taken) (c .before .before .before .before .before .before .before .before .alone .ensures) _ (c .under .ensures)
+returns c =
+    let i = c .before .before .before .before .before .before .before .before .before .before .before .before .before .before .before .before .before .before .before .before .before .pre in
+    let told-narrow = c .before .before .before .before .before .before .before .before .before .before .before .before .before .before .before .narrow .ensures in
+    let told-shaped = c .before .before .before .before .before .before .before .before .before .before .shaped .ensures in
+    let told-alone = c .before .before .before .before .before .before .before .before .alone .ensures in
+    let yes-if1 = c .before .before .before .before .before .before .before .before .before .before .before .before .before .before .if1 .taken in
+    let yes-if2 = c .before .before .before .before .before .before .before .before .before .if2 .taken in
+    let yes-if3 = c .before .before .before .before .before .before .before .if3 .taken in
+    passes-as i yes-if1 told-narrow yes-if2 told-shaped yes-if3 told-alone _ (c .under .ensures)
 
 returns-2 : tie.Need-returns-2
 returns-2 c = not-alone (c .before .before .before .before .before .before .before .before .before .before .before .before .before .before .pre) (c .if3 .left) (c .before .alone .ensures)
