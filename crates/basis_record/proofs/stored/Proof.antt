@@ -61,9 +61,7 @@ loop-less : tie.Need-loop-less Inv-loop μ-loop
 loop-less c = omega arith
 
 loop-again : tie.Need-loop-again Inv-loop μ-loop
-loop-again c =
-    let i = c .before .before .before .pre in
-    storing-more _ (c .before .before .before .args .i) (c .before .before .before .args .a .now) _ (c .before .before .loop .j) (i .row) (let f : c .before .before .before .args .n ≤ 17 = i .fits in omega arith) (c .before .before .loop .inv)
+loop-again c = storing-more _ (c .before .before .before .args .i) (c .before .before .before .args .a .now) _ (c .before .before .loop .j) (c .before .before .before .pre .row) (let f : c .before .before .before .args .n ≤ 17 = c .before .before .before .pre .fits in omega arith) (c .before .before .loop .inv)
 
 returns : tie.Need-returns Inv-loop μ-loop
 returns c = storing-end _ _ _ _ _ (c .before .loop .j) (c .before .before .pre) (omega arith) (c .before .loop .inv)

@@ -67,19 +67,13 @@ array-read-c c =
     omega arith
 
 cross-in-requires : tie.Need-cross-in-requires Inv-loop μ-loop
-cross-in-requires c κs =
-    let i = c .before .before .before .before .before .before .before .before .before .before .pre in
-    let told-rapid-of = c .before .before .before .before .before .before .before .before .before .rapid-of .ensures in
-    euclid-room (c .before .before .before .before .loop .inv) (c .before .before .before .loop-test .taken) (c .before .before .if1 .left) (i .modulus) told-rapid-of
+cross-in-requires c κs = euclid-room (c .before .before .before .before .loop .inv) (c .before .before .before .loop-test .taken) (c .before .before .if1 .left) (c .before .before .before .before .before .before .before .before .before .before .pre .modulus) (c .before .before .before .before .before .before .before .before .before .rapid-of .ensures)
 
 sub-size-from : tie.Need-sub-size-from Inv-loop μ-loop
 sub-size-from c = omega arith
 
 size-from-requires : tie.Need-size-from-requires Inv-loop μ-loop
-size-from-requires c κs =
-    let told-cross-in = c .before .cross-in .ensures in
-    let i = c .before .before .before .before .before .before .before .before .before .before .before .before .pre in
-    euclid-cut (c .before .before .before .before .before .before .loop .inv) (c .before .before .before .before .before .loop-test .taken) (c .before .before .before .before .if1 .left) (told-cross-in .crossed) (i .prime)
+size-from-requires c κs = euclid-cut (c .before .before .before .before .before .before .loop .inv) (c .before .before .before .before .before .loop-test .taken) (c .before .before .before .before .if1 .left) (c .before .cross-in .ensures .crossed) (c .before .before .before .before .before .before .before .before .before .before .before .before .pre .prime)
 
 loop-less-2 : tie.Need-loop-less-2 Inv-loop μ-loop
 loop-less-2 c =
@@ -88,9 +82,7 @@ loop-less-2 c =
     omega arith
 
 loop-again-2 : tie.Need-loop-again-2 Inv-loop μ-loop
-loop-again-2 c =
-    let told-cross-in = c .before .before .cross-in .ensures in
-    euclid-turn (c .before .before .before .before .before .before .before .loop .inv) (c .before .before .before .before .before .before .loop-test .taken) (c .before .before .before .before .before .if1 .left) _ (told-cross-in .crossed) (c .size-from .result) (c .size-from .ensures)
+loop-again-2 c = euclid-turn (c .before .before .before .before .before .before .before .loop .inv) (c .before .before .before .before .before .before .loop-test .taken) (c .before .before .before .before .before .if1 .left) _ (c .before .before .cross-in .ensures .crossed) (c .size-from .result) (c .size-from .ensures)
 
 returns : tie.Need-returns Inv-loop μ-loop
 returns c = euclid-end _ _ _ _ _ _ _ (c .before .loop .inv) (c .loop-test .left)
