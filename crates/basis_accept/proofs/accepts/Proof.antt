@@ -34,10 +34,31 @@ load-requires-7 : tie.Need-load-requires-7
 load-requires-7 c κs = search needs
 
 passes-requires : tie.Need-passes-requires
-passes-requires c κs = pass-in (c .before .before .before .before .before .before .before .before .before .before .before .before .before .before .before .before .before .before .before .before .before .if1 .taken) (c .before .before .before .before .before .before .before .before .before .before .before .before .before .before .before .before .before .before .before .before .before .before .below .ensures) (loaded-of (c .before .before .before .before .before .before .before .before .before .before .before .before .before .before .before .before .before .before .before .load .ensures) (c .before .before .before .before .before .before .before .before .before .before .before .before .before .before .before .before .before .load2 .ensures) (c .before .before .before .before .before .before .before .before .before .before .before .before .before .before .before .load3 .ensures) (c .before .before .before .before .before .before .before .before .before .before .before .before .before .load4 .ensures) (c .before .before .before .before .before .before .before .before .before .before .before .load5 .ensures) (c .before .before .before .before .before .before .before .before .before .load6 .ensures) (c .before .before .before .before .before .before .before .load7 .ensures)) (c .before .before .before .before .before .before .before .before .before .before .before .before .before .before .before .before .before .before .before .before .before .before .before .before .pre)
+passes-requires c κs =
+    let told-below = c .before .before .before .before .before .before .before .before .before .before .before .before .before .before .before .before .before .before .before .before .before .before .below .ensures in
+    let told-load = c .before .before .before .before .before .before .before .before .before .before .before .before .before .before .before .before .before .before .before .load .ensures in
+    let told-load2 = c .before .before .before .before .before .before .before .before .before .before .before .before .before .before .before .before .before .load2 .ensures in
+    let told-load3 = c .before .before .before .before .before .before .before .before .before .before .before .before .before .before .before .load3 .ensures in
+    let told-load4 = c .before .before .before .before .before .before .before .before .before .before .before .before .before .load4 .ensures in
+    let told-load5 = c .before .before .before .before .before .before .before .before .before .before .before .load5 .ensures in
+    let told-load6 = c .before .before .before .before .before .before .before .before .before .load6 .ensures in
+    let told-load7 = c .before .before .before .before .before .before .before .load7 .ensures in
+    let i = c .before .before .before .before .before .before .before .before .before .before .before .before .before .before .before .before .before .before .before .before .before .before .before .before .pre in
+    pass-in (c .before .before .before .before .before .before .before .before .before .before .before .before .before .before .before .before .before .before .before .before .before .if1 .taken) told-below (loaded-of told-load told-load2 told-load3 told-load4 told-load5 told-load6 told-load7) i
 
 returns : tie.Need-returns
-returns c = accepts-as (c .before .before .before .before .before .before .before .before .before .before .before .before .before .before .before .before .before .before .before .before .before .before .if1 .taken) (c .before .before .before .before .before .before .before .before .before .before .before .before .before .before .before .before .before .before .before .before .before .before .before .below .ensures) (loaded-of (c .before .before .before .before .before .before .before .before .before .before .before .before .before .before .before .before .before .before .before .before .load .ensures) (c .before .before .before .before .before .before .before .before .before .before .before .before .before .before .before .before .before .before .load2 .ensures) (c .before .before .before .before .before .before .before .before .before .before .before .before .before .before .before .before .load3 .ensures) (c .before .before .before .before .before .before .before .before .before .before .before .before .before .before .load4 .ensures) (c .before .before .before .before .before .before .before .before .before .before .before .before .load5 .ensures) (c .before .before .before .before .before .before .before .before .before .before .load6 .ensures) (c .before .before .before .before .before .before .before .before .load7 .ensures)) (load-requires (c .before .before .before .before .before .before .before .before .before .before .before .before .before .before .before .before .before .before .before .before .before) (c .before .before .before .before .before .before .before .before .before .before .before .before .before .before .before .before .before .before .before .before .load .lifetimes) .size) _ (c .passes .ensures)
+returns c =
+    let told-below = c .before .before .before .before .before .before .before .before .before .before .before .before .before .before .before .before .before .before .before .before .before .before .before .below .ensures in
+    let told-load = c .before .before .before .before .before .before .before .before .before .before .before .before .before .before .before .before .before .before .before .before .load .ensures in
+    let told-load2 = c .before .before .before .before .before .before .before .before .before .before .before .before .before .before .before .before .before .before .load2 .ensures in
+    let told-load3 = c .before .before .before .before .before .before .before .before .before .before .before .before .before .before .before .before .load3 .ensures in
+    let told-load4 = c .before .before .before .before .before .before .before .before .before .before .before .before .before .before .load4 .ensures in
+    let told-load5 = c .before .before .before .before .before .before .before .before .before .before .before .before .load5 .ensures in
+    let told-load6 = c .before .before .before .before .before .before .before .before .before .before .load6 .ensures in
+    let told-load7 = c .before .before .before .before .before .before .before .before .load7 .ensures in
+    let fit = c .before .before .before .before .before .before .before .before .before .before .before .before .before .before .before .before .before .before .before .before .before .before .if1 .taken in
+    let whole = load-requires (c .before .before .before .before .before .before .before .before .before .before .before .before .before .before .before .before .before .before .before .before .before) (c .before .before .before .before .before .before .before .before .before .before .before .before .before .before .before .before .before .before .before .before .load .lifetimes) .size in
+    accepts-as fit told-below (loaded-of told-load told-load2 told-load3 told-load4 told-load5 told-load6 told-load7) whole _ (c .passes .ensures)
 
 returns-2 : tie.Need-returns-2
 returns-2 c = not-below (c .if1 .left) (c .before .below .ensures)

@@ -47,10 +47,26 @@ size-requires : tie.Need-size-requires
 size-requires c κs = search needs
 
 returns : tie.Need-returns
-returns c = alone-yes (c .before .before .before .before .before .before .before .before .before .before .before .before .before .gcd .ensures) (c .before .before .before .before .before .before .before .before .before .before .before .gcd2 .ensures) (c .before .before .before .before .before .before .before .before .before .gcd3 .ensures) (c .before .before .before .before .before .before .before .gcd4 .ensures) (c .before .before .before .before .before .gcd5 .ensures) (c .before .before .before .gcd6 .ensures) (c .before .size .ensures) (omega (arith, c .if1 .taken))
+returns c =
+    let told-gcd = c .before .before .before .before .before .before .before .before .before .before .before .before .before .gcd .ensures in
+    let told-gcd2 = c .before .before .before .before .before .before .before .before .before .before .before .gcd2 .ensures in
+    let told-gcd3 = c .before .before .before .before .before .before .before .before .before .gcd3 .ensures in
+    let told-gcd4 = c .before .before .before .before .before .before .before .gcd4 .ensures in
+    let told-gcd5 = c .before .before .before .before .before .gcd5 .ensures in
+    let told-gcd6 = c .before .before .before .gcd6 .ensures in
+    let told-size = c .before .size .ensures in
+    alone-yes told-gcd told-gcd2 told-gcd3 told-gcd4 told-gcd5 told-gcd6 told-size (omega (arith, c .if1 .taken))
 
 returns-2 : tie.Need-returns-2
-returns-2 c = alone-no (c .before .before .before .before .before .before .before .before .before .before .before .before .before .gcd .ensures) (c .before .before .before .before .before .before .before .before .before .before .before .gcd2 .ensures) (c .before .before .before .before .before .before .before .before .before .gcd3 .ensures) (c .before .before .before .before .before .before .before .gcd4 .ensures) (c .before .before .before .before .before .gcd5 .ensures) (c .before .before .before .gcd6 .ensures) (c .before .size .ensures) (c .if1 .left)
+returns-2 c =
+    let told-gcd = c .before .before .before .before .before .before .before .before .before .before .before .before .before .gcd .ensures in
+    let told-gcd2 = c .before .before .before .before .before .before .before .before .before .before .before .gcd2 .ensures in
+    let told-gcd3 = c .before .before .before .before .before .before .before .before .before .gcd3 .ensures in
+    let told-gcd4 = c .before .before .before .before .before .before .before .gcd4 .ensures in
+    let told-gcd5 = c .before .before .before .before .before .gcd5 .ensures in
+    let told-gcd6 = c .before .before .before .gcd6 .ensures in
+    let told-size = c .before .size .ensures in
+    alone-no told-gcd told-gcd2 told-gcd3 told-gcd4 told-gcd5 told-gcd6 told-size (c .if1 .left)
 
 pub alone-spec : {M : Type 1} → statement M
 alone-spec = tie.close (tie.spec gcd-requires gcd-requires-2 gcd-requires-3 gcd-requires-4 gcd-requires-5 gcd-requires-6 size-requires returns returns-2)

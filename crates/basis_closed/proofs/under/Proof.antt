@@ -50,7 +50,10 @@ keeps-requires c κs =
     let r = i .room .rows in
     let v = c .before .before .before .before .before .before .inverse .ensures in
     let z = zeros-short (i .given .modulus .big) in
-    keep i f v w (c .before .before .before .before .before .size .ensures) (c .before .before .before .before .size2 .ensures) (c .before .before .before .size3 .ensures) (r 6) z z (f .sizes 6) zeros-size zeros-size
+    let sg = c .before .before .before .before .before .size .ensures in
+    let sh = c .before .before .before .before .size2 .ensures in
+    let sk = c .before .before .before .size3 .ensures in
+    keep i f v w sg sh sk (r 6) z z (f .sizes 6) zeros-size zeros-size
 
 keeps-requires-2 : tie.Need-keeps-requires-2
 keeps-requires-2 c κs =
@@ -59,7 +62,10 @@ keeps-requires-2 c κs =
     let f = c .before .before .before .before .before .before .before .before .before .before .before .lengths-of .ensures in
     let r = i .room .rows in
     let v = c .before .before .before .before .before .before .before .before .before .inverse .ensures in
-    keep i f v w (c .before .before .before .before .before .before .before .before .size .ensures) (c .before .before .before .before .before .before .before .size2 .ensures) (c .before .before .before .before .before .before .size3 .ensures) (r 0) (r 1) (r 2) (f .sizes 0) (f .sizes 1) (f .sizes 2)
+    let sg = c .before .before .before .before .before .before .before .before .size .ensures in
+    let sh = c .before .before .before .before .before .before .before .size2 .ensures in
+    let sk = c .before .before .before .before .before .before .size3 .ensures in
+    keep i f v w sg sh sk (r 0) (r 1) (r 2) (f .sizes 0) (f .sizes 1) (f .sizes 2)
 
 keeps-requires-3 : tie.Need-keeps-requires-3
 keeps-requires-3 c κs =
@@ -68,7 +74,10 @@ keeps-requires-3 c κs =
     let f = c .before .before .before .before .before .before .before .before .before .before .before .before .before .before .lengths-of .ensures in
     let r = i .room .rows in
     let v = c .before .before .before .before .before .before .before .before .before .before .before .before .inverse .ensures in
-    keep i f v w (c .before .before .before .before .before .before .before .before .before .before .before .size .ensures) (c .before .before .before .before .before .before .before .before .before .before .size2 .ensures) (c .before .before .before .before .before .before .before .before .before .size3 .ensures) (r 3) (r 4) (r 5) (f .sizes 3) (f .sizes 4) (f .sizes 5)
+    let sg = c .before .before .before .before .before .before .before .before .before .before .before .size .ensures in
+    let sh = c .before .before .before .before .before .before .before .before .before .before .size2 .ensures in
+    let sk = c .before .before .before .before .before .before .before .before .before .size3 .ensures in
+    keep i f v w sg sh sk (r 3) (r 4) (r 5) (f .sizes 3) (f .sizes 4) (f .sizes 5)
 
 returns-2 : tie.Need-returns-2
 returns-2 c =

@@ -48,10 +48,14 @@ det-in-requires c κs =
 
 returns : tie.Need-returns
 returns c =
-    record {
-      sizes = measured (c .det-in .result) (c .before .before .before .before .before .before .before .before .size-from .ensures) (c .before .before .before .before .before .before .before .size-from2 .ensures) (c .before .before .before .before .before .before .size-from3 .ensures) (c .before .before .before .before .before .size-from4 .ensures) (c .before .before .before .before .size-from5 .ensures) (c .before .before .before .size-from6 .ensures) (c .before .before .size-from7 .ensures);
-      det = c .det-in .ensures;
-    }
+    let m0 = c .before .before .before .before .before .before .before .before .size-from .ensures in
+    let m1 = c .before .before .before .before .before .before .before .size-from2 .ensures in
+    let m2 = c .before .before .before .before .before .before .size-from3 .ensures in
+    let n0 = c .before .before .before .before .before .size-from4 .ensures in
+    let n1 = c .before .before .before .before .size-from5 .ensures in
+    let n2 = c .before .before .before .size-from6 .ensures in
+    let u = c .before .before .size-from7 .ensures in
+    record { sizes = measured (c .det-in .result) m0 m1 m2 n0 n1 n2 u; det = c .det-in .ensures }
 
 pub lengths-of-spec : {M : Type 1} → statement M
 lengths-of-spec =
