@@ -21,10 +21,10 @@ use Rattle.math_ideals.specs.Next.{Next}
 use Rattle.math_ideals.proofs.Degrees.{small}
 use Rattle.math_ideals.proofs.Divided.{ev-M}
 use Rattle.math_chain.specs.Chain.{Degree}
-use Rattle.math_chain.proofs.Parts.{x1, y1, base}
-use Rattle.math_chain.proofs.Moved.{changed-of}
+use Rattle.math_chain.specs.Parts.{x1, y1, base}
+use Rattle.math_chain.proofs.Changed.{changed-of}
 use Rattle.math_chain.proofs.Frame.{pair, Framed, Rebased}
-use Rattle.math_chain.proofs.Correct.{Ends, base-framed, step-correct}
+use Rattle.math_chain.proofs.Correct.{base-framed, step-correct}
 use Rattle.basis_record.specs.Record.{setting, polyOf, basisOf}
 use Rattle.basis_record.specs.Seven.{Seven, seven, AreRows, rowsOf}
 use Rattle.step_divide.proofs.Products.{sizes}

@@ -21,7 +21,7 @@ use Rattle.math_ideals.specs.Setting.{Setting}
 use Rattle.math_ideals.specs.Ideal.{det}
 use Rattle.math_ideals.specs.Basis.{Good}
 use Rattle.math_ideals.proofs.Degrees.{small}
-use Rattle.math_chain.proofs.Parts.{base}
+use Rattle.math_chain.specs.Parts.{base}
 use Rattle.math_chain.proofs.Room.{Room, room}
 use Rattle.basis_record.specs.Record.{setting}
 use Rattle.basis_record.specs.Seven.{Seven, rowsOf}
