@@ -14,6 +14,7 @@ use Rattle.num_mod.proofs.Prepared.{ready-prepared}
 use Rattle.math_rows.specs.Reading.{Reading}
 use Rattle.math_rows.specs.Made.{reading}
 use Rattle.math_rows.specs.Row.{Row, row}
+use Rattle.math_triple.specs.Sizes.{sizeX, sizeY}
 use Rattle.math_turns.specs.Points.{Pt}
 use Rattle.math_turns.proofs.Turn.{b-lt, c-lt}
 use Rattle.field_open.specs.Refusal.{Accepted}
