@@ -18,7 +18,7 @@ use Rattle.field_open.specs.Refusal.{Accepted}
 use Rattle.basis_record.specs.Record.{setting}
 use Rattle.base_answers.specs.Decides.{Decides}
 use Rattle.basis_record.specs.Seven.{Seven, AreRows, rowsOf}
-use Rattle.basis_parts.specs.Frame.{Frame, Fine, Meaning, Short, rd, rowμ, pt, X, Y, Ltμ, Hasμ}
+use Rattle.basis_parts.specs.Frame.{Frame, Fine, Meaning, Short, rd, Ser, rowμ}
 use Rattle.basis_scale.specs.Based.{Z}
 
 -- ---- sizes

@@ -23,7 +23,7 @@ use Rattle.poly_lent.proofs.Mixing.{size-cut}
 use Rattle.basis_record.specs.Record.{part}
 use Rattle.basis_parts.specs.Frame.{Short}
 use Rattle.basis_parts.proofs.Laid.{zeros-at}
-use Rattle.basis_scale.specs.Store.{StoreIn, Stored}
+use Rattle.basis_record.specs.Store.{StoreIn, Stored}
 use Rattle.basis_scale.specs.Levels.{LevelIn, Leveled}
 use Rattle.basis_scale.specs.Place.{PlaceIn, Placed, FillIn}
 use Rattle.basis_scale.specs.declared.Factors.{Factors}

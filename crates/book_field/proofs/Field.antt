@@ -10,7 +10,7 @@ use lib.Seq.{ext-getD, getD-take, length-take-le, take-all}
 use Rattle.math_rows.specs.Row.{tab}
 use Rattle.math_rows.proofs.Tab.{at-tab, length-tab}
 use Rattle.field_open.specs.Refusal.{Fault3, Refusal}
-use Rattle.field_open.proofs.Stages.{later}
+use Rattle.base_answers.proofs.Stages.{later}
 use Rattle.book_bytes.specs.Bytes.{u2}
 use Rattle.book_bytes.proofs.Lists.{length-list}
 use Rattle.book_body.specs.Body.{FieldSays, listAt, bodyOf}

@@ -19,7 +19,7 @@ use Rattle.door_compare.proofs.Doors.{doors-goes, both-of}
 use Rattle.door_transfer.specs.Transfer.{Lent, Transfers, unfit, carried}
 use Rattle.door_transfer.specs.Code.{CarryIn, Carried, CarriedSwapped, Unfit}
 
-module _ {p : ℕ} {G H G′ H′ rows : List ℕ} {n : ℕ} (e : n ≡ 0) (r : Refusals p G H G′ H′ n) where
+module _ {p : ℕ} {G H G′ H′ : List ℕ} (rows : List ℕ) {n : ℕ} (e : n ≡ 0) (r : Refusals p G H G′ H′ n) where
   both : Both p G H G′ H′
   both = both-of e r
 

@@ -12,9 +12,9 @@ use Rattle.math_valued.specs.Val.{Valued}
 use Rattle.math_valued.specs.Degree.{Has, Lt}
 use Rattle.math_valued.proofs.Degree as d
 use Rattle.math_valued.proofs.Compare.{lt-scale, lt-unscale, lt-mul-sharp}
-use Rattle.math_ideals.specs.Setting.{Setting, P}
-use Rattle.math_ideals.specs.Element.{O, X, Y, Z}
-use Rattle.math_ideals.specs.Ideal.{Basis, lin}
+use Rattle.math_ideals.specs.Setting.{Roots, Setting, P}
+use Rattle.math_ideals.specs.Element.{O, X, Y, Z, times-r, times-w}
+use Rattle.math_ideals.specs.Ideal.{Basis, lin, Coords}
 use Rattle.math_ideals.specs.Basis.{Good}
 use Rattle.math_ideals.proofs.Sizes.{X-lin, Y-lin, Z-lin}
 use Rattle.math_ideals.proofs.Values.{w-w}

@@ -1,5 +1,5 @@
 -- What `advanced` makes is the step: the rows that are loaded, the seven polynomials that come back, and the degree of m.
-use mathlib.Core.Path.{_≡_, sym, ap, subst}
+use mathlib.Core.Path.{_≡_, sym, ap, _∙_, subst}
 use mathlib.Core.List.{List}
 use Prim.Native.Nat.{ℕ, suc, _+_, _*_, _-_, _<_, _≤_}
 use native.Mathlib.Omega.{arith}
@@ -21,10 +21,10 @@ use Rattle.math_ideals.specs.Next.{Next}
 use Rattle.math_ideals.proofs.Degrees.{small}
 use Rattle.math_ideals.proofs.Divided.{ev-M}
 use Rattle.math_chain.specs.Chain.{Degree}
-use Rattle.math_chain.proofs.Parts.{x1, y1, base}
-use Rattle.math_chain.proofs.Moved.{changed-of}
+use Rattle.math_chain.specs.Parts.{x1, y1, base}
+use Rattle.math_chain.proofs.Changed.{changed-of}
 use Rattle.math_chain.proofs.Frame.{pair, Framed, Rebased}
-use Rattle.math_chain.proofs.Correct.{Ends, base-framed, step-correct}
+use Rattle.math_chain.proofs.Correct.{base-framed, step-correct}
 use Rattle.basis_record.specs.Record.{setting, polyOf, basisOf}
 use Rattle.basis_record.specs.Seven.{Seven, seven, AreRows, rowsOf}
 use Rattle.step_divide.proofs.Products.{sizes}

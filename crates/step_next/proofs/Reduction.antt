@@ -14,6 +14,7 @@ use Rattle.num_mod.proofs.Prepared.{ready-prepared}
 use Rattle.math_rows.specs.Reading.{Reading}
 use Rattle.math_rows.specs.Made.{reading}
 use Rattle.math_rows.specs.Row.{Row, row}
+use Rattle.math_triple.specs.Sizes.{sizeX, sizeY}
 use Rattle.math_turns.specs.Points.{Pt}
 use Rattle.math_turns.proofs.Turn.{b-lt, c-lt}
 use Rattle.field_open.specs.Refusal.{Accepted}
@@ -21,7 +22,7 @@ use Rattle.math_ideals.specs.Setting.{Setting}
 use Rattle.math_ideals.specs.Ideal.{det}
 use Rattle.math_ideals.specs.Basis.{Good}
 use Rattle.math_ideals.proofs.Degrees.{small}
-use Rattle.math_chain.proofs.Parts.{base}
+use Rattle.math_chain.specs.Parts.{base}
 use Rattle.math_chain.proofs.Room.{Room, room}
 use Rattle.basis_record.specs.Record.{setting}
 use Rattle.basis_record.specs.Seven.{Seven, rowsOf}

@@ -62,10 +62,9 @@ part-in-requires-2 c κs =
 
 returns : tie.Need-returns Inv-loop μ-loop
 returns c =
-    let at6 = c .before .before .before .before .before .before in
-    let at11 = at6 .before .before .before .before .before in
-    let at13 = at11 .before .before in
-    shear-end (at6 .loop .inv) (omega arith) (at13 .part-in .ensures) (at11 .size-from .ensures) (c .part-in2 .ensures)
+    shear-end (c .before .before .before .before .before .before .loop .inv) (omega arith)
+    (c .before .before .before .before .before .before .before .before .before .before .before .before .before .part-in .ensures)
+    (c .before .before .before .before .before .before .before .before .before .before .before .size-from .ensures) (c .part-in2 .ensures)
 
 pub clear-x-spec : {M : Type 1} → statement M
 clear-x-spec =

@@ -17,8 +17,9 @@ unfit-requires c κs = search needs
 
 returns-2 : tie.Need-returns-2
 returns-2 c =
+    let a = c .before .before .before .before .before .before .before .before .before .args in
     let t = c in
-    too-long (t .before .before .if1 .left) (t .before .before .before .refusal .ensures) (t .before .unfit .ensures) (t .if2 .taken)
+    too-long (a .rows .now) (t .before .before .if1 .left) (t .before .before .before .refusal .ensures) (t .before .unfit .ensures) (t .if2 .taken)
 
 paired-requires : tie.Need-paired-requires
 paired-requires c κs = both-of (c .before .before .if1 .left) (c .before .before .before .refusal .ensures)
@@ -28,16 +29,18 @@ enum-told c = search needs
 
 carry-requires : tie.Need-carry-requires
 carry-requires c κs =
+    let a = c .before .before .before .before .before .before .before .before .before .before .before .before .before .args in
     let t = c .before .before .before .before in
-    carry-asks (t .before .before .if1 .left) (t .before .before .before .refusal .ensures) (t .before .unfit .ensures) (t .if2 .left)
+    carry-asks (a .rows .now) (t .before .before .if1 .left) (t .before .before .before .refusal .ensures) (t .before .unfit .ensures) (t .if2 .left)
 
 enum-told-2 : tie.Need-enum-told-2
 enum-told-2 c = search needs
 
 carry-swapped-requires : tie.Need-carry-swapped-requires
 carry-swapped-requires c κs =
+    let a = c .before .before .before .before .before .before .before .before .before .before .before .before .before .args in
     let t = c .before .before .before .before in
-    carry-asks (t .before .before .if1 .left) (t .before .before .before .refusal .ensures) (t .before .unfit .ensures) (t .if2 .left)
+    carry-asks (a .rows .now) (t .before .before .if1 .left) (t .before .before .before .refusal .ensures) (t .before .unfit .ensures) (t .if2 .left)
 
 enum-told-3 : tie.Need-enum-told-3
 enum-told-3 c = search needs
@@ -47,21 +50,26 @@ same-length c = search needs
 
 returns-3 : tie.Need-returns-3
 returns-3 c =
+    let a = c .before .before .before .before .before .before .before .before .before .before .before .before .before .before .before .before .args in
     let t = c .before .before .before .before .before .before .before in
-    straight-done (t .before .before .if1 .left) (t .before .before .before .refusal .ensures) (t .before .unfit .ensures) (t .if2 .left) (c .before .before .before .before .before .before .paired .ensures) (c .before .before .before .before .enum-told .given .1) _ (c .before .before .carry .ensures)
+    straight-done (a .rows .now) (t .before .before .if1 .left) (t .before .before .before .refusal .ensures) (t .before .unfit .ensures) (t .if2 .left)
+    (c .before .before .before .before .before .before .paired .ensures) (c .before .before .before .before .enum-told .given .1) _ (c .before .before .carry .ensures)
 
 same-length-2 : tie.Need-same-length-2
 same-length-2 c = search needs
 
 returns-4 : tie.Need-returns-4
 returns-4 c =
+    let a = c .before .before .before .before .before .before .before .before .before .before .before .before .before .before .before .before .args in
     let t = c .before .before .before .before .before .before .before in
-    swapped-done (t .before .before .if1 .left) (t .before .before .before .refusal .ensures) (t .before .unfit .ensures) (t .if2 .left) (c .before .before .before .before .before .before .paired .ensures) (c .before .before .before .before .enum-told2 .given .1) _ (c .before .before .carry-swapped .ensures)
+    swapped-done (a .rows .now) (t .before .before .if1 .left) (t .before .before .before .refusal .ensures) (t .before .unfit .ensures) (t .if2 .left)
+    (c .before .before .before .before .before .before .paired .ensures) (c .before .before .before .before .enum-told2 .given .1) _ (c .before .before .carry-swapped .ensures)
 
 returns-5 : tie.Need-returns-5
 returns-5 c =
+    let a = c .before .before .before .before .before .before .before .before .before .before .before .before .args in
     let t = c .before .before .before in
-    apart (t .before .before .if1 .left) (t .before .before .before .refusal .ensures) (t .before .unfit .ensures) (t .if2 .left) (c .before .before .paired .ensures) (c .enum-told3 .given .1)
+    apart (a .rows .now) (t .before .before .if1 .left) (t .before .before .before .refusal .ensures) (t .before .unfit .ensures) (t .if2 .left) (c .before .before .paired .ensures) (c .enum-told3 .given .1)
 
 pub transfer-spec : {M : Type 1} → statement M
 transfer-spec =
