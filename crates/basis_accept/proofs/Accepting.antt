@@ -172,7 +172,7 @@ module _ {c : Cubic} {b : Seven} (i : PassIn c b) where
       room-of =
           let (lr, lw) = low A₀ c (i .known .prefix) in
           let z : Seventeen (i .known .p) b = rows-at A₀ (i .known .prefix) in
-          let m = shaped-at A₀ c (i .known .prefix) b s .yes! e₂ in
+          let m = shaped-at A₀ c (i .known .prefix) b s .yes! e₂ .numbers in
           let v = reading (i .known .p) (A₀ .prime) .𝓥 in
           record {
             m0 = z .m0;
