@@ -196,7 +196,7 @@ module _ {c : Cubic} {b : Seven} (i : PassIn c b) where
       room-of =
           let (lr, lw) = low c k₀ A₀ in
           let z : Seventeen (c .field .p) b = i .rows in
-          let m = shaped-at c k₀ A₀ b s .yes! e₂ in
+          let m = shaped-at c k₀ A₀ b s .yes! e₂ .numbers in
           let v = reading (c .field .p) (A₀ .prime) .𝓥 in
           let ten : (k : ℕ) → ((j : ℕ) → 10 ≤ j → getD (rowAt b k) j 0 ≡ 0) → Short (c .field .p) (rowAt b k) 10 = λ k h. record { is-row = z .each k .is-row; above = h } in
           record {
