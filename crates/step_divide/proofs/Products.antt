@@ -40,11 +40,11 @@ of p mul lim = record { p = p; m = mul; lim = lim }
 
 abbrev pub bound : Setting → ℕ → ℕ
 bound S zero = suc (dGH S)
-bound S (suc zero) = suc (S .dw)
-bound S (suc (suc zero)) = suc (S .dr)
+bound S (suc zero) = suc (S .roots .dw)
+bound S (suc (suc zero)) = suc (S .roots .dr)
 bound S (suc (suc (suc zero))) = dGH S
-bound S (suc (suc (suc (suc zero)))) = S .dw
-bound S (suc (suc (suc (suc (suc zero))))) = S .dr
+bound S (suc (suc (suc (suc zero)))) = S .roots .dw
+bound S (suc (suc (suc (suc (suc zero))))) = S .roots .dr
 bound S (suc (suc (suc (suc (suc (suc i)))))) = dGH S
 
 bound-low : (S : Setting) (i : ℕ) → bound S i ≤ suc (dGH S)
