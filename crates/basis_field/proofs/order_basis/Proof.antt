@@ -22,10 +22,10 @@ add-t8 c = let e = room (c .before .before .before .before .before .pre .kept) i
 order-requires : tie.Need-order-requires
 order-requires c κs =
     let k = c .before .before .before .before .before .before .before .pre in
-    order-by (c .before .before .prepare .ensures) (first-in (k .kept))
+    order-by (c .before .before .before .prepare .ensures) (first-in (k .kept))
 
 returns : tie.Need-returns
-returns c = λ G H k. is-first k (based-by (c .before .before .before .prepare .ensures) (c .order .ensures))
+returns c = λ G H k. is-first k (based-by (c .before .before .before .before .prepare .ensures) (c .order .ensures))
 
 pub order-basis-spec : {M : Type 1} → statement M
 order-basis-spec = tie.close (tie.spec prepare-requires add-t7 add-t8 order-requires returns)
