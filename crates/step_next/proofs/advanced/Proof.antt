@@ -21,10 +21,10 @@ add-n c = omega (arith, room (c .before .pre .keeps))
 
 advance-in-requires : tie.Need-advance-in-requires
 advance-in-requires c κs =
-    let at8 = c .before .before .before .before .before .before .before .before in
-    let at9 = at8 .before in
-    let e = at8 .prepare .ensures in
-    record { inp = advance-by e (at9 .pre); n-is = refl; modulus = own e; blank-x = record { a = refl; b = refl; c = refl }; blank-y = record { a = refl; b = refl; c = refl }; blank-d = refl }
+    let at7 = c .before .before .before .before .before .before .before in
+    let at8 = at7 .before in
+    let e = at7 .prepare .ensures in
+    record { inp = advance-by e (at8 .pre); n-is = refl; modulus = own e; blank-x = record { a = refl; b = refl; c = refl }; blank-y = record { a = refl; b = refl; c = refl }; blank-d = refl }
 
 returns : tie.Need-returns
 returns c = advanced-by (c .before .before .before .before .before .before .before .before .prepare .ensures) (c .advance-in .ensures)
