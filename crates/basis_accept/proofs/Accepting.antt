@@ -128,9 +128,9 @@ each-row z h1 h2 k1 k2 (suc (suc (suc (suc (suc zero))))) = k2
 each-row z h1 h2 k1 k2 (suc (suc (suc (suc (suc (suc i)))))) = z .each 6
 
 -- ---- what is prepared of p in place of p
-module _ (c : Cubic) {q : Modulus} (e : PreparedOf (c .field .p) q) {b : Seven} where
+module _ {c : Cubic} {b : Seven} (i : PassIn c b) {q : Modulus} (e : PreparedOf (c .field .p) q) where
   pub shaped-by : (top : ℕ) → ShapedIn (frameOf c) top b → ShapedIn (frame q (c .r) (c .w) (c .field .dr) (c .field .dw)) top b
-  shaped-by top i = subst (λ F. ShapedIn F top b) (frame-by e (c .r) (c .w) (c .field .dr) (c .field .dw)) i
+  shaped-by top s = subst (λ F. ShapedIn F top b) (frame-by e (c .r) (c .w) (c .field .dr) (c .field .dw)) s
 
   pub shaped-from : {o : Bool} → Shaped (frame q (c .r) (c .w) (c .field .dr) (c .field .dw)) b o → Shaped (frameOf c) b o
   shaped-from {o} s = subst (λ F. Shaped F b o) (sym (frame-by e (c .r) (c .w) (c .field .dr) (c .field .dw))) s

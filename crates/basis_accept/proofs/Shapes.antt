@@ -135,15 +135,15 @@ module _ {F : Frame} (μ : Meaning F) {top : ℕ} {b : Seven} {mx my nx ny zm zn
       let (lm, sm) = sized my in
       let (a₁, sa) = sized zm in
       let (b₁, sb) = sized zn in
-      let (eu, cu) = at-lead (rowμ μ (b .u)) (b .u) lu (n .u) 1 (i .rows 6) (floor-self (b .u)) su (d.lead-eq 𝓥 (n .U-lead) refl (sym (ρ .cast-one))) one≢ (omega arith) in
-      let (ex, cx) = at-lead (X μ (pt μ (b .m1) (b .m2))) mx lx (n .x) 2 (pmx .short .is-row) (pmx .law μ) sx (d.lead-eq 𝓥 (n .X-M) refl (sym cast-two)) two≢ t in
-      let (ey, cy) = at-lead (Y μ (pt μ (b .n1) (b .n2))) ny ly (n .y) 1 (pny .short .is-row) (pny .law μ) sy (d.lead-eq 𝓥 (n .Y-N) refl (sym (ρ .cast-one))) one≢ (omega arith) in
-      let ux : n .u < n .x = n .u<x in
-      let uy : n .u ≤ n .y = n .u≤y in
-      let hn : ln ≤ n .x = floor-le ρ (n .x) (pnx .short .is-row) (pnx .law μ) sn (n .X-N) in
-      let hm : lm ≤ n .u = floor-le ρ (n .u) (pmy .short .is-row) (pmy .law μ) sm (n .Y-M) in
-      let ha : a₁ ≤ n .u = floor-le ρ (n .u) (cm .is-row) fM sa (n .Z-M) in
-      let hb : b₁ ≤ n .u = floor-le ρ (n .u) (cn .is-row) fN sb (n .Z-N) in
+      let (eu, cu) = at-lead (rowμ μ (b .u)) (b .u) lu (n .numbers .u) 1 (i .rows 6) (floor-self (b .u)) su (d.lead-eq 𝓥 (n .numbers .U-lead) refl (sym (ρ .cast-one))) one≢ (omega arith) in
+      let (ex, cx) = at-lead (X μ (pt μ (b .m1) (b .m2))) mx lx (n .numbers .x) 2 (pmx .short .is-row) (pmx .law μ) sx (d.lead-eq 𝓥 (n .numbers .X-M) refl (sym cast-two)) two≢ t in
+      let (ey, cy) = at-lead (Y μ (pt μ (b .n1) (b .n2))) ny ly (n .numbers .y) 1 (pny .short .is-row) (pny .law μ) sy (d.lead-eq 𝓥 (n .numbers .Y-N) refl (sym (ρ .cast-one))) one≢ (omega arith) in
+      let ux : n .numbers .u < n .numbers .x = n .u<x in
+      let uy : n .numbers .u ≤ n .numbers .y = n .numbers .u≤y in
+      let hn : ln ≤ n .numbers .x = floor-le ρ (n .numbers .x) (pnx .short .is-row) (pnx .law μ) sn (n .numbers .X-N) in
+      let hm : lm ≤ n .numbers .u = floor-le ρ (n .numbers .u) (pmy .short .is-row) (pmy .law μ) sm (n .numbers .Y-M) in
+      let ha : a₁ ≤ n .numbers .u = floor-le ρ (n .numbers .u) (cm .is-row) fM sa (n .numbers .Z-M) in
+      let hb : b₁ ≤ n .numbers .u = floor-le ρ (n .numbers .u) (cn .is-row) fN sb (n .numbers .Z-N) in
       record {
         lu = lu;
         lx = lx;

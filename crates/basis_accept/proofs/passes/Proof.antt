@@ -32,22 +32,37 @@ add-t26 : tie.Need-add-t26
 add-t26 c = let l = sum-low (c .before .before .before .before .before .before .before .before .before .pre) in record { fits = omega (arith, l) }
 
 shaped-requires : tie.Need-shaped-requires
-shaped-requires c κs = shaped-by _ (c .before .before .before .prepare .ensures) _ (shaped-in (c .before .before .before .before .before .before .before .before .before .before .before .pre) (c .before .before .before .before .if1 .taken) (c .before .before .before .before .before .narrow .ensures))
+shaped-requires c κs =
+    let s = c .before .before .before .before .before .before .before .before .before .before .before .pre in
+    shaped-by s (c .before .before .before .prepare .ensures) _ (shaped-in s (c .before .before .before .before .if1 .taken) (c .before .before .before .before .before .narrow .ensures))
 
 alone-requires : tie.Need-alone-requires
 alone-requires c κs = alone-in (c .before .before .before .before .before .before .before .before .before .before .before .before .before .pre) (c .before .before .before .before .before .prepare .ensures)
 
 under-requires : tie.Need-under-requires
-under-requires c κs = under-in (c .before .before .before .before .before .before .before .before .before .before .before .before .before .before .before .before .before .before .before .before .before .pre) (c .before .before .before .before .before .before .before .before .before .before .before .before .before .before .if1 .taken) (c .before .before .before .before .before .before .before .before .before .before .before .before .before .before .before .narrow .ensures) (c .before .before .before .before .before .before .before .before .if2 .taken) (shaped-from _ (c .before .before .before .before .before .before .before .before .before .before .before .before .before .prepare .ensures) (c .before .before .before .before .before .before .before .before .before .shaped .ensures)) (c .before .before .before .before .before .before .before .before .before .before .before .before .before .prepare .ensures)
+under-requires c κs =
+    let s = c .before .before .before .before .before .before .before .before .before .before .before .before .before .before .before .before .before .before .before .before .before .pre in
+    let e = c .before .before .before .before .before .before .before .before .before .before .before .before .before .prepare .ensures in
+    under-in s (c .before .before .before .before .before .before .before .before .before .before .before .before .before .before .if1 .taken) (c .before .before .before .before .before .before .before .before .before .before .before .before .before .before .before .narrow .ensures) (c .before .before .before .before .before .before .before .before .if2 .taken)
+    (shaped-from s e (c .before .before .before .before .before .before .before .before .before .shaped .ensures)) e
 
 returns : tie.Need-returns
-returns c = passes-as (c .before .before .before .before .before .before .before .before .before .before .before .before .before .before .before .before .before .before .before .before .before .before .pre) (c .before .before .before .before .before .before .before .before .before .before .before .before .before .before .before .if1 .taken) (c .before .before .before .before .before .before .before .before .before .before .before .before .before .before .before .before .narrow .ensures) (c .before .before .before .before .before .before .before .before .before .if2 .taken) (shaped-from _ (c .before .before .before .before .before .before .before .before .before .before .before .before .before .before .prepare .ensures) (c .before .before .before .before .before .before .before .before .before .before .shaped .ensures)) (c .before .before .before .before .before .before .before .if3 .taken) (alone-from _ (c .before .before .before .before .before .before .before .before .before .before .before .before .before .before .prepare .ensures) (c .before .before .before .before .before .before .before .before .alone .ensures)) _ (under-from _ (c .before .before .before .before .before .before .before .before .before .before .before .before .before .before .prepare .ensures) (c .under .ensures))
+returns c =
+    let s = c .before .before .before .before .before .before .before .before .before .before .before .before .before .before .before .before .before .before .before .before .before .before .pre in
+    let e = c .before .before .before .before .before .before .before .before .before .before .before .before .before .before .prepare .ensures in
+    passes-as s (c .before .before .before .before .before .before .before .before .before .before .before .before .before .before .before .if1 .taken) (c .before .before .before .before .before .before .before .before .before .before .before .before .before .before .before .before .narrow .ensures) (c .before .before .before .before .before .before .before .before .before .if2 .taken)
+    (shaped-from s e (c .before .before .before .before .before .before .before .before .before .before .shaped .ensures)) (c .before .before .before .before .before .before .before .if3 .taken)
+    (alone-from s e (c .before .before .before .before .before .before .before .before .alone .ensures)) _ (under-from s e (c .under .ensures))
 
 returns-2 : tie.Need-returns-2
-returns-2 c = not-alone (c .before .before .before .before .before .before .before .before .before .before .before .before .before .before .before .pre) (c .if3 .left) (alone-from _ (c .before .before .before .before .before .before .before .prepare .ensures) (c .before .alone .ensures))
+returns-2 c =
+    let s = c .before .before .before .before .before .before .before .before .before .before .before .before .before .before .before .pre in
+    not-alone s (c .if3 .left) (alone-from s (c .before .before .before .before .before .before .before .prepare .ensures) (c .before .alone .ensures))
 
 returns-3 : tie.Need-returns-3
-returns-3 c = not-shaped (c .before .before .before .before .before .before .before .before .before .before .before .before .before .pre) (c .if2 .left) (shaped-from _ (c .before .before .before .before .before .prepare .ensures) (c .before .shaped .ensures))
+returns-3 c =
+    let s = c .before .before .before .before .before .before .before .before .before .before .before .before .before .pre in
+    not-shaped s (c .if2 .left) (shaped-from s (c .before .before .before .before .before .prepare .ensures) (c .before .shaped .ensures))
 
 returns-4 : tie.Need-returns-4
 returns-4 c = not-narrow (c .before .before .before .before .before .before .before .pre) (c .if1 .left) (c .before .narrow .ensures)
