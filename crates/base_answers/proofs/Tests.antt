@@ -9,8 +9,8 @@ answer-yes a = record { yes! = λ e. a; no! = λ e. absurd (true≢false e) }
 pub answer-no : {A : Type 0} → (A → ⊥) → Decides false A
 answer-no f = record { yes! = λ e. absurd (true≢false (sym e)); no! = λ e. f }
 
-pub settled : (r s : Bool) (A : Type 0) → Decides r A → Decides s A → r ≡ s
-settled true true A d e = refl
-settled false false A d e = refl
-settled true false A d e = absurd (e .no! refl (d .yes! refl))
-settled false true A d e = absurd (d .no! refl (e .yes! refl))
+pub decides-unique : (r s : Bool) (A : Type 0) → Decides r A → Decides s A → r ≡ s
+decides-unique true true A d e = refl
+decides-unique false false A d e = refl
+decides-unique true false A d e = absurd (e .no! refl (d .yes! refl))
+decides-unique false true A d e = absurd (d .no! refl (e .yes! refl))

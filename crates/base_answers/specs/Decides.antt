@@ -1,6 +1,6 @@
 -- Tests.
 --   Decides r A   the answer r is true exactly when A holds
--- That A settles the answer is `settled`, in proofs/Tests.antt.
+-- That A settles the answer is `decides-unique`, in proofs/Tests.antt.
 use mathlib.Core.Path.{_≡_}
 use mathlib.Core.Bool.{Bool, true, false}
 

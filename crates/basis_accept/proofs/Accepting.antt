@@ -3,7 +3,7 @@
 --   shaped-in, alone-in, under-in what the tests ask, one after the other
 --   not-narrow, not-shaped, not-alone, passes-as    the answer after each
 --   accepts-as, not-below         from seven rows to the 119 numbers
---   accepts-one                   two answers to one record are equal
+--   accepts-unique                   two answers to one record are equal
 use mathlib.Core.Path.{_≡_, refl, sym, ap, _∙_, subst}
 use mathlib.Core.Bool.{Bool, true, false}
 use mathlib.Core.List.{List}
@@ -25,7 +25,7 @@ use Rattle.math_ideals.proofs.Tests.{good-of, tests-of}
 use Rattle.field_open.specs.Refusal.{Accepted}
 use Rattle.basis_record.specs.Record.{setting, basisOf, IsRecord}
 use Rattle.field_series.specs.Keeps.{Kept, Known}
-use Rattle.field_series.specs.declared.Cubic.{Cubic}
+use Rattle.field_series.specs.declared.OpenedField.{OpenedField}
 use Rattle.basis_parts.specs.Frame.{Frame, frame, Fine, Short}
 use Rattle.poly_rows.proofs.Lengths.{row-short, monic-inverts}
 use Rattle.basis_record.specs.Seven.{Seven, seven, rowAt, AreRows, rowsOf}
@@ -37,14 +37,14 @@ use Rattle.basis_scale.proofs.Start.{meaning}
 use Rattle.basis_field.proofs.Keeps.{rows-hold, g-row, h-row, gh-row, holds-of, r-series, w-series, modulus, dr-is, dw-is, room}
 use Rattle.basis_field.proofs.Ground.{frameOf, frame-is, frame-by, fine}
 use Rattle.base_answers.specs.Decides.{Decides}
-use Rattle.base_answers.proofs.Tests.{answer-no, settled}
-use Rattle.basis_closed.specs.Closed.{Closed, Given, Room, longest, UnderIn, Under}
-use Rattle.basis_shape.specs.Lengths.{Below, Narrow, NarrowIn}
-use Rattle.basis_accept.specs.Tests.{ShapedIn, Shaped, Numbers, AloneIn, Alone}
-use Rattle.basis_accept.specs.Answer.{Seventeen, PassIn, Passes, Accepts}
+use Rattle.base_answers.proofs.Tests.{answer-no, decides-unique}
+use Rattle.basis_closed.specs.Closed.{Closed, Given, Room, longest, ClosedUnderRAndWAsks, Under}
+use Rattle.basis_shape.specs.Lengths.{Below, Narrow, RowsFitAsks}
+use Rattle.basis_accept.specs.Tests.{SizesRightAsks, Shaped, Numbers, NoCommonFactorAsks, Alone}
+use Rattle.basis_accept.specs.Answer.{Seventeen, PassesAsks, Passes, Accepts}
 
 -- ---- the field
-module _ (c : Cubic) {G H : List ℕ} (h : Kept c G H) (A : Accepted (c .field .p) G H) where
+module _ (c : OpenedField) {G H : List ℕ} (h : Kept c G H) (A : Accepted (c .field .p) G H) where
   abbrev p : ℕ
   p = c .field .p
 
@@ -128,9 +128,9 @@ each-row z h1 h2 k1 k2 (suc (suc (suc (suc (suc zero))))) = k2
 each-row z h1 h2 k1 k2 (suc (suc (suc (suc (suc (suc i)))))) = z .each 6
 
 -- ---- what is prepared of p in place of p
-module _ {c : Cubic} {b : Seven} (i : PassIn c b) {q : Modulus} (e : PreparedOf (c .field .p) q) where
-  pub shaped-by : (top : ℕ) → ShapedIn (frameOf c) top b → ShapedIn (frame q (c .r) (c .w) (c .field .dr) (c .field .dw)) top b
-  shaped-by top s = subst (λ F. ShapedIn F top b) (frame-by e (c .r) (c .w) (c .field .dr) (c .field .dw)) s
+module _ {c : OpenedField} {b : Seven} (i : PassesAsks c b) {q : Modulus} (e : PreparedOf (c .field .p) q) where
+  pub shaped-by : (top : ℕ) → SizesRightAsks (frameOf c) top b → SizesRightAsks (frame q (c .r) (c .w) (c .field .dr) (c .field .dw)) top b
+  shaped-by top s = subst (λ F. SizesRightAsks F top b) (frame-by e (c .r) (c .w) (c .field .dr) (c .field .dw)) s
 
   pub shaped-from : {o : Bool} → Shaped (frame q (c .r) (c .w) (c .field .dr) (c .field .dw)) b o → Shaped (frameOf c) b o
   shaped-from {o} s = subst (λ F. Shaped F b o) (sym (frame-by e (c .r) (c .w) (c .field .dr) (c .field .dw))) s
@@ -142,14 +142,14 @@ module _ {c : Cubic} {b : Seven} (i : PassIn c b) {q : Modulus} (e : PreparedOf 
   alone-from {o} s = subst (λ p. Alone p b o) (e .is) s
 
 -- ---- one test after the other
-module _ {c : Cubic} {b : Seven} (i : PassIn c b) where
+module _ {c : OpenedField} {b : Seven} (i : PassesAsks c b) where
   abbrev k₀ : Kept c (i .known .G) (i .known .H)
   k₀ = i .known .kept
 
   abbrev A₀ : Accepted (c .field .p) (i .known .G) (i .known .H)
   A₀ = k₀ .accepted
 
-  pub narrow-in : NarrowIn (b .m1) (b .m2) (b .n1) (b .n2)
+  pub narrow-in : RowsFitAsks (b .m1) (b .m2) (b .n1) (b .n2)
   narrow-in = record { h1 = i .rows .each 1 .is-row .size; h2 = i .rows .each 2 .is-row .size; k1 = i .rows .each 4 .is-row .size; k2 = i .rows .each 5 .is-row .size }
 
   pub not-narrow : {o : Bool} → o ≡ false → Decides o (Narrow (c .field .dw + 1) (c .field .dr + 1) (b .m1) (b .m2) (b .n1) (b .n2)) → Passes c b false
@@ -161,7 +161,7 @@ module _ {c : Cubic} {b : Seven} (i : PassIn c b) where
   pub not-alone : {o : Bool} → o ≡ false → Alone (c .field .p) b o → Passes c b false
   not-alone e a G H A h = answer-no (λ good. a G H A .no! e (good .scaled .seven))
 
-  pub alone-in : {q : Modulus} → PreparedOf (c .field .p) q → AloneIn q b
+  pub alone-in : {q : Modulus} → PreparedOf (c .field .p) q → NoCommonFactorAsks q b
   alone-in {q} e =
       let u : c .field .p ≡ q .p = sym (e .is) in
       record { modulus = e .prepared; prime = subst Prime u (A₀ .prime); rows = subst (λ p. AreRows p b) u (are-rows (i .rows)) }
@@ -174,7 +174,7 @@ module _ {c : Cubic} {b : Seven} (i : PassIn c b) where
     slim : Narrow (c .field .dw + 1) (c .field .dr + 1) (b .m1) (b .m2) (b .n1) (b .n2)
     slim = n .yes! e
 
-    pub shaped-in : ShapedIn (frameOf c) (c .field .dr + c .field .dw + 1) b
+    pub shaped-in : SizesRightAsks (frameOf c) (c .field .dr + c .field .dw + 1) b
     shaped-in =
         let l : c .field .dr + c .field .dw ≤ 16 = sum-low in
         let t : 5 ≤ c .field .p = A₀ .low in
@@ -208,7 +208,7 @@ module _ {c : Cubic} {b : Seven} (i : PassIn c b) where
             by-u = monic-inverts (A₀ .prime) (z .each 6 .is-row) (m .u, 0, v .one≢zero, m .U-lead);
           }
 
-      pub under-in : {q : Modulus} → PreparedOf (c .field .p) q → UnderIn q (c .field .g) (c .field .h) (c .field .gh) b
+      pub under-in : {q : Modulus} → PreparedOf (c .field .p) q → ClosedUnderRAndWAsks q (c .field .g) (c .field .h) (c .field .gh) b
       under-in {q} e =
           let u : c .field .p ≡ q .p = sym (e .is) in
           record { given = subst (λ p. Given p (c .field .g) (c .field .h) (c .field .gh)) u (given-of c k₀ A₀); modulus = e .prepared; room = subst (λ p. Room p b) u room-of }
@@ -229,12 +229,12 @@ short-of q e k = record { is-row = k .is-row q e; above = k .above }
 pub loaded-of : {B m0 m1 m2 n0 n1 n2 u : List ℕ} → Loaded B 0 m0 → Loaded B 1 m1 → Loaded B 2 m2 → Loaded B 3 n0 → Loaded B 4 n1 → Loaded B 5 n2 → Loaded B 6 u → SevenLoaded B (seven m0 m1 m2 n0 n1 n2 u)
 loaded-of {B} h0 h1 h2 k0 k1 k2 hu = record { each = each-of-seven (Loaded B) h0 h1 h2 k0 k1 k2 hu }
 
-module _ {c : Cubic} {B : List ℕ} where
+module _ {c : OpenedField} {B : List ℕ} where
   pub not-below : {o : Bool} → o ≡ false → Decides o (Below (c .field .p) B) → Accepts c B false
   not-below e n G H h = answer-no (λ rec. n .no! e (rec .each))
 
   module _ {o : Bool} (e : o ≡ true) (n : Decides o (Below (c .field .p) B)) {b : Seven} (l : SevenLoaded B b) where
-    pub pass-in : Known c → PassIn c b
+    pub pass-in : Known c → PassesAsks c b
     pass-in k = record {
       known = k;
       rows = record { each = every {b = b} (λ r. Short (c .field .p) r 17) (at 0 (omega arith)) (at 1 (omega arith)) (at 2 (omega arith)) (at 3 (omega arith)) (at 4 (omega arith)) (at 5 (omega arith)) (at 6 (omega arith)) };
@@ -253,5 +253,5 @@ module _ {c : Cubic} {B : List ℕ} where
       no! = λ q rec. s G H (h .accepted) h .no! q (rows-good (h .accepted) l (rec .good (h .accepted)));
     }
 
-pub accepts-one : {c : Cubic} {B : List ℕ} → Known c → (o o′ : Bool) → Accepts c B o → Accepts c B o′ → o ≡ o′
-accepts-one {c} {B} k o o′ h h′ = settled o o′ (IsRecord (c .field .p) (k .G) (k .H) B) (h (k .G) (k .H) (k .kept)) (h′ (k .G) (k .H) (k .kept))
+pub accepts-unique : {c : OpenedField} {B : List ℕ} → Known c → (o o′ : Bool) → Accepts c B o → Accepts c B o′ → o ≡ o′
+accepts-unique {c} {B} k o o′ h h′ = decides-unique o o′ (IsRecord (c .field .p) (k .G) (k .H) B) (h (k .G) (k .H) (k .kept)) (h′ (k .G) (k .H) (k .kept))

@@ -1,5 +1,5 @@
 -- Lengths and leading coefficients of polynomial parts decide the sizes.
---   part-m, part-n, twice-in   what `shaped` asks of its calls
+--   part-m, part-n, twice-in   what `sizes_right` asks of its calls
 --   numbers-of, shape-is       the shape of U and of the polynomial parts is the same as the sizes
 --   shaped-of                  so a test of the one is a test of the other
 use mathlib.Core.Path.{_≡_, refl, sym, ap, ap₂, _∙_, subst}
@@ -21,26 +21,26 @@ use Rattle.math_rows.specs.Row.{Row, Size, row, tpow, Floor}
 use Rattle.math_rows.proofs.Rows.{size-lead-at}
 use Rattle.math_rows.proofs.Floors.{sized, floor-lt, floor-top, floor-has, floor-le, floor-lead}
 use Rattle.math_rows.proofs.Unique.{cast-inj}
-use Rattle.poly_rows.specs.Leaf.{CrossBy, Crossed}
+use Rattle.poly_rows.specs.Leaf.{CrossInAsks, Crossed}
 use Rattle.poly_rows.proofs.Leaf.{cross-by}
 use Rattle.base_answers.specs.Decides.{Decides}
 use Rattle.basis_record.specs.Seven.{Seven}
 use Rattle.basis_parts.specs.Frame.{Frame, Meaning, Short, rd, Ser, rowμ, pt, X, Y, Ltμ, Hasμ}
-use Rattle.basis_parts.specs.Leaves.{PartIn, Parted}
+use Rattle.basis_parts.specs.Leaves.{PartAsks, Parted}
 use Rattle.basis_scale.specs.Based.{Z}
 use Rattle.basis_shape.specs.Lengths.{Shape}
-use Rattle.basis_accept.specs.Tests.{ShapedIn, Numbers}
+use Rattle.basis_accept.specs.Tests.{SizesRightAsks, Numbers}
 
--- ---- what `shaped` asks of its calls
-module _ {F : Frame} {top : ℕ} {b : Seven} (i : ShapedIn F top b) where
-  pub part-m : PartIn F (b .m1) (b .m2) top
+-- ---- what `sizes_right` asks of its calls
+module _ {F : Frame} {top : ℕ} {b : Seven} (i : SizesRightAsks F top b) where
+  pub part-m : PartAsks F (b .m1) (b .m2) top
   part-m = record { fine = i .fine; hb = i .h1; hc = i .h2; fits = i .fits; low-r = i .low-r; low-w = i .low-w }
 
-  pub part-n : PartIn F (b .n1) (b .n2) top
+  pub part-n : PartAsks F (b .n1) (b .n2) top
   part-n = record { fine = i .fine; hb = i .k1; hc = i .k2; fits = i .fits; low-r = i .low-r; low-w = i .low-w }
 
   -- 2a − x
-  pub twice-in : {a x : List ℕ} → Row (F .m .p) a → Row (F .m .p) x → CrossBy (F .m) 2 a 1 0 x 32
+  pub twice-in : {a x : List ℕ} → Row (F .m .p) a → Row (F .m .p) x → CrossInAsks (F .m) 2 a 1 0 x 32
   twice-in {a = a} {x = x} ha hx =
       let t : 2 < F .m .p = i .two in
       let (n, sa) = sized a in
@@ -48,7 +48,7 @@ module _ {F : Frame} {top : ℕ} {b : Seven} (i : ShapedIn F top b) where
       cross-by 32 (i .fine .modulus) t (omega arith) ha hx sa sx (subst (λ k. n ≤ k) (ha .size) (sa .fits)) (let l : m ≤ 32 = subst (λ k. m ≤ k) (hx .size) (sx .fits) in omega arith) (omega arith)
 
 -- ---- sizes
-module _ {F : Frame} (μ : Meaning F) {top : ℕ} {b : Seven} {mx my nx ny zm zn : List ℕ} (i : ShapedIn F top b)
+module _ {F : Frame} (μ : Meaning F) {top : ℕ} {b : Seven} {mx my nx ny zm zn : List ℕ} (i : SizesRightAsks F top b)
     (pmx : Parted F false (b .m1) (b .m2) top mx) (pmy : Parted F true (b .m1) (b .m2) top my) (pnx : Parted F false (b .n1) (b .n2) top nx) (pny : Parted F true (b .n1) (b .n2) top ny)
     (cm : Crossed (F .m .p) 2 (b .m0) 1 0 mx zm) (cn : Crossed (F .m .p) 2 (b .n0) 1 0 nx zn) where
   abbrev ρ : Reading (F .m .p)

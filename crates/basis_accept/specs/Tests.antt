@@ -22,7 +22,7 @@ use Rattle.basis_parts.specs.Frame.{Frame, Fine, Meaning, Short, rd, Ser, rowμ
 use Rattle.basis_scale.specs.Based.{Z}
 
 -- ---- sizes
-pub record ShapedIn (F : Frame) (top : ℕ) (b : Seven) : Type 0 where
+pub record SizesRightAsks (F : Frame) (top : ℕ) (b : Seven) : Type 0 where
   pub fine : Fine F
   pub two : 2 < F .m .p
   pub fits : top ≤ 32
@@ -48,7 +48,7 @@ abbrev pub Shaped : Frame → Seven → Bool → Type 0
 Shaped F b o = (μ : Meaning F) → Decides o (Numbers μ b)
 
 -- ---- the common factor
-pub record AloneIn (q : Modulus) (b : Seven) : Type 0 where
+pub record NoCommonFactorAsks (q : Modulus) (b : Seven) : Type 0 where
   pub modulus : Prepared q
   pub prime : Prime (q .p)
   pub rows : AreRows (q .p) b

@@ -1,9 +1,9 @@
 -- Rank and closure: from the answers on U, M and N to `Under`.
 --   lengths-in                    what `lengths_of` asks
 --   e-nonzero, e-inverts          e = M1 N2 − M2 N1 and the inverse of its leading coefficient
---   keep                          what `keeps` asks
---   no-rank no-U no-M of-N        the answer of `under`
---   under-one                     two answers of one question are equal
+--   keep                          what `closed_on` asks
+--   no-rank no-U no-M of-N        the answer of `closed_under_r_and_w`
+--   under-unique                     two answers of one question are equal
 use mathlib.Core.Path.{_≡_, refl, sym, ap, _∙_, subst}
 use mathlib.Core.Logic.{_≢_}
 use mathlib.Core.Bool.{Bool, true, false}
@@ -25,7 +25,7 @@ use Rattle.poly_rows.specs.Leaf.{Cut, Short}
 use Rattle.num_mod.specs.Prepared.{Prepared}
 use Rattle.num_mod.specs.declared.Modulus.{Modulus}
 use Rattle.poly_rows.specs.Division.{Inverts}
-use Rattle.poly_rows.proofs.Leaf.{size-one, zeros-row, zeros-size}
+use Rattle.poly_rows.proofs.Leaf.{size-unique, zeros-row, zeros-size}
 use Rattle.poly_rows.proofs.Lengths.{short-up, short-cut, fits-short}
 use Rattle.math_ideals.specs.Setting.{P}
 use Rattle.math_ideals.specs.Ideal.{det, Coords}
@@ -33,11 +33,11 @@ use Rattle.math_ideals.proofs.Sizes.{O-path}
 use Rattle.math_ideals.specs.Element.{times-r, times-w}
 use Rattle.field_open.specs.Refusal.{Accepted}
 use Rattle.basis_record.specs.Record.{setting, polyOf}
-use Rattle.base_answers.proofs.Tests.{answer-no, settled}
+use Rattle.base_answers.proofs.Tests.{answer-no, decides-unique}
 use Rattle.basis_record.specs.Seven.{Seven, rowsOf, Holds}
 use Rattle.basis_record.proofs.Sevens.{every}
-use Rattle.basis_lattice.specs.Coordinates.{LengthsIn, Found}
-use Rattle.basis_closed.specs.Closed.{UnderIn, Under, KeepsIn, Keeps, Kept, Closed, element}
+use Rattle.basis_lattice.specs.Coordinates.{LengthsOfAsks, Found}
+use Rattle.basis_closed.specs.Closed.{ClosedUnderRAndWAsks, Under, ClosedOnAsks, Keeps, Kept, Closed, element}
 use Rattle.basis_lattice.specs.declared.Lengths.{Lengths}
 use Rattle.basis_lattice.proofs.Members.{carried}
 
@@ -47,8 +47,8 @@ zeros = replicate 32 0
 pub zeros-short : {p : ℕ} → 1 < p → Short p zeros 10
 zeros-short l = record { is-row = zeros-row _ l; above = λ i k. zeros-size .above i (omega arith) }
 
-module _ {M : Modulus} {g h gh : List ℕ} {b : Seven} (i : UnderIn M g h gh b) where
-  pub lengths-in : {e : List ℕ} → Prepared M → e ≡ replicate 32 0 → LengthsIn M 17 b e
+module _ {M : Modulus} {g h gh : List ℕ} {b : Seven} (i : ClosedUnderRAndWAsks M g h gh b) where
+  pub lengths-in : {e : List ℕ} → Prepared M → e ≡ replicate 32 0 → LengthsOfAsks M 17 b e
   lengths-in w z = let r = i .room .rows in record {
     modulus = w;
     rows = λ j. r j .is-row;
@@ -75,10 +75,10 @@ module _ {M : Modulus} {g h gh : List ℕ} {b : Seven} (i : UnderIn M g h gh b) 
 
     module _ {ie : ℕ} (inv : Inverse (M .p) (getD e (l .e - 1) 0) ie) where
       e-inverts : Inverts (M .p) e ie
-      e-inverts = record { below = inv .below; law = λ n t. ap (λ j. (ie * getD e (j - 1) 0) % M .p) (size-one t (f .det .size)) ∙ ap (λ z. z % M .p) (mul-comm ie (getD e (l .e - 1) 0)) ∙ inv .law }
+      e-inverts = record { below = inv .below; law = λ n t. ap (λ j. (ie * getD e (j - 1) 0) % M .p) (size-unique t (f .det .size)) ∙ ap (λ z. z % M .p) (mul-comm ie (getD e (l .e - 1) 0)) ∙ inv .law }
 
       pub keep : {lg lh lk na nb nc : ℕ} {va vb vc : List ℕ} → Prepared M → Size g lg → Size h lh → Size gh lk → Short (M .p) va 17 → Short (M .p) vb 10 → Short (M .p) vc 10
-          → Size va na → Size vb nb → Size vc nc → KeepsIn M g lg h lh gh lk va na vb nb vc nc b l e ie
+          → Size va na → Size vb nb → Size vc nc → ClosedOnAsks M g lg h lh gh lk va na vb nb vc nc b l e ie
       keep w sg sh sk ha hb hc sa sb sc = record {
         given = i .given;
         modulus = w;
@@ -141,5 +141,5 @@ module _ {M : Modulus} {g h gh : List ℕ} {b : Seven} (i : UnderIn M g h gh b) 
         pub of-N : o₁ ≡ true → l .e ≢ 0 → {o₂ : Bool} → Keeps (M .p) g h gh (b .n0) (b .n1) (b .n2) b o₂ → Under (M .p) g h gh b o₂
         of-N t nz hN G H σ k = carried (closed-of σ nz (hU G H σ k .yes! tU) (hM G H σ k .yes! t)) (λ c. record { by-r = c .r-N; by-w = c .w-N }) (hN G H σ k)
 
-pub under-one : {p : ℕ} {g h gh G H : List ℕ} {b : Seven} (σ : Accepted p G H) → Holds σ g h gh → (o q : Bool) → Under p g h gh b o → Under p g h gh b q → o ≡ q
-under-one σ k o q x y = settled o q (Closed σ _) (x _ _ σ k) (y _ _ σ k)
+pub under-unique : {p : ℕ} {g h gh G H : List ℕ} {b : Seven} (σ : Accepted p G H) → Holds σ g h gh → (o q : Bool) → Under p g h gh b o → Under p g h gh b q → o ≡ q
+under-unique σ k o q x y = decides-unique o q (Closed σ _) (x _ _ σ k) (y _ _ σ k)

@@ -4,7 +4,7 @@
 --   Closed σ b         the lattice has rank 3, and r, w, r m, w m, r n, w n lie in it: `IsClosed` of crate math_ideals, by its names
 --   Keeps, Under       an answer that decides the one, the other, at each field that the rows g, h, gh hold
 --   Room p b           how long the rows of b are; with it all products on the way fit into 32 coefficients
--- Rows of a basis of a reduced ideal are no longer: crate basis_accept tests that first. Two answers of one question are equal: `under-one`.
+-- Rows of a basis of a reduced ideal are no longer: crate basis_accept tests that first. Two answers of one question are equal: `under-unique`.
 use mathlib.Core.Logic.{_≢_}
 use mathlib.Core.Bool.{Bool}
 use mathlib.Core.List.{List}
@@ -65,7 +65,7 @@ pub record Given (p : ℕ) (g h gh : List ℕ) : Type 0 where
   pub hh : Short p h 13
   pub hgh : Short p gh 17
 
-pub record UnderIn (q : Modulus) (g h gh : List ℕ) (b : Seven) : Type 0 where
+pub record ClosedUnderRAndWAsks (q : Modulus) (g h gh : List ℕ) (b : Seven) : Type 0 where
   pub given : Given (q .p) g h gh
   pub modulus : Prepared q
   pub room : Room (q .p) b
@@ -74,7 +74,7 @@ abbrev pub Under : ℕ → List ℕ → List ℕ → List ℕ → Seven → Bool
 Under p g h gh b o = (G H : List ℕ) (σ : Accepted p G H) → Holds σ g h gh → Decides o (Closed σ b)
 
 -- an element, the rows of the field and the basis with their lengths; e is not 0, and ie the inverse of its leading coefficient
-pub record KeepsIn (q : Modulus) (g : List ℕ) (lg : ℕ) (h : List ℕ) (lh : ℕ) (gh : List ℕ) (lk : ℕ) (va : List ℕ) (na : ℕ) (vb : List ℕ) (nb : ℕ) (vc : List ℕ) (nc : ℕ)
+pub record ClosedOnAsks (q : Modulus) (g : List ℕ) (lg : ℕ) (h : List ℕ) (lh : ℕ) (gh : List ℕ) (lk : ℕ) (va : List ℕ) (na : ℕ) (vb : List ℕ) (nb : ℕ) (vc : List ℕ) (nc : ℕ)
     (b : Seven) (l : Lengths) (e : List ℕ) (ie : ℕ) : Type 0 where
   pub given : Given (q .p) g h gh
   pub modulus : Prepared q

@@ -7,10 +7,10 @@ use num_mod::inverse;
 use poly_lent::times_in;
 use poly_rows::size;
 ghost use Rattle.basis_record.specs.Seven.{seven};
-ghost use Rattle.basis_closed.specs.Closed.{KeepsIn, Keeps, UnderIn, Under};
+ghost use Rattle.basis_closed.specs.Closed.{ClosedOnAsks, Keeps, ClosedUnderRAndWAsks, Under};
 
 // Whether r v and w v lie in the lattice, for v = va + vb r + vc w.
-fn keeps(
+fn closed_on(
     q: Modulus,
     g: &[u64; 32],
     lg: usize,
@@ -35,7 +35,7 @@ fn keeps(
     e: &[u64; 32],
     ie: u64,
 ) -> bool
-    requires { ⌜ KeepsIn q (now g) lg (now h) lh (now gh) lgh (now va) na (now vb) nb (now vc) nc (seven (now m0) (now m1) (now m2) (now n0) (now n1) (now n2) (now u)) l (now e) ie ⌝ }
+    requires { ⌜ ClosedOnAsks q (now g) lg (now h) lh (now gh) lgh (now va) na (now vb) nb (now vc) nc (seven (now m0) (now m1) (now m2) (now n0) (now n1) (now n2) (now u)) l (now e) ie ⌝ }
     ensures { λ o. ⌜ Keeps (q .p) (now (g .entry)) (now (h .entry)) (now (gh .entry)) (now (va .entry)) (now (vb .entry)) (now (vc .entry)) (seven (now (m0 .entry)) (now (m1 .entry)) (now (m2 .entry)) (now (n0 .entry)) (now (n1 .entry)) (now (n2 .entry)) (now (u .entry))) o ⌝ }
 {
     let mut ra: [u64; 32] = [0; 32];
@@ -88,7 +88,7 @@ fn keeps(
 }
 
 // Whether the lattice has rank 3 and is closed under products with r and w: U, M and N are enough.
-pub fn under(
+pub fn closed_under_r_and_w(
     q: Modulus,
     g: &[u64; 32],
     h: &[u64; 32],
@@ -101,7 +101,7 @@ pub fn under(
     n2: &[u64; 32],
     u: &[u64; 32],
 ) -> bool
-    requires { ⌜ UnderIn q (now g) (now h) (now gh) (seven (now m0) (now m1) (now m2) (now n0) (now n1) (now n2) (now u)) ⌝ }
+    requires { ⌜ ClosedUnderRAndWAsks q (now g) (now h) (now gh) (seven (now m0) (now m1) (now m2) (now n0) (now n1) (now n2) (now u)) ⌝ }
     ensures { λ o. ⌜ Under (q .p) (now (g .entry)) (now (h .entry)) (now (gh .entry)) (seven (now (m0 .entry)) (now (m1 .entry)) (now (m2 .entry)) (now (n0 .entry)) (now (n1 .entry)) (now (n2 .entry)) (now (u .entry))) o ⌝ }
 {
     let mut e: [u64; 32] = [0; 32];
@@ -115,7 +115,7 @@ pub fn under(
     let lh = size(h);
     let lk = size(gh);
     let z: [u64; 32] = [0; 32];
-    let one = keeps(
+    let one = closed_on(
         q,
         g,
         lg,
@@ -141,7 +141,7 @@ pub fn under(
         ie,
     );
     if one {
-        let of_m = keeps(
+        let of_m = closed_on(
             q,
             g,
             lg,
@@ -167,7 +167,7 @@ pub fn under(
             ie,
         );
         if of_m {
-            let of_n = keeps(
+            let of_n = closed_on(
                 q,
                 g,
                 lg,

@@ -11,12 +11,12 @@ use Rattle.num_mod.specs.declared.Modulus.{Modulus}
 use Rattle.num_mod.proofs.Prepared.{ready-prepared}
 use Rattle.field_open.specs.Refusal.{Accepted}
 use Rattle.field_series.specs.Keeps.{Keeps}
-use Rattle.field_series.specs.declared.Cubic.{Cubic}
+use Rattle.field_series.specs.declared.OpenedField.{OpenedField}
 use Rattle.basis_parts.specs.Frame.{Frame, frame, Fine, Meaning}
 use Rattle.basis_scale.proofs.Start.{fieldFrame, meaning}
 use Rattle.basis_field.proofs.Keeps.{dr-is, dw-is, r-series, w-series, r-row, w-row, modulus}
 
-abbrev pub frameOf : Cubic → Frame
+abbrev pub frameOf : OpenedField → Frame
 frameOf c = frame (ready (c .field .p)) (c .r) (c .w) (c .field .dr) (c .field .dw)
 
 pub frame-by : {p : ℕ} {q : Modulus} → PreparedOf p q → (r w : List ℕ) (dr dw : ℕ) → frame (ready p) r w dr dw ≡ frame q r w dr dw

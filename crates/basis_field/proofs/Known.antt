@@ -8,10 +8,10 @@ use Prim.Native.Nat.{ℕ}
 use Rattle.field_open.specs.Refusal.{Accepted}
 use Rattle.field_series.specs.Answer.{Expands}
 use Rattle.field_series.specs.Keeps.{Kept, Known}
-use Rattle.field_series.specs.declared.Expanded.{Expanded}
+use Rattle.field_series.specs.declared.OpenedAnswer.{OpenedAnswer}
 use Rattle.field_series.proofs.Answer.{expands-holding}
 
-module _ {p : ℕ} {G H : List ℕ} {e : Expanded} (opens : Expands p G H e) (z : e .refusal ≡ 0) where
+module _ {p : ℕ} {G H : List ℕ} {e : OpenedAnswer} (opens : Expands p G H e) (z : e .refusal ≡ 0) where
   pub prime-of : e .cubic .field .p ≡ p
   prime-of = expands-holding opens z .0
 

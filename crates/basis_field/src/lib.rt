@@ -4,7 +4,7 @@ ghost use Rattle.field_series.specs.Keeps.{Known};
 ghost use Rattle.basis_field.specs.First.{First};
 
 // The basis of the order of an opened field.
-pub fn order_basis(c: field_series::Cubic) -> [u16; 119]
+pub fn order_basis(c: field_series::OpenedField) -> [u16; 119]
     requires { ⌜ Known c ⌝ }
     ensures { λ b. ⌜ First c b ⌝ }
 {

@@ -10,7 +10,7 @@ use Rattle.math_rows.specs.Reading.{Reading}
 use Rattle.math_rows.specs.Made.{reading}
 use Rattle.math_rows.specs.Row.{row}
 use Rattle.poly_rows.specs.Leaf.{Product}
-use Rattle.poly_lent.specs.Sized.{DetOut}
+use Rattle.poly_lent.specs.Sized.{DetInGives}
 use Rattle.math_ideals.specs.Element.{O}
 use Rattle.math_ideals.specs.Ideal.{Coords}
 use Rattle.field_open.specs.Refusal.{Accepted}
@@ -19,7 +19,7 @@ use Rattle.basis_record.specs.Seven.{Seven, rowsOf, Holds}
 use Rattle.basis_lattice.specs.Coordinates.{Quotients}
 
 -- ---- the exact quotients: an element on rows, and in coordinates
-module _ {p : ℕ} {G H : List ℕ} (σ : Accepted p G H) (b : Seven) {e : List ℕ} {k : ℕ} (de : DetOut p (b .m1) (b .n2) (b .m2) (b .n1) e k) where
+module _ {p : ℕ} {G H : List ℕ} (σ : Accepted p G H) (b : Seven) {e : List ℕ} {k : ℕ} (de : DetInGives p (b .m1) (b .n2) (b .m2) (b .n1) e k) where
   abbrev ρ₁ : Reading p
   ρ₁ = reading p (σ .prime)
 

@@ -26,12 +26,12 @@ use Rattle.poly_rows.specs.Leaf.{Short}
 use Rattle.poly_rows.specs.Division.{Inverts, Divided}
 use Rattle.poly_rows.proofs.Division.{divided}
 use Rattle.poly_rows.proofs.Lengths.{size-below, size-of, inverts-has}
-use Rattle.poly_lent.specs.Sized.{BothIn, BothOut, LessOut, DivideOut}
+use Rattle.poly_lent.specs.Sized.{BothInAsks, BothInGives, LessInGives, DivideInGives}
 use Rattle.poly_lent.proofs.Mixing.{size-cut}
 use Rattle.base_answers.specs.Decides.{Decides}
 use Rattle.basis_record.specs.Seven.{Seven}
-use Rattle.basis_lattice.specs.Coordinates.{ElementIn, OuterOut}
-use Rattle.basis_lattice.specs.Lattice.{InsideIn, InsideAt, MemberAt}
+use Rattle.basis_lattice.specs.Coordinates.{ElementAsks, OuterGives}
+use Rattle.basis_lattice.specs.Lattice.{InsideAsks, InsideAt, MemberAt}
 use Rattle.basis_lattice.specs.declared.Lengths.{Lengths}
 use Rattle.basis_lattice.specs.declared.OuterSpans.{OuterSpans}
 
@@ -72,8 +72,8 @@ module _ {p : ℕ} (pr : Prime p) where
       small n hn = let k : suc n ≤ 17 = size-below hu (size-of ρ (hu .is-row) hn) in omega arith
 
   module _ {mul lim : ℕ} {a : List ℕ} {na : ℕ} {b : List ℕ} {nb : ℕ} {c : List ℕ} {nc : ℕ} {m : List ℕ} {lm : ℕ} {n : List ℕ} {ln : ℕ} {u : List ℕ} {lu : ℕ}
-      (i : InsideIn (of p mul lim) a na b nb c nc m lm n ln u lu) {q₁ r₁ q₂ r₂ : List ℕ} {j₁ k₁ j₂ k₂ : ℕ} (db : DivideOut p b u q₁ r₁ j₁ k₁) (dc : DivideOut p c u q₂ r₂ j₂ k₂) where
-    pub inside-both : BothIn (of p mul lim) r₁ k₁ m lm r₂ k₂ n ln a na
+      (i : InsideAsks (of p mul lim) a na b nb c nc m lm n ln u lu) {q₁ r₁ q₂ r₂ : List ℕ} {j₁ k₁ j₂ k₂ : ℕ} (db : DivideInGives p b u q₁ r₁ j₁ k₁) (dc : DivideInGives p c u q₂ r₂ j₂ k₂) where
+    pub inside-both : BothInAsks (of p mul lim) r₁ k₁ m lm r₂ k₂ n ln a na
     inside-both = record {
       modulus = i .modulus;
       hx = db .divided .r-row;
@@ -91,8 +91,8 @@ module _ {p : ℕ} (pr : Prime p) where
     }
 
   module _ {mul lim : ℕ} {a : List ℕ} {na : ℕ} {b : List ℕ} {nb : ℕ} {c : List ℕ} {nc : ℕ} {m : List ℕ} {lm : ℕ} {n : List ℕ} {ln : ℕ} {u : List ℕ} {lu : ℕ}
-      (i : InsideIn (of p mul lim) a na b nb c nc m lm n ln u lu) {q₁ r₁ q₂ r₂ h q r : List ℕ} {k l : ℕ} (db : Divided p b u q₁ r₁) (dc : Divided p c u q₂ r₂)
-      (hh : BothOut p true r₁ m true r₂ n a h k) (dh : Divided p h u q r) (s : Size r l) where
+      (i : InsideAsks (of p mul lim) a na b nb c nc m lm n ln u lu) {q₁ r₁ q₂ r₂ h q r : List ℕ} {k l : ℕ} (db : Divided p b u q₁ r₁) (dc : Divided p c u q₂ r₂)
+      (hh : BothInGives p true r₁ m true r₂ n a h k) (dh : Divided p h u q r) (s : Size r l) where
     -- h = a − (r₁ m + r₂ n)
     h-is : row ρ h ≡ row ρ a ⊕ ⊖ (row ρ r₁ ⊗ row ρ m ⊕ row ρ r₂ ⊗ row ρ n)
     h-is = hh .law pr ∙ solve L (var 0 :+ minus (var 1 :* var 2) :+ minus (var 3 :* var 4)) (var 0 :+ minus (var 1 :* var 2 :+ var 3 :* var 4)) tt (row ρ a ∷ row ρ r₁ ∷ row ρ m ∷ row ρ r₂ ∷ row ρ n ∷ [])
@@ -117,8 +117,8 @@ module _ {p : ℕ} (pr : Prime p) where
         (row ρ a ∷ row ρ b ∷ row ρ c ∷ row ρ m ∷ row ρ n ∷ row ρ u ∷ t .α ∷ row ρ q₁ ∷ row ρ q₂ ∷ row ρ r₁ ∷ row ρ r₂ ∷ [])
         (db .law pr, (dc .law pr, (t .U-α, tt)))) .0)
 
-  module _ {mul lim : ℕ} {va : List ℕ} {na : ℕ} {vb : List ℕ} {nb : ℕ} {vc : List ℕ} {nc : ℕ} {b : Seven} {l : Lengths} {e : List ℕ} {ie : ℕ} (i : ElementIn (of p mul lim) va na vb nb vc nc b l e ie)
-      {s t q₁ q₂ : List ℕ} {o : OuterSpans} (h : OuterOut p vb vc (b .m1) (b .m2) (b .n1) (b .n2) e s t q₁ q₂ o) {r₁ : List ℕ} {k : ℕ} (x : LessOut p q₁ e s r₁ k) where
+  module _ {mul lim : ℕ} {va : List ℕ} {na : ℕ} {vb : List ℕ} {nb : ℕ} {vc : List ℕ} {nc : ℕ} {b : Seven} {l : Lengths} {e : List ℕ} {ie : ℕ} (i : ElementAsks (of p mul lim) va na vb nb vc nc b l e ie)
+      {s t q₁ q₂ : List ℕ} {o : OuterSpans} (h : OuterGives p vb vc (b .m1) (b .m2) (b .n1) (b .n2) e s t q₁ q₂ o) {r₁ : List ℕ} {k : ℕ} (x : LessInGives p q₁ e s r₁ k) where
     he : (n : ℕ) × Has 𝓥 (row ρ e) n
     he = inverts-has pr (i .he) (i .by-e)
 
@@ -131,7 +131,7 @@ module _ {p : ℕ} (pr : Prime p) where
     pub member-first : k ≢ 0 → MemberAt pr va vb vc b e → ⊥
     member-first ne m = ne (first m .0)
 
-    module _ {r₂ : List ℕ} {j : ℕ} (y : LessOut p q₂ e t r₂ j) where
+    module _ {r₂ : List ℕ} {j : ℕ} (y : LessInGives p q₂ e t r₂ j) where
       by-γ : Divided p t e q₂ r₂
       by-γ = divided p t e q₂ r₂ (h .γ-is .quotient) (y .is-row) (y .law)
 

@@ -17,10 +17,10 @@ use Rattle.math_rows.specs.Made.{reading}
 use Rattle.math_rows.specs.Row.{Row, Size, row}
 use Rattle.math_rows.proofs.Rows.{size-le}
 use Rattle.poly_rows.proofs.Lengths.{by-inverse}
-use Rattle.poly_lent.specs.Sized.{BothIn, BothOut, DetBy, QuotientBy, QuotientOut}
+use Rattle.poly_lent.specs.Sized.{BothInAsks, BothInGives, DetInAsks, QuotientAsks, QuotientInGives}
 use Rattle.poly_lent.proofs.Mixing.{size-cut}
 use Rattle.basis_record.specs.Seven.{Seven, Three, three}
-use Rattle.basis_lattice.specs.Coordinates.{Quotients, AreLengths, ElementIn, OuterOut, CoordsIn, Coordinates}
+use Rattle.basis_lattice.specs.Coordinates.{Quotients, AreLengths, ElementAsks, OuterGives, CoordinatesAsks, Coordinates}
 use Rattle.basis_lattice.specs.declared.Lengths.{Lengths}
 use Rattle.basis_lattice.specs.declared.OuterSpans.{OuterSpans}
 
@@ -35,8 +35,8 @@ measured k h0 h1 h2 k0 k1 k2 hu (suc (suc (suc (suc zero)))) = k1
 measured k h0 h1 h2 k0 k1 k2 hu (suc (suc (suc (suc (suc zero))))) = k2
 measured k h0 h1 h2 k0 k1 k2 hu (suc (suc (suc (suc (suc (suc i)))))) = hu
 
-module _ {M : Modulus} {va : List ℕ} {na : ℕ} {vb : List ℕ} {nb : ℕ} {vc : List ℕ} {nc : ℕ} {b : Seven} {l : Lengths} {e : List ℕ} {ie : ℕ} (h : ElementIn M va na vb nb vc nc b l e ie) where
-  pub s-asks : {s : List ℕ} → s ≡ replicate 32 0 → DetBy M vb nb (b .n2) (l .n2) vc nc (b .n1) (l .n1) s
+module _ {M : Modulus} {va : List ℕ} {na : ℕ} {vb : List ℕ} {nb : ℕ} {vc : List ℕ} {nc : ℕ} {b : Seven} {l : Lengths} {e : List ℕ} {ie : ℕ} (h : ElementAsks M va na vb nb vc nc b l e ie) where
+  pub s-asks : {s : List ℕ} → s ≡ replicate 32 0 → DetInAsks M vb nb (b .n2) (l .n2) vc nc (b .n1) (l .n1) s
   s-asks z = record {
     modulus = h .modulus;
     hx = h .hb;
@@ -52,7 +52,7 @@ module _ {M : Modulus} {va : List ℕ} {na : ℕ} {vb : List ℕ} {nb : ℕ} {vc
     blank = z;
   }
 
-  pub t-asks : {t : List ℕ} → t ≡ replicate 32 0 → DetBy M vc nc (b .m1) (l .m1) vb nb (b .m2) (l .m2) t
+  pub t-asks : {t : List ℕ} → t ≡ replicate 32 0 → DetInAsks M vc nc (b .m1) (l .m1) vb nb (b .m2) (l .m2) t
   t-asks z = record {
     modulus = h .modulus;
     hx = h .hc;
@@ -68,21 +68,21 @@ module _ {M : Modulus} {va : List ℕ} {na : ℕ} {vb : List ℕ} {nb : ℕ} {vc
     blank = z;
   }
 
-  pub by-e : {s r : List ℕ} {n : ℕ} → Row (M .p) s → Size s n → r ≡ replicate 32 0 → QuotientBy M s n e (l .e) ie r
+  pub by-e : {s r : List ℕ} {n : ℕ} → Row (M .p) s → Size s n → r ≡ replicate 32 0 → QuotientAsks M s n e (l .e) ie r
   by-e hs n z = record { inp = by-inverse (bare (h .modulus)) hs (h .he) (h .by-e); modulus = h .modulus; sa = n; sb = h .se; blank = z }
 
-  pub by-u : {s r : List ℕ} {n : ℕ} → Row (M .p) s → Size s n → r ≡ replicate 32 0 → QuotientBy M s n (b .u) (l .u) 1 r
+  pub by-u : {s r : List ℕ} {n : ℕ} → Row (M .p) s → Size s n → r ≡ replicate 32 0 → QuotientAsks M s n (b .u) (l .u) 1 r
   by-u hs n z = record { inp = by-inverse (bare (h .modulus)) hs (h .rows 6) (h .by-u); modulus = h .modulus; sa = n; sb = h .sizes 6; blank = z }
 
-module _ {M : Modulus} {va : List ℕ} {na : ℕ} {vb : List ℕ} {nb : ℕ} {vc : List ℕ} {nc : ℕ} {b : Seven} {l : Lengths} {e : List ℕ} {ie : ℕ} {t : Three} (c : CoordsIn M va na vb nb vc nc b l e ie t)
-    {s₁ t₁ β γ : List ℕ} {o : OuterSpans} (h : OuterOut (M .p) vb vc (b .m1) (b .m2) (b .n1) (b .n2) e s₁ t₁ β γ o) where
+module _ {M : Modulus} {va : List ℕ} {na : ℕ} {vb : List ℕ} {nb : ℕ} {vc : List ℕ} {nc : ℕ} {b : Seven} {l : Lengths} {e : List ℕ} {ie : ℕ} {t : Three} (c : CoordinatesAsks M va na vb nb vc nc b l e ie t)
+    {s₁ t₁ β γ : List ℕ} {o : OuterSpans} (h : OuterGives (M .p) vb vc (b .m1) (b .m2) (b .n1) (b .n2) e s₁ t₁ β γ o) where
   β-is : (pr : Prime (M .p)) {x y z : reading (M .p) pr .𝓥 .L .El} → Quotients pr va vb vc b e x y z → row (reading (M .p) pr) β ≡ y
   β-is pr {x} {y} q = h .β-is .exact .law pr y (q .β-poly) (sym (q .e-β) ∙ sym (h .s-is .law pr))
 
   γ-is : (pr : Prime (M .p)) {x y z : reading (M .p) pr .𝓥 .L .El} → Quotients pr va vb vc b e x y z → row (reading (M .p) pr) γ ≡ z
   γ-is pr {x} {y} {z} q = h .γ-is .exact .law pr z (q .γ-poly) (sym (q .e-γ) ∙ sym (h .t-is .law pr))
 
-  pub both-asks : BothIn M β (o .b) (b .m0) (l .m0) γ (o .c) (b .n0) (l .n0) va na
+  pub both-asks : BothInAsks M β (o .b) (b .m0) (l .m0) γ (o .c) (b .n0) (l .n0) va na
   both-asks =
       let i = c .inp in
       let ρ = reading (M .p) (c .prime) in
@@ -105,7 +105,7 @@ module _ {M : Modulus} {va : List ℕ} {na : ℕ} {vb : List ℕ} {nb : ℕ} {vc
         cr = size-cut (i .ha) (i .sa);
       }
 
-  pub coords-made : {k α : List ℕ} {n m : ℕ} → BothOut (M .p) true β (b .m0) true γ (b .n0) va k n → QuotientOut (M .p) k (b .u) α m
+  pub coords-made : {k α : List ℕ} {n m : ℕ} → BothInGives (M .p) true β (b .m0) true γ (b .n0) va k n → QuotientInGives (M .p) k (b .u) α m
       → Coordinates (M .p) va vb vc b e (three α β γ) (record { a = m; b = o .b; c = o .c })
   coords-made {k} {α} g ha = record {
     spans = record { ha = ha .quotient .is-row; hb = h .β-is .quotient .is-row; hc = h .γ-is .quotient .is-row; sa = ha .size; sb = h .β-is .size; sc = h .γ-is .size };

@@ -1,9 +1,9 @@
 -- Coordinates in a basis as quotients.
 --   Quotients      α, β, γ with e β = b N2 − c N1, e γ = c M1 − b M2, U α = a − (β M0 + γ N0): then a + b r + c w = α U + β M + γ N
---   lengths_of     LengthsIn, Found: the lengths of the seven rows, by number, and e = M1 N2 − M2 N1 with its length
---   ElementIn      an element and a basis on rows, with lengths; e and U can be divided by, and the products for β and γ fit
---   outer          OuterIn, OuterOut: what e divides for β and γ, and the two quotients
---   coordinates    CoordsIn, Coordinates: there are exact quotients, and the products on the way fit; three rows hold them
+--   lengths_of     LengthsOfAsks, Found: the lengths of the seven rows, by number, and e = M1 N2 − M2 N1 with its length
+--   ElementAsks      an element and a basis on rows, with lengths; e and U can be divided by, and the products for β and γ fit
+--   outer          OuterAsks, OuterGives: what e divides for β and γ, and the two quotients
+--   coordinates    CoordinatesAsks, Coordinates: there are exact quotients, and the products on the way fit; three rows hold them
 -- Exact quotients are the coordinates of the theory: `quot-of`, `coords-from` in proofs/Elements.antt.
 use mathlib.Core.Path.{_≡_}
 use mathlib.Core.List.{List}
@@ -21,7 +21,7 @@ use Rattle.poly_rows.specs.Leaf.{Cut, Fits}
 use Rattle.num_mod.specs.Prepared.{Prepared}
 use Rattle.num_mod.specs.declared.Modulus.{Modulus}
 use Rattle.poly_rows.specs.Division.{Inverts}
-use Rattle.poly_lent.specs.Sized.{DetOut, QuotientOut}
+use Rattle.poly_lent.specs.Sized.{DetInGives, QuotientInGives}
 use Rattle.basis_record.specs.Seven.{Seven, seven, rowAt, AreRows, Three, Blank}
 use Rattle.basis_lattice.specs.declared.Lengths.{Lengths}
 use Rattle.basis_lattice.specs.declared.OuterSpans.{OuterSpans}
@@ -56,7 +56,7 @@ lengthAt l (suc (suc (suc (suc (suc (suc i)))))) = l .u
 abbrev pub AreLengths : Seven → Lengths → Type 0
 AreLengths b l = (i : ℕ) → Size (rowAt b i) (lengthAt l i)
 
-pub record LengthsIn (q : Modulus) (cap : ℕ) (b : Seven) (e : List ℕ) : Type 0 where
+pub record LengthsOfAsks (q : Modulus) (cap : ℕ) (b : Seven) (e : List ℕ) : Type 0 where
   pub modulus : Prepared q
   pub rows : AreRows (q .p) b
   pub ends : (i : ℕ) → Cut (rowAt b i) cap
@@ -66,10 +66,10 @@ pub record LengthsIn (q : Modulus) (cap : ℕ) (b : Seven) (e : List ℕ) : Type
 
 pub record Found (p : ℕ) (b : Seven) (e : List ℕ) (l : Lengths) : Type 0 where
   pub sizes : AreLengths b l
-  pub det : DetOut p (b .m1) (b .n2) (b .m2) (b .n1) e (l .e)
+  pub det : DetInGives p (b .m1) (b .n2) (b .m2) (b .n1) e (l .e)
 
 -- ---- quotients
-pub record ElementIn (q : Modulus) (va : List ℕ) (na : ℕ) (vb : List ℕ) (nb : ℕ) (vc : List ℕ) (nc : ℕ) (b : Seven) (l : Lengths) (e : List ℕ) (ie : ℕ) : Type 0 where
+pub record ElementAsks (q : Modulus) (va : List ℕ) (na : ℕ) (vb : List ℕ) (nb : ℕ) (vc : List ℕ) (nc : ℕ) (b : Seven) (l : Lengths) (e : List ℕ) (ie : ℕ) : Type 0 where
   pub modulus : Prepared q
   pub ha : Row (q .p) va
   pub hb : Row (q .p) vb
@@ -88,27 +88,27 @@ pub record ElementIn (q : Modulus) (va : List ℕ) (na : ℕ) (vb : List ℕ) (n
   pub c-m1 : Fits vc (b .m1)
   pub b-m2 : Fits vb (b .m2)
 
-pub record OuterIn (q : Modulus) (vb : List ℕ) (nb : ℕ) (vc : List ℕ) (nc : ℕ) (m1 m2 n1 n2 : List ℕ) (l : Lengths) (e : List ℕ) (ie : ℕ) (s t β γ : List ℕ) : Type 0 where
+pub record OuterAsks (q : Modulus) (vb : List ℕ) (nb : ℕ) (vc : List ℕ) (nc : ℕ) (m1 m2 n1 n2 : List ℕ) (l : Lengths) (e : List ℕ) (ie : ℕ) (s t β γ : List ℕ) : Type 0 where
   pub va : List ℕ
   pub na : ℕ
   pub m0 : List ℕ
   pub n0 : List ℕ
   pub u : List ℕ
-  pub inp : ElementIn q va na vb nb vc nc (seven m0 m1 m2 n0 n1 n2 u) l e ie
+  pub inp : ElementAsks q va na vb nb vc nc (seven m0 m1 m2 n0 n1 n2 u) l e ie
   pub blank-s : s ≡ replicate 32 0
   pub blank-t : t ≡ replicate 32 0
   pub blank-β : β ≡ replicate 32 0
   pub blank-γ : γ ≡ replicate 32 0
 
-pub record OuterOut (p : ℕ) (vb vc m1 m2 n1 n2 e s t β γ : List ℕ) (o : OuterSpans) : Type 0 where
-  pub s-is : DetOut p vb n2 vc n1 s (o .s)
-  pub t-is : DetOut p vc m1 vb m2 t (o .t)
-  pub β-is : QuotientOut p s e β (o .b)
-  pub γ-is : QuotientOut p t e γ (o .c)
+pub record OuterGives (p : ℕ) (vb vc m1 m2 n1 n2 e s t β γ : List ℕ) (o : OuterSpans) : Type 0 where
+  pub s-is : DetInGives p vb n2 vc n1 s (o .s)
+  pub t-is : DetInGives p vc m1 vb m2 t (o .t)
+  pub β-is : QuotientInGives p s e β (o .b)
+  pub γ-is : QuotientInGives p t e γ (o .c)
 
 -- ---- coordinates
-pub record CoordsIn (q : Modulus) (va : List ℕ) (na : ℕ) (vb : List ℕ) (nb : ℕ) (vc : List ℕ) (nc : ℕ) (b : Seven) (l : Lengths) (e : List ℕ) (ie : ℕ) (o : Three) : Type 0 where
-  pub inp : ElementIn q va na vb nb vc nc b l e ie
+pub record CoordinatesAsks (q : Modulus) (va : List ℕ) (na : ℕ) (vb : List ℕ) (nb : ℕ) (vc : List ℕ) (nc : ℕ) (b : Seven) (l : Lengths) (e : List ℕ) (ie : ℕ) (o : Three) : Type 0 where
+  pub inp : ElementAsks q va na vb nb vc nc b l e ie
   pub prime : Prime (q .p)
   pub α : reading (q .p) prime .𝓥 .L .El
   pub β : reading (q .p) prime .𝓥 .L .El

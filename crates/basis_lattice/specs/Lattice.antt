@@ -15,10 +15,10 @@ use Rattle.num_mod.specs.Prepared.{Prepared}
 use Rattle.num_mod.specs.declared.Modulus.{Modulus}
 use Rattle.poly_rows.specs.Division.{Inverts}
 use Rattle.basis_record.specs.Seven.{Seven}
-use Rattle.basis_lattice.specs.Coordinates.{Quotients, ElementIn}
+use Rattle.basis_lattice.specs.Coordinates.{Quotients, ElementAsks}
 use Rattle.basis_lattice.specs.declared.Lengths.{Lengths}
 
-pub record InsideIn (q : Modulus) (a : List ℕ) (na : ℕ) (b : List ℕ) (nb : ℕ) (c : List ℕ) (nc : ℕ) (m : List ℕ) (lm : ℕ) (n : List ℕ) (ln : ℕ) (u : List ℕ) (lu : ℕ) : Type 0 where
+pub record InsideAsks (q : Modulus) (a : List ℕ) (na : ℕ) (b : List ℕ) (nb : ℕ) (c : List ℕ) (nc : ℕ) (m : List ℕ) (lm : ℕ) (n : List ℕ) (ln : ℕ) (u : List ℕ) (lu : ℕ) : Type 0 where
   pub modulus : Prepared q
   pub prime : Prime (q .p)
   pub ha : Row (q .p) a
@@ -44,8 +44,8 @@ pub record InsideAt {p : ℕ} (pr : Prime p) (a b c m n u : List ℕ) : Type 0 w
 abbrev pub Inside : ℕ → List ℕ → List ℕ → List ℕ → List ℕ → List ℕ → List ℕ → Bool → Type 0
 Inside p a b c m n u o = (pr : Prime p) → Decides o (InsideAt pr a b c m n u)
 
-pub record MemberIn (q : Modulus) (va : List ℕ) (na : ℕ) (vb : List ℕ) (nb : ℕ) (vc : List ℕ) (nc : ℕ) (b : Seven) (l : Lengths) (e : List ℕ) (ie : ℕ) : Type 0 where
-  pub inp : ElementIn q va na vb nb vc nc b l e ie
+pub record MemberAsks (q : Modulus) (va : List ℕ) (na : ℕ) (vb : List ℕ) (nb : ℕ) (vc : List ℕ) (nc : ℕ) (b : Seven) (l : Lengths) (e : List ℕ) (ie : ℕ) : Type 0 where
+  pub inp : ElementAsks q va na vb nb vc nc b l e ie
   pub prime : Prime (q .p)
   pub h0 : Short (q .p) (b .m0) 17
   pub k0 : Short (q .p) (b .n0) 17

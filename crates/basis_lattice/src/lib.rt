@@ -8,8 +8,8 @@ use poly_lent::quotient_in;
 use poly_rows::size_from;
 ghost use mathlib.Core.Path.{_≡_};
 ghost use Rattle.basis_record.specs.Seven.{seven, three};
-ghost use Rattle.basis_lattice.specs.Coordinates.{LengthsIn, Found, OuterIn, OuterOut, CoordsIn, Coordinates};
-ghost use Rattle.basis_lattice.specs.Lattice.{InsideIn, Inside, MemberIn, Member};
+ghost use Rattle.basis_lattice.specs.Coordinates.{LengthsOfAsks, Found, OuterAsks, OuterGives, CoordinatesAsks, Coordinates};
+ghost use Rattle.basis_lattice.specs.Lattice.{InsideAsks, Inside, MemberAsks, Member};
 
 // The lengths of the seven rows of a basis, and of e = M1 N2 - M2 N1.
 pub struct Lengths {
@@ -36,7 +36,7 @@ pub fn lengths_of(
     u: &[u64; 32],
     e: &mut [u64; 32],
 ) -> Lengths
-    requires { ⌜ LengthsIn q cap (seven (now m0) (now m1) (now m2) (now n0) (now n1) (now n2) (now u)) (now e) ⌝ }
+    requires { ⌜ LengthsOfAsks q cap (seven (now m0) (now m1) (now m2) (now n0) (now n1) (now n2) (now u)) (now e) ⌝ }
     ensures { λ l. ⌜ Found (q .p) (seven (now (m0 .entry)) (now (m1 .entry)) (now (m2 .entry)) (now (n0 .entry)) (now (n1 .entry)) (now (n2 .entry)) (now (u .entry))) (now (e .exit)) l ⌝ }
 {
     let a = size_from(m0, cap);
@@ -86,8 +86,8 @@ fn outer(
     b: &mut [u64; 32],
     c: &mut [u64; 32],
 ) -> OuterSpans
-    requires { ⌜ OuterIn q (now vb) nb (now vc) nc (now m1) (now m2) (now n1) (now n2) l (now e) ie (now s) (now t) (now b) (now c) ⌝ }
-    ensures { λ o. ⌜ OuterOut (q .p) (now (vb .entry)) (now (vc .entry)) (now (m1 .entry)) (now (m2 .entry)) (now (n1 .entry)) (now (n2 .entry)) (now (e .entry)) (now (s .exit)) (now (t .exit)) (now (b .exit)) (now (c .exit)) o ⌝ }
+    requires { ⌜ OuterAsks q (now vb) nb (now vc) nc (now m1) (now m2) (now n1) (now n2) l (now e) ie (now s) (now t) (now b) (now c) ⌝ }
+    ensures { λ o. ⌜ OuterGives (q .p) (now (vb .entry)) (now (vc .entry)) (now (m1 .entry)) (now (m2 .entry)) (now (n1 .entry)) (now (n2 .entry)) (now (e .entry)) (now (s .exit)) (now (t .exit)) (now (b .exit)) (now (c .exit)) o ⌝ }
 {
     let ls = det_in(q, vb, nb, n2, l.n2, vc, nc, n1, l.n1, s);
     let lb = quotient_in(q, s, ls, e, l.e, ie, b);
@@ -131,7 +131,7 @@ pub fn coordinates(
     b: &mut [u64; 32],
     c: &mut [u64; 32],
 ) -> Spans
-    requires { ⌜ CoordsIn q (now va) na (now vb) nb (now vc) nc (seven (now m0) (now m1) (now m2) (now n0) (now n1) (now n2) (now u)) l (now e) ie (three (now a) (now b) (now c)) ⌝ }
+    requires { ⌜ CoordinatesAsks q (now va) na (now vb) nb (now vc) nc (seven (now m0) (now m1) (now m2) (now n0) (now n1) (now n2) (now u)) l (now e) ie (three (now a) (now b) (now c)) ⌝ }
     ensures { λ o. ⌜ Coordinates (q .p) (now (va .entry)) (now (vb .entry)) (now (vc .entry)) (seven (now (m0 .entry)) (now (m1 .entry)) (now (m2 .entry)) (now (n0 .entry)) (now (n1 .entry)) (now (n2 .entry)) (now (u .entry))) (now (e .entry)) (three (now (a .exit)) (now (b .exit)) (now (c .exit))) o ⌝ }
 {
     let mut s: [u64; 32] = [0; 32];
@@ -181,7 +181,7 @@ fn inside(
     u: &[u64; 32],
     lu: usize,
 ) -> bool
-    requires { ⌜ InsideIn q (now a) na (now b) nb (now c) nc (now m) lm (now n) ln (now u) lu ⌝ }
+    requires { ⌜ InsideAsks q (now a) na (now b) nb (now c) nc (now m) lm (now n) ln (now u) lu ⌝ }
     ensures { λ o. ⌜ Inside (q .p) (now (a .entry)) (now (b .entry)) (now (c .entry)) (now (m .entry)) (now (n .entry)) (now (u .entry)) o ⌝ }
 {
     let mut d: [u64; 32] = [0; 32];
@@ -215,7 +215,7 @@ pub fn member(
     e: &[u64; 32],
     ie: u64,
 ) -> bool
-    requires { ⌜ MemberIn q (now va) na (now vb) nb (now vc) nc (seven (now m0) (now m1) (now m2) (now n0) (now n1) (now n2) (now u)) l (now e) ie ⌝ }
+    requires { ⌜ MemberAsks q (now va) na (now vb) nb (now vc) nc (seven (now m0) (now m1) (now m2) (now n0) (now n1) (now n2) (now u)) l (now e) ie ⌝ }
     ensures { λ o. ⌜ Member (q .p) (now (va .entry)) (now (vb .entry)) (now (vc .entry)) (seven (now (m0 .entry)) (now (m1 .entry)) (now (m2 .entry)) (now (n0 .entry)) (now (n1 .entry)) (now (n2 .entry)) (now (u .entry))) (now (e .entry)) o ⌝ }
 {
     let mut s: [u64; 32] = [0; 32];

@@ -26,7 +26,7 @@ use Rattle.math_rows.proofs.Rows.{const-zero, const-neg, psum-ext, psum-plus, r
 use Rattle.math_rows.proofs.Floors.{fall-in, fall-out}
 use Rattle.math_rows.proofs.Turn.{lt-scale}
 use Rattle.basis_parts.specs.Frame.{Frame, Meaning, Short, rd, pt, side, Ltμ}
-use Rattle.basis_parts.specs.Leaves.{SumIn, Summed, TermsIn, PlainIn, Terms, along, PartIn, PartAtIn, PartAt, partAt, signed, Parted}
+use Rattle.basis_parts.specs.Leaves.{PlusAsks, Summed, TermsAsks, PlainAsks, Terms, along, PartAsks, PartAtAsks, PartAt, partAt, signed, Parted}
 use Rattle.basis_parts.proofs.Laid.{Laid, laid-short, laid-row}
 
 -- ---- numbers
@@ -138,7 +138,7 @@ signed-zero : (R : CRing) (e : Bool) → signed (R .ops) e (R .ops .𝟎) (R .op
 signed-zero R true = solve R (zer :+ minus zer) zer tt []
 signed-zero R false = R .laws .add-zero (R .ops .𝟎)
 
-module _ {F : Frame} (e : Bool) {b c : List ℕ} {top : ℕ} (g : PartIn F b c top) (μ : Meaning F) where
+module _ {F : Frame} (e : Bool) {b c : List ℕ} {top : ℕ} (g : PartAsks F b c top) (μ : Meaning F) where
   pub part-floor : Ltμ μ (rd μ .𝓥 .L .ops .add (side μ e (pt μ b c)) (rd μ .𝓥 .L .ops .neg (psum (rd μ) 32 (λ j. partAt F (μ .prime) e b c top j)))) 0
   part-floor =
       let ρ = rd μ in
@@ -156,7 +156,7 @@ module _ {F : Frame} (e : Bool) {b c : List ℕ} {top : ℕ} (g : PartIn F b c t
       let lw : F .dw ≤ top = g .low-w in
       ap₂ (signed (ρ .𝓥 .K .ops) e) (along-low ρ b (F .r) (F .dr) j (N._-_ top (F .dr)) (omega arith)) (along-low ρ c (F .w) (F .dw) j (N._-_ top (F .dw)) (omega arith)) ∙ signed-zero (ρ .𝓥 .K) e
 
-pub parted : {F : Frame} {e : Bool} {b c : List ℕ} {top : ℕ} {z : List ℕ} {i : ℕ} → PartIn F b c top → Laid (F .m .p) top (λ pr j. partAt F pr e b c top j) z i → top ≤ i → Parted F e b c top z
+pub parted : {F : Frame} {e : Bool} {b c : List ℕ} {top : ℕ} {z : List ℕ} {i : ℕ} → PartAsks F b c top → Laid (F .m .p) top (λ pr j. partAt F pr e b c top j) z i → top ≤ i → Parted F e b c top z
 parted {F} {e} {b} {c} {top} {z} g h l = record {
   short = laid-short h l;
   law = λ μ. lt-eq (rd μ .𝓥) (part-floor e g μ) (ap (λ y. rd μ .𝓥 .L .ops .add (side μ e (pt μ b c)) (rd μ .𝓥 .L .ops .neg y)) (sym (laid-row h l (μ .prime) (part-high e g μ))));
@@ -169,7 +169,7 @@ pub record Run (p q : ℕ) (b : List ℕ) (n : ℕ) (s : List ℕ) (d j i a : �
   pub below : a < q
   pub law : (pr : Prime p) → reading p pr .cast a ≡ along (reading p pr) b s d j i
 
-module _ {p q : ℕ} {b : List ℕ} {n : ℕ} {s : List ℕ} {d j : ℕ} (g : TermsIn p q b n s d j) where
+module _ {p q : ℕ} {b : List ℕ} {n : ℕ} {s : List ℕ} {d j : ℕ} (g : TermsAsks p q b n s d j) where
   pub run-start : (i : ℕ) → i ≡ N._-_ j d → Run p q b n s d j i 0
   run-start i e =
       let h : j ≤ N._+_ n d = g .high in
@@ -182,7 +182,7 @@ module _ {p q : ℕ} {b : List ℕ} {n : ℕ} {s : List ℕ} {d j : ℕ} (g : Te
       low pr (yes u) = along-low (reading p pr) b s d j i (omega arith)
       low pr (no u) = let z : i ≡ 0 = omega arith in ap (along (reading p pr) b s d j) z ∙ along-none (reading p pr) b s d j
 
-  pub run-in : (i a : ℕ) → Run p q b n s d j i a → SumIn p q a (getD b i 0) (getD s (N._-_ (N._+_ d i) j) 0)
+  pub run-in : (i a : ℕ) → Run p q b n s d j i a → PlusAsks p q a (getD b i 0) (getD s (N._-_ (N._+_ d i) j) 0)
   run-in i a h = record { modulus = g .modulus; is-q = g .is-q; hx = h .below; hy = g .hb .each i; hz = g .hs .each (N._-_ (N._+_ d i) j) }
 
   pub run-more : (i a a′ : ℕ) → i < n → Run p q b n s d j i a → Summed p q a (getD b i 0) (getD s (N._-_ (N._+_ d i) j) 0) a′ → Run p q b n s d j (N._+_ i 1) a′
@@ -198,7 +198,7 @@ module _ {p q : ℕ} {b : List ℕ} {n : ℕ} {s : List ℕ} {d j : ℕ} (g : Te
   run-end i a l h = let u : i ≤ n = h .upto in let e : i ≡ n = omega arith in record { below = h .below; law = λ pr. h .law pr ∙ ap (along (reading p pr) b s d j) e }
 
 -- the invariant of `plain`: the sum is kept as it is
-module _ {p : ℕ} {b : List ℕ} {n : ℕ} {s : List ℕ} {d j : ℕ} (g : PlainIn p b n s d j) where
+module _ {p : ℕ} {b : List ℕ} {n : ℕ} {s : List ℕ} {d j : ℕ} (g : PlainAsks p b n s d j) where
   abbrev Heap : ℕ → ℕ → Type 0
   Heap i a = Run p (N._+_ (N._*_ i (N._*_ p p)) 1) b n s d j i a
 
@@ -244,7 +244,7 @@ module _ {p : ℕ} {b : List ℕ} {n : ℕ} {s : List ℕ} {d j : ℕ} (g : Plai
       record { below = omega arith; law = λ pr. h .law pr ∙ ap (along (reading p pr) b s d j) e }
 
 -- ---- one coefficient of a size, from two sums; p divides q
-module _ {F : Frame} {b c : List ℕ} {top j : ℕ} (g : PartIn F b c top) (q Q x y : ℕ) (none : (pr : Prime (F .m .p)) → reading (F .m .p) pr .cast q ≡ reading (F .m .p) pr .𝓥 .K .ops .𝟎)
+module _ {F : Frame} {b c : List ℕ} {top j : ℕ} (g : PartAsks F b c top) (q Q x y : ℕ) (none : (pr : Prime (F .m .p)) → reading (F .m .p) pr .cast q ≡ reading (F .m .p) pr .𝓥 .K .ops .𝟎)
     (hx : Terms (F .m .p) Q b (N._-_ top (F .dr)) (F .r) (F .dr) j x) (hy : Terms (F .m .p) Q c (N._-_ top (F .dw)) (F .w) (F .dw) j y) (le : y ≤ q) where
   pos : 0 < F .m .p
   pos = let k : 1 < F .m .p = g .fine .modulus .big in omega arith

@@ -22,7 +22,7 @@ use Rattle.math_rows.specs.Row.{Size, tpow, psum}
 use Rattle.math_rows.proofs.Rows.{const-zero, psum-cut, psum-lt, psum-lead}
 use Rattle.math_rows.proofs.Floors.{floor-lt, floor-top}
 use Rattle.basis_parts.specs.Frame.{Frame, Meaning, rd, pt, side, Ltμ, Hasμ}
-use Rattle.basis_parts.specs.Leaves.{PartIn, PartAt, partAt, Parted, TopIn, Topped, Led}
+use Rattle.basis_parts.specs.Leaves.{PartAsks, PartAt, partAt, Parted, TopOfAsks, Topped, Led}
 use Rattle.basis_parts.specs.declared.Top.{Top}
 use Rattle.basis_parts.proofs.Leaves.{part-floor, part-high}
 
@@ -55,7 +55,7 @@ module _ {p : ℕ} (ρ : Reading p) where
       lead-eq 𝓥 (𝓥 .lead-add (psum-at n d f l (lt-eq 𝓥 (lt-add 𝓥 u (lt-neg 𝓥 (lt-up 𝓥 (suc d) h (omega arith)))) (solve L (var 0 :+ minus (var 0 :+ minus (var 1))) (var 1) tt (z ∷ psum ρ n f ∷ [])))) (lt-up 𝓥 d h (omega arith)))
       (solve L (var 1 :+ (var 0 :+ minus (var 1))) (var 0) tt (z ∷ psum ρ n f ∷ [])) (K .laws .add-zero (f d))
 
-module _ {F : Frame} (e : Bool) {b c : List ℕ} {top : ℕ} (g : PartIn F b c top) (μ : Meaning F) where
+module _ {F : Frame} (e : Bool) {b c : List ℕ} {top : ℕ} (g : PartAsks F b c top) (μ : Meaning F) where
   pub part-lt : Ltμ μ (side μ e (pt μ b c)) top
   part-lt =
       let ρ = rd μ in
@@ -74,7 +74,7 @@ pub record Seek (F : Frame) (e : Bool) (b c : List ℕ) (low l j : ℕ) : Type 0
   pub upto : j ≤ l
   pub ends : (μ : Meaning F) → Ltμ μ (side μ e (pt μ b c)) j
 
-module _ {F : Frame} {e : Bool} {b c : List ℕ} {top l low : ℕ} (g : TopIn F e b c top l low) where
+module _ {F : Frame} {e : Bool} {b c : List ℕ} {top l low : ℕ} (g : TopOfAsks F e b c top l low) where
   pub seek-start : Seek F e b c low l l
   seek-start = record { from = g .room; upto = omega arith; ends = g .ends }
 

@@ -21,7 +21,7 @@ use Rattle.basis_parts.specs.Frame.{Frame, Fine, Meaning, Short, rd, pt,
 use Rattle.basis_parts.specs.declared.Top.{Top}
 
 -- ---- sums of products, kept below p p
-pub record SumIn (p q x y z : ℕ) : Type 0 where
+pub record PlusAsks (p q x y z : ℕ) : Type 0 where
   pub modulus : IsModulus p
   pub is-q : q ≡ p * p
   pub hx : x < q
@@ -37,7 +37,7 @@ unfoldable pub along : {p : ℕ} (ρ : Reading p) (b s : List ℕ) (d j n : ℕ)
 along ρ b s d j zero = ρ .𝓥 .K .ops .𝟎
 along ρ b s d j (suc n) = ρ .𝓥 .K .ops .add (along ρ b s d j n) (ρ .𝓥 .K .ops .mul (ρ .cast (getD b n 0)) (ρ .cast (fallAt s (d + n) j)))
 
-pub record TermsIn (p q : ℕ) (b : List ℕ) (n : ℕ) (s : List ℕ) (d j : ℕ) : Type 0 where
+pub record TermsAsks (p q : ℕ) (b : List ℕ) (n : ℕ) (s : List ℕ) (d j : ℕ) : Type 0 where
   pub modulus : IsModulus p
   pub is-q : q ≡ p * p
   pub hb : Row p b
@@ -45,8 +45,8 @@ pub record TermsIn (p q : ℕ) (b : List ℕ) (n : ℕ) (s : List ℕ) (d j : �
   pub fits : n + d ≤ 32
   pub high : j ≤ n + d
 
-pub record PlainIn (p : ℕ) (b : List ℕ) (n : ℕ) (s : List ℕ) (d j : ℕ) : Type 0 where
-  pub inp : TermsIn p (p * p) b n s d j
+pub record PlainAsks (p : ℕ) (b : List ℕ) (n : ℕ) (s : List ℕ) (d j : ℕ) : Type 0 where
+  pub inp : TermsAsks p (p * p) b n s d j
   pub small : p < 65536
 
 pub record Terms (p q : ℕ) (b : List ℕ) (n : ℕ) (s : List ℕ) (d j r : ℕ) : Type 0 where
@@ -54,7 +54,7 @@ pub record Terms (p q : ℕ) (b : List ℕ) (n : ℕ) (s : List ℕ) (d j r : �
   pub law : (pr : Prime p) → reading p pr .cast r ≡ along (reading p pr) b s d j n
 
 -- ---- polynomial parts
-pub record PartIn (F : Frame) (b c : List ℕ) (top : ℕ) : Type 0 where
+pub record PartAsks (F : Frame) (b c : List ℕ) (top : ℕ) : Type 0 where
   pub fine : Fine F
   pub hb : Short (F .m .p) b (top - F .dr)
   pub hc : Short (F .m .p) c (top - F .dw)
@@ -62,18 +62,18 @@ pub record PartIn (F : Frame) (b c : List ℕ) (top : ℕ) : Type 0 where
   pub low-r : F .dr ≤ top
   pub low-w : F .dw ≤ top
 
-pub record PartAtIn (F : Frame) (q : ℕ) (b c : List ℕ) (top j : ℕ) : Type 0 where
-  pub inp : PartIn F b c top
+pub record PartAtAsks (F : Frame) (q : ℕ) (b c : List ℕ) (top j : ℕ) : Type 0 where
+  pub inp : PartAsks F b c top
   pub is-q : q ≡ F .m .p * F .m .p
   pub high : j < top
 
 -- the same into z
-pub record PartBy (F : Frame) (b c : List ℕ) (top : ℕ) (z : List ℕ) : Type 0 where
-  pub inp : PartIn F b c top
+pub record FloorInAsks (F : Frame) (b c : List ℕ) (top : ℕ) (z : List ℕ) : Type 0 where
+  pub inp : PartAsks F b c top
   pub hz : Short (F .m .p) z top
 
-pub record QuickAtIn (F : Frame) (q : ℕ) (b c : List ℕ) (top j : ℕ) : Type 0 where
-  pub inp : PartAtIn F q b c top j
+pub record QuickAtAsks (F : Frame) (q : ℕ) (b c : List ℕ) (top j : ℕ) : Type 0 where
+  pub inp : PartAtAsks F q b c top j
   pub small : F .m .p < 65536
 
 -- x + y or x − y
@@ -94,8 +94,8 @@ pub record Parted (F : Frame) (e : Bool) (b c : List ℕ) (top : ℕ) (z : List 
   pub law : (μ : Meaning F) → Floor (rd μ) (side μ e (pt μ b c)) z
 
 -- ---- leading terms: the size ends before l
-pub record TopIn (F : Frame) (e : Bool) (b c : List ℕ) (top l low : ℕ) : Type 0 where
-  pub inp : PartIn F b c top
+pub record TopOfAsks (F : Frame) (e : Bool) (b c : List ℕ) (top l low : ℕ) : Type 0 where
+  pub inp : PartAsks F b c top
   pub fits : l ≤ top
   pub room : low ≤ l
   pub ends : (μ : Meaning F) → Ltμ μ (side μ e (pt μ b c)) l

@@ -5,7 +5,7 @@ use num_mod::reduce;
 ghost use mathlib.Core.Path.{_≡_};
 ghost use Prim.Native.Nat.{_+_, _*_, _-_, _%_, _<_, _≤_};
 ghost use Rattle.basis_parts.specs.Given.{given};
-ghost use Rattle.basis_parts.specs.Leaves.{SumIn, Summed, TermsIn, Terms, PlainIn, PartIn, PartBy, PartAtIn, QuickAtIn, PartAt, Parted, TopIn, Topped, Led};
+ghost use Rattle.basis_parts.specs.Leaves.{PlusAsks, Summed, TermsAsks, Terms, PlainAsks, PartAsks, FloorInAsks, PartAtAsks, QuickAtAsks, PartAt, Parted, TopOfAsks, Topped, Led};
 
 // A prepared modulus, the degrees of two series, and the bound of sizes: one more than the largest degree that may occur
 pub struct Bounds {
@@ -17,7 +17,7 @@ pub struct Bounds {
 
 // x + y z, less q = p p where it reaches that
 fn plus(p: u64, q: u64, x: u64, y: u64, z: u64) -> u64
-    requires { ⌜ SumIn p q x y z ⌝ }
+    requires { ⌜ PlusAsks p q x y z ⌝ }
     ensures { λ r. ⌜ Summed p q x y z r ⌝ }
 {
     let s = x + y * z;
@@ -33,7 +33,7 @@ fn over(j: usize, d: usize) -> usize
 
 // The coefficient at t^j of b times the series s of degree d, from n terms of b; below q = p p.
 fn terms(p: u64, q: u64, b: &[u64; 32], n: usize, s: &[u64; 32], d: usize, j: usize) -> u64
-    requires { ⌜ TermsIn p q (now b) n (now s) d j ⌝ }
+    requires { ⌜ TermsAsks p q (now b) n (now s) d j ⌝ }
     ensures { λ r. ⌜ Terms p q (now (b .entry)) n (now (s .entry)) d j r ⌝ }
 {
     let mut i = over(j, d);
@@ -48,7 +48,7 @@ fn terms(p: u64, q: u64, b: &[u64; 32], n: usize, s: &[u64; 32], d: usize, j: us
 
 // The same where the sum fits as it is, for p below 2^16
 fn plain(p: u64, b: &[u64; 32], n: usize, s: &[u64; 32], d: usize, j: usize) -> u64
-    requires { ⌜ PlainIn p (now b) n (now s) d j ⌝ }
+    requires { ⌜ PlainAsks p (now b) n (now s) d j ⌝ }
     ensures { λ r. ⌜ Terms p (32 * (p * p) + 1) (now (b .entry)) n (now (s .entry)) d j r ⌝ }
 {
     let mut i = over(j, d);
@@ -61,7 +61,7 @@ fn plain(p: u64, b: &[u64; 32], n: usize, s: &[u64; 32], d: usize, j: usize) -> 
 }
 
 // The coefficient at t^j of b r + c w, or of b r - c w, for every p
-fn part_at(
+fn floor_at(
     f: Bounds,
     q: u64,
     minus: bool,
@@ -71,7 +71,7 @@ fn part_at(
     w: &[u64; 32],
     j: usize,
 ) -> u64
-    requires { ⌜ PartAtIn (given f (now r) (now w)) q (now b) (now c) (f .top) j ⌝ }
+    requires { ⌜ PartAtAsks (given f (now r) (now w)) q (now b) (now c) (f .top) j ⌝ }
     ensures { λ v. ⌜ PartAt (given f (now (r .entry)) (now (w .entry))) minus (now (b .entry)) (now (c .entry)) (f .top) j v ⌝ }
 {
     let p = f.m.p;
@@ -98,7 +98,7 @@ fn quick_at(
     w: &[u64; 32],
     j: usize,
 ) -> u64
-    requires { ⌜ QuickAtIn (given f (now r) (now w)) q (now b) (now c) (f .top) j ⌝ }
+    requires { ⌜ QuickAtAsks (given f (now r) (now w)) q (now b) (now c) (f .top) j ⌝ }
     ensures { λ v. ⌜ PartAt (given f (now (r .entry)) (now (w .entry))) minus (now (b .entry)) (now (c .entry)) (f .top) j v ⌝ }
 {
     let m = f.m;
@@ -126,19 +126,19 @@ fn digit(
     w: &[u64; 32],
     j: usize,
 ) -> u64
-    requires { ⌜ PartAtIn (given f (now r) (now w)) q (now b) (now c) (f .top) j ⌝ }
+    requires { ⌜ PartAtAsks (given f (now r) (now w)) q (now b) (now c) (f .top) j ⌝ }
     ensures { λ v. ⌜ PartAt (given f (now (r .entry)) (now (w .entry))) minus (now (b .entry)) (now (c .entry)) (f .top) j v ⌝ }
 {
     let p = f.m.p;
     if p < 65536 {
         quick_at(f, q, minus, b, c, r, w, j)
     } else {
-        part_at(f, q, minus, b, c, r, w, j)
+        floor_at(f, q, minus, b, c, r, w, j)
     }
 }
 
 // The polynomial part of b r + c w, or of b r - c w, into z
-pub fn part_in(
+pub fn floor_in(
     f: Bounds,
     minus: bool,
     b: &[u64; 32],
@@ -147,7 +147,7 @@ pub fn part_in(
     w: &[u64; 32],
     z: &mut [u64; 32],
 )
-    requires { ⌜ PartBy (given f (now r) (now w)) (now b) (now c) (f .top) (now z) ⌝ }
+    requires { ⌜ FloorInAsks (given f (now r) (now w)) (now b) (now c) (f .top) (now z) ⌝ }
     ensures { λ _. ⌜ Parted (given f (now (r .entry)) (now (w .entry))) minus (now (b .entry)) (now (c .entry)) (f .top) (now (z .exit)) ⌝ }
 {
     let p = f.m.p;
@@ -162,7 +162,7 @@ pub fn part_in(
 }
 
 // The same as a row of its own
-pub fn part(
+pub fn floor(
     f: Bounds,
     minus: bool,
     b: &[u64; 32],
@@ -170,11 +170,11 @@ pub fn part(
     r: &[u64; 32],
     w: &[u64; 32],
 ) -> [u64; 32]
-    requires { ⌜ PartIn (given f (now r) (now w)) (now b) (now c) (f .top) ⌝ }
+    requires { ⌜ PartAsks (given f (now r) (now w)) (now b) (now c) (f .top) ⌝ }
     ensures { λ z. ⌜ Parted (given f (now (r .entry)) (now (w .entry))) minus (now (b .entry)) (now (c .entry)) (f .top) z ⌝ }
 {
     let mut z: [u64; 32] = [0; 32];
-    part_in(f, minus, b, c, r, w, &mut z);
+    floor_in(f, minus, b, c, r, w, &mut z);
     z
 }
 
@@ -196,7 +196,7 @@ pub fn top_of(
     l: usize,
     low: usize,
 ) -> Top
-    requires { ⌜ TopIn (given f (now r) (now w)) minus (now b) (now c) (f .top) l low ⌝ }
+    requires { ⌜ TopOfAsks (given f (now r) (now w)) minus (now b) (now c) (f .top) l low ⌝ }
     ensures { λ t. ⌜ Topped (given f (now (r .entry)) (now (w .entry))) minus (now (b .entry)) (now (c .entry)) low l t ⌝ }
 {
     let p = f.m.p;
@@ -222,7 +222,7 @@ pub fn lead_of(
     r: &[u64; 32],
     w: &[u64; 32],
 ) -> u64
-    requires { ⌜ PartIn (given f (now r) (now w)) (now b) (now c) (f .top) ⌝ }
+    requires { ⌜ PartAsks (given f (now r) (now w)) (now b) (now c) (f .top) ⌝ }
     ensures { λ v. ⌜ Led (given f (now (r .entry)) (now (w .entry))) minus (now (b .entry)) (now (c .entry)) v ⌝ }
 {
     let t = top_of(f, minus, b, c, r, w, f.top, 0);

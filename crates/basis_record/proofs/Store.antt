@@ -16,7 +16,7 @@ use Rattle.math_rows.specs.Row.{Row, row, coefs}
 use Rattle.math_rows.proofs.Tab.{length-tab, at-tab, zeros-at}
 use Rattle.math_rows.proofs.Rows.{row-upto, row-tab, psum-ext}
 use Rattle.basis_record.specs.Record.{part}
-use Rattle.basis_record.specs.Store.{StoreIn, Stored, LoadIn, Loaded}
+use Rattle.basis_record.specs.Store.{StoredAsks, Stored, LoadAsks, Loaded}
 
 -- ---- what was stored
 pub stored-part : (B : List ℕ) (i : ℕ) (a B′ : List ℕ) → Stored B i a B′ → ((j : ℕ) → 17 ≤ j → getD a j 0 ≡ 0) → {p : ℕ} (ρ : Reading p) → row ρ (part i B′) ≡ row ρ a
@@ -85,7 +85,7 @@ storing-more B i a b j li lj h = record {
     more k (inl l) = inl l
     more k (inr l) = inr (omega arith)
 
-pub storing-end : (B : List ℕ) (i : ℕ) (a b : List ℕ) (n j : ℕ) → StoreIn B i a n → n ≤ j → Storing B i a b j → Stored B i a b
+pub storing-end : (B : List ℕ) (i : ℕ) (a b : List ℕ) (n j : ℕ) → StoredAsks B i a n → n ≤ j → Storing B i a b j → Stored B i a b
 storing-end B i a b n j g l h = record { size = h .size; here = λ k w. at k (decLt k j); there = λ k o. h .there k (same k o) }
   where
     at : (k : ℕ) → Dec (k < j) → getD b (17 * i + k) 0 ≡ getD a k 0

@@ -1,5 +1,5 @@
 -- Rows in the record of 119 numbers.
---   StoreIn B i a n   B is 0 from row i on, and a ends before n, which is at most 17
+--   StoredAsks B i a n   B is 0 from row i on, and a ends before n, which is at most 17
 --   Stored B i a B′   B′ is B with row i taken from a
 --   Loaded B i r      r is row i of B, with zeros up to 32
 --   SevenLoaded B b   b is the seven rows of B, so loaded
@@ -15,7 +15,7 @@ use Rattle.math_rows.specs.Row.{row, Row}
 use Rattle.basis_record.specs.Record.{part}
 use Rattle.basis_record.specs.Seven.{Seven, rowAt}
 
-pub record StoreIn (B : List ℕ) (i : ℕ) (a : List ℕ) (n : ℕ) : Type 0 where
+pub record StoredAsks (B : List ℕ) (i : ℕ) (a : List ℕ) (n : ℕ) : Type 0 where
   pub size : length B ≡ 119
   pub blank : (k : ℕ) → 17 * i ≤ k → getD B k 0 ≡ 0
   pub row : i < 7
@@ -28,7 +28,7 @@ pub record Stored (B : List ℕ) (i : ℕ) (a B′ : List ℕ) : Type 0 where
   pub here : (j : ℕ) → j < 17 → getD B′ (17 * i + j) 0 ≡ getD a j 0
   pub there : (k : ℕ) → (k < 17 * i) ⊎ (17 * i + 17 ≤ k) → getD B′ k 0 ≡ getD B k 0
 
-pub record LoadIn (B : List ℕ) (i : ℕ) : Type 0 where
+pub record LoadAsks (B : List ℕ) (i : ℕ) : Type 0 where
   pub size : length B ≡ 119
   pub row : i < 7
 

@@ -1,16 +1,11 @@
 // The basis record: seven rows of 17 coefficients, M0, M1, M2, N0, N1, N2, U. Here a row is put into it and taken out of it.
+use base_lists::wide;
 ghost use mathlib.Core.Path.{_≡_};
-ghost use Rattle.basis_record.specs.Store.{StoreIn, Stored, LoadIn, Loaded};
-
-fn wide(x: u16) -> u64
-    ensures { λ r. ⌜ r ≡ x ⌝ }
-{
-    x as u64
-}
+ghost use Rattle.basis_record.specs.Store.{StoredAsks, Stored, LoadAsks, Loaded};
 
 // Row i of the record from a, which ends before n; the record is 0 from that row on.
 pub fn stored(rows: &mut [u16; 119], i: usize, a: &[u64; 32], n: usize)
-    requires { ⌜ StoreIn (now rows) i (now a) n ⌝ }
+    requires { ⌜ StoredAsks (now rows) i (now a) n ⌝ }
     ensures { λ _. ⌜ Stored (now (rows .entry)) i (now (a .entry)) (now (rows .exit)) ⌝ }
 {
     let at = 17 * i;
@@ -23,7 +18,7 @@ pub fn stored(rows: &mut [u16; 119], i: usize, a: &[u64; 32], n: usize)
 
 // Row i of the record, as a row of 32
 pub fn load(rows: &[u16; 119], i: usize) -> [u64; 32]
-    requires { ⌜ LoadIn (now rows) i ⌝ }
+    requires { ⌜ LoadAsks (now rows) i ⌝ }
     ensures { λ r. ⌜ Loaded (now (rows .entry)) i r ⌝ }
 {
     let at = 17 * i;

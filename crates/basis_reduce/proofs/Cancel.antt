@@ -21,10 +21,10 @@ use Rattle.math_rows.proofs.Turn.{comb-drop}
 use Rattle.math_rows.proofs.Floors.{sized}
 use Rattle.math_turns.specs.Points.{Pt, Turned}
 use Rattle.math_turns.proofs.Turn.{turned-side, b-lt, c-lt}
-use Rattle.poly_rows.specs.Leaf.{CrossBy, CrossOut}
+use Rattle.poly_rows.specs.Leaf.{CrossInAsks, CrossInGives}
 use Rattle.basis_parts.specs.Frame.{Frame, Fine, Meaning, Short, rd, Ser, pt, X, Y, side, Ltμ, shift, rowμ}
-use Rattle.basis_parts.specs.Leaves.{PartIn, TopIn, Topped}
-use Rattle.basis_reduce.specs.Clear.{Rows, Room, RoomAt, CancelIn, CancelOut}
+use Rattle.basis_parts.specs.Leaves.{PartAsks, TopOfAsks, Topped}
+use Rattle.basis_reduce.specs.Clear.{Rows, Room, RoomAt, CanceledAsks, CanceledGives}
 use Rattle.basis_parts.specs.declared.Top.{Top}
 
 module _ {p : ℕ} (ρ : Reading p) where
@@ -39,7 +39,7 @@ module _ {p : ℕ} (ρ : Reading p) where
           let z : k + d < j = above v (has-move v (k + d) 0 (has-mul v (v .K .ops .𝟏, v .one≢zero, tpow-lead ρ k) (size-has ρ h s)) (omega arith)) g in
           shift-high l k i (omega arith) ∙ s .above (i - k) (omega arith)
 
-module _ {F : Frame} {e : Bool} {ab ac bb bc : List ℕ} {a b : Top} {top low : ℕ} (i : CancelIn F e ab ac a bb bc b top low) where
+module _ {F : Frame} {e : Bool} {ab ac bb bc : List ℕ} {a b : Top} {top low : ℕ} (i : CanceledAsks F e ab ac a bb bc b top low) where
   abbrev k : ℕ
   k = a .n - b .n
 
@@ -61,7 +61,7 @@ module _ {F : Frame} {e : Bool} {ab ac bb bc : List ℕ} {a b : Top} {top low : 
       let u : a .n ≤ top = i .ta .upto in
       omega arith
 
-  pub cancel-b : CrossBy (F .m) (b .c) ab (a .c) k bb (top - F .dr)
+  pub cancel-b : CrossInAsks (F .m) (b .c) ab (a .c) k bb (top - F .dr)
   unfolding moved-up
   cancel-b =
       let σ = i .some in
@@ -77,7 +77,7 @@ module _ {F : Frame} {e : Bool} {ab ac bb bc : List ℕ} {a b : Top} {top low : 
         above = shift-above (rd σ) bb k (top - F .dr) (i .hb .hb .is-row) (b-lt (rd σ) (σ .r) (σ .w) {a = moved-up} (F .dr) (top - F .dr) (σ .two) (σ .r-deg) up-x up-y (omega arith));
       }
 
-  pub cancel-c : CrossBy (F .m) (b .c) ac (a .c) k bc (top - F .dw)
+  pub cancel-c : CrossInAsks (F .m) (b .c) ac (a .c) k bc (top - F .dw)
   unfolding moved-up
   cancel-c =
       let σ = i .some in
@@ -99,11 +99,11 @@ module _ {F : Frame} {e : Bool} {ab ac bb bc : List ℕ} {a b : Top} {top low : 
       let v : b .n ≤ a .n = i .over in
       comb-drop (rd μ) k (i .ta .lead (omega arith) μ) (i .tb .lead u μ) (omega arith)
 
-  module _ {nb nc : List ℕ} (xb : CrossOut (F .m .p) (b .c) ab (a .c) k bb (top - F .dr) nb) (xc : CrossOut (F .m .p) (b .c) ac (a .c) k bc (top - F .dw) nc) where
+  module _ {nb nc : List ℕ} (xb : CrossInGives (F .m .p) (b .c) ab (a .c) k bb (top - F .dr) nb) (xc : CrossInGives (F .m .p) (b .c) ac (a .c) k bc (top - F .dw) nc) where
     turned-at : (μ : Meaning F) → Turned (rd μ) (rd μ .cast (b .c)) (rd μ .cast (a .c)) k (pt μ ab ac) (pt μ bb bc) (pt μ nb nc)
     turned-at μ = record { at-b = xb .crossed .law (μ .prime); at-c = xc .crossed .law (μ .prime) }
 
-    pub cancel-top : TopIn F e nb nc top (a .n - 1) low
+    pub cancel-top : TopOfAsks F e nb nc top (a .n - 1) low
     cancel-top =
         let u : low < b .n = i .past in
         let v : b .n ≤ a .n = i .over in
@@ -114,5 +114,5 @@ module _ {F : Frame} {e : Bool} {ab ac bb bc : List ℕ} {a b : Top} {top low : 
           ends = λ μ. lt-eq (rd μ .𝓥) (cancel-drop μ) (sym (turned-side (rd μ) (μ .r) (μ .w) e (turned-at μ)));
         }
 
-    pub cancel-made : {t : Top} → Topped F e nb nc low (a .n - 1) t → CancelOut F e ab ac a bb bc b top low nb nc t
+    pub cancel-made : {t : Top} → Topped F e nb nc low (a .n - 1) t → CanceledGives F e ab ac a bb bc b top low nb nc t
     cancel-made h = record { rows = record { hb = xb .short; hc = xc .short }; is = h; each = turned-at }

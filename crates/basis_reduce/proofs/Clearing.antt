@@ -15,14 +15,14 @@ use Rattle.math_turns.specs.Points.{Pt, Turned, Moved}
 use Rattle.math_turns.proofs.Turn.{turned-X, moved-start, moved-swap, moved-turn, moved-has, full}
 use Rattle.poly_rows.specs.Leaf.{Cut}
 use Rattle.basis_parts.specs.Frame.{Frame, Fine, Meaning, Point, point, Short, Held, rd, pt, X, Y, Ltμ, shift}
-use Rattle.basis_parts.specs.Leaves.{PartIn, Parted, TopIn, Topped}
-use Rattle.basis_reduce.specs.Clear.{Pair, Rows, Room, CancelIn, CancelOut, ClearIn, Clearing, Cleared, pair, swapIf}
+use Rattle.basis_parts.specs.Leaves.{PartAsks, Parted, TopOfAsks, Topped}
+use Rattle.basis_reduce.specs.Clear.{Pair, Rows, Room, CanceledAsks, CanceledGives, ClearYAsks, Clearing, Cleared, pair, swapIf}
 use Rattle.basis_parts.specs.declared.Top.{Top}
 use Rattle.basis_parts.proofs.Laid.{zeros-row, zeros-at}
 use Rattle.basis_parts.proofs.Tops.{part-lt, topped-up, topped-not, topped-most}
 
 -- what `part` asks, and what it gives
-pub part-in : {F : Frame} {top : ℕ} {b c : List ℕ} → Room F top → Rows F top b c → PartIn F b c top
+pub part-in : {F : Frame} {top : ℕ} {b c : List ℕ} → Room F top → Rows F top b c → PartAsks F b c top
 part-in r h = record { fine = r .fine; hb = h .hb; hc = h .hc; fits = r .fits; low-r = r .low-r; low-w = r .low-w }
 
 -- zeros are a row of any length
@@ -39,7 +39,7 @@ pub rows-of : {F : Frame} {e : Bool} {top : ℕ} {q : Point} → Held F e top q 
 rows-of h = record { hb = h .hb; hc = h .hc }
 
 -- u′ is no more than top, as the determinant is no longer than its products
-clear-room : {F : Frame} {q : Pair} {top lu : ℕ} → ClearIn F q top lu → lu - 1 ≤ top
+clear-room : {F : Frame} {q : Pair} {top lu : ℕ} → ClearYAsks F q top lu → lu - 1 ≤ top
 clear-room {F} {q} {top} {lu} i =
     let σ = i .some in
     let v = rd σ .𝓥 in
@@ -49,10 +49,10 @@ clear-room {F} {q} {top} {lu} i =
     above v (i .det) (lt-add v (lt-mul v (lt-up v top (i .lx1) (i .bx1)) (lt-up v top (i .ly2) (i .bv2))) (lt-neg v (lt-mul v (lt-up v top (i .lx2) (i .bx2)) (lt-up v top (i .ly1) (i .bv1))))) in
     omega arith
 
-pub clear-top : {F : Frame} {q : Pair} {top lu : ℕ} {b c : List ℕ} → ClearIn F q top lu → Rows F top b c → TopIn F true b c top top (lu - 1)
+pub clear-top : {F : Frame} {q : Pair} {top lu : ℕ} {b c : List ℕ} → ClearYAsks F q top lu → Rows F top b c → TopOfAsks F true b c top top (lu - 1)
 clear-top i h = record { inp = part-in (i .room) h; fits = omega arith; room = clear-room i; ends = part-lt true (part-in (i .room) h) }
 
-pub clear-start : {F : Frame} {q : Pair} {top lu : ℕ} {y1 y2 : Top} → ClearIn F q top lu → Topped F true (q .mb) (q .mc) (lu - 1) top y1 → Topped F true (q .nb) (q .nc) (lu - 1) top y2 → Clearing F q top lu q y1 y2
+pub clear-start : {F : Frame} {q : Pair} {top lu : ℕ} {y1 y2 : Top} → ClearYAsks F q top lu → Topped F true (q .mb) (q .mc) (lu - 1) top y1 → Topped F true (q .nb) (q .nc) (lu - 1) top y2 → Clearing F q top lu q y1 y2
 clear-start {F} {q} {top} {lu} {y1} {y2} i t1 t2 =
     let σ = i .some in
     let t : top ≡ suc (i .s) = i .top-is in
@@ -127,7 +127,7 @@ module _ {F : Frame} {q : Pair} {top lu : ℕ} {o : Pair} {y1 y2 : Top} (i : Cle
       let e : lu ≡ suc (i .u) = i .lu-is in
       omega arith
 
-  pub clear-in : CancelIn F true (o .mb) (o .mc) y1 (o .nb) (o .nc) y2 top (lu - 1)
+  pub clear-in : CanceledAsks F true (o .mb) (o .mc) y1 (o .nb) (o .nc) y2 top (lu - 1)
   clear-in =
       let σ = i .some in
       let b1 : y1 .n ≤ top = i .ty1 .upto in record {
@@ -147,7 +147,7 @@ module _ {F : Frame} {q : Pair} {top lu : ℕ} {o : Pair} {y1 y2 : Top} (i : Cle
         };
       }
 
-  module _ {nb nc : List ℕ} {t : Top} (h : CancelOut F true (o .mb) (o .mc) y1 (o .nb) (o .nc) y2 top (lu - 1) nb nc t) where
+  module _ {nb nc : List ℕ} {t : Top} (h : CanceledGives F true (o .mb) (o .mc) y1 (o .nb) (o .nc) y2 top (lu - 1) nb nc t) where
     pub clear-less : t .n < y1 .n
     clear-less =
         let p : lu - 1 < y2 .n = past in

@@ -18,8 +18,8 @@ use Rattle.math_rows.proofs.Floors.{sized, floor-lt, floor-le}
 use Rattle.math_turns.specs.Points.{Pt, Turned, Moved}
 use Rattle.math_turns.proofs.Turn.{turned-Y, moved-start, moved-swap, moved-turn, moved-then, moved-has, full}
 use Rattle.basis_parts.specs.Frame.{Frame, Fine, Meaning, Short, Held, rd, pt, X, Y, Ltμ, Hasμ, shift}
-use Rattle.basis_parts.specs.Leaves.{Parted, TopIn, Topped}
-use Rattle.basis_reduce.specs.Clear.{Pair, Rows, Room, CancelIn, CancelOut, Clearing, Cleared, ShearIn, Shearing, Sheared, Reduced, Movedμ, Ends, ends}
+use Rattle.basis_parts.specs.Leaves.{Parted, TopOfAsks, Topped}
+use Rattle.basis_reduce.specs.Clear.{Pair, Rows, Room, CanceledAsks, CanceledGives, Clearing, Cleared, ShearAsks, Shearing, Sheared, Reduced, Movedμ, Ends, ends}
 use Rattle.basis_parts.specs.declared.Top.{Top}
 use Rattle.basis_parts.proofs.Tops.{part-lt, part-top, topped-up, topped-not, topped-has}
 use Rattle.basis_reduce.proofs.Clearing.{part-in, part-held}
@@ -61,7 +61,7 @@ module _ {F : Frame} {q : Pair} {top lu : ℕ} {o : Pair} (c : Cleared F q top l
       let hi : lu ≤ c .y2 .n = c .high in
       topped-has (c .state .ty2) (omega arith) μ
 
-  pub shear-in : ShearIn F o top
+  pub shear-in : ShearAsks F o top
   shear-in =
       let i = c .state in
       let (x, e, h) = full-x in
@@ -89,7 +89,7 @@ module _ {F : Frame} {q : Pair} {top lu : ℕ} {o : Pair} (c : Cleared F q top l
       }
 
 -- ---- the loop
-module _ {F : Frame} {q : Pair} {top : ℕ} (i : ShearIn F q top) {mx : List ℕ} (o : Parted F false (q .mb) (q .mc) top mx) (l : ℕ) (s : Size mx l) where
+module _ {F : Frame} {q : Pair} {top : ℕ} (i : ShearAsks F q top) {mx : List ℕ} (o : Parted F false (q .mb) (q .mc) top mx) (l : ℕ) (s : Size mx l) where
   shear-length : l ≡ suc (i .x)
   shear-length =
       let σ = i .some in
@@ -108,7 +108,7 @@ module _ {F : Frame} {q : Pair} {top : ℕ} (i : ShearIn F q top) {mx : List ℕ
       let f : top ≤ 32 = i .room .fits in
       omega arith
 
-  pub shear-top : TopIn F false (q .nb) (q .nc) top top (l - 1)
+  pub shear-top : TopOfAsks F false (q .nb) (q .nc) top top (l - 1)
   shear-top =
       let e : l ≡ suc (i .x) = shear-length in
       let b : i .x < top = i .bm in
@@ -156,7 +156,7 @@ module _ {F : Frame} {q : Pair} {top : ℕ} {nb nc : List ℕ} {x1 x2 : Top} (i 
   shift-y : (μ : Meaning F) → Ltμ μ (shift μ k (Y μ (pt μ (q .mb) (q .mc)))) (k + i .y1)
   shift-y μ = lead-shift (rd μ) k (i .ym μ)
 
-  pub shear-turn-in : CancelIn F false nb nc x2 (q .mb) (q .mc) x1 top (x1 .n - 1)
+  pub shear-turn-in : CanceledAsks F false nb nc x2 (q .mb) (q .mc) x1 top (x1 .n - 1)
   shear-turn-in =
       let σ = i .some in
       let u : k + i .y1 ≤ i .y2 - 1 = under in
@@ -180,7 +180,7 @@ module _ {F : Frame} {q : Pair} {top : ℕ} {nb nc : List ℕ} {x1 x2 : Top} (i 
         };
       }
 
-  module _ {nb′ nc′ : List ℕ} {t : Top} (h : CancelOut F false nb nc x2 (q .mb) (q .mc) x1 top (x1 .n - 1) nb′ nc′ t) where
+  module _ {nb′ nc′ : List ℕ} {t : Top} (h : CanceledGives F false nb nc x2 (q .mb) (q .mc) x1 top (x1 .n - 1) nb′ nc′ t) where
     pub shear-less : t .n < x2 .n
     shear-less =
         let z : x1 .n - 1 < x1 .n = past in

@@ -1,11 +1,11 @@
 -- The reduction: contracts of a turn, of the two loops, and of the whole.
 --   Pair, Ends             two elements, and the same with the polynomial parts of X and the length of m's
---   CancelIn, CancelOut    s a − c t^k b cancels the leading term of a size of a, where the sizes before and after lie below top
---   ClearIn F q top lu     two elements whose sizes X, Y lie below top = S′ + 1, X(m) + Y(n) and X(n) + Y(m) at most S′ + u′ and the
+--   CanceledAsks, CanceledGives    s a − c t^k b cancels the leading term of a size of a, where the sizes before and after lie below top
+--   ClearYAsks F q top lu     two elements whose sizes X, Y lie below top = S′ + 1, X(m) + Y(n) and X(n) + Y(m) at most S′ + u′ and the
 --                          determinant of degree S′ + u′; lu = u′ + 1. All numbers are lengths: degrees + 1, and 0 below degree 0
 --   Clearing               the state of the first loop
 --   Cleared                its end: Y(m) below u′, Y(n) not, and X(m), Y(n) make up all of the determinant
---   ShearIn, Shearing, Sheared    the same of the second loop, which keeps m and the degree of Y(n)
+--   ShearAsks, Shearing, Sheared    the same of the second loop, which keeps m and the degree of Y(n)
 --   Reduced F q top lu o   THE REDUCTION: o is a pair with the span of q (by a matrix of polynomials whose determinant is a
 --                          constant that is not 0), deg X(n) < deg X(m), deg Y(m) < u′ ≤ deg Y(n), and the rows mx, nx of o are the
 --                          polynomial parts of X(m), X(n)
@@ -75,7 +75,7 @@ pub record RoomAt {F : Frame} (μ : Meaning F) (ab ac bb bc : List ℕ) (k top :
   pub yb : Ltμ μ (shift μ k (Y μ (pt μ bb bc))) top
 
 -- a and b have lengths past low, and b is no longer than a
-pub record CancelIn (F : Frame) (e : Bool) (ab ac : List ℕ) (a : Top) (bb bc : List ℕ) (b : Top) (top low : ℕ) : Type 0 where
+pub record CanceledAsks (F : Frame) (e : Bool) (ab ac : List ℕ) (a : Top) (bb bc : List ℕ) (b : Top) (top low : ℕ) : Type 0 where
   pub room : Room F top
   pub ha : Rows F top ab ac
   pub hb : Rows F top bb bc
@@ -86,13 +86,13 @@ pub record CancelIn (F : Frame) (e : Bool) (ab ac : List ℕ) (a : Top) (bb bc :
   pub some : Meaning F
   pub at : RoomAt some ab ac bb bc (a .n - b .n) top
 
-pub record CancelOut (F : Frame) (e : Bool) (ab ac : List ℕ) (a : Top) (bb bc : List ℕ) (b : Top) (top low : ℕ) (nb nc : List ℕ) (t : Top) : Type 0 where
+pub record CanceledGives (F : Frame) (e : Bool) (ab ac : List ℕ) (a : Top) (bb bc : List ℕ) (b : Top) (top low : ℕ) (nb nc : List ℕ) (t : Top) : Type 0 where
   pub rows : Rows F top nb nc
   pub is : Topped F e nb nc low (a .n - 1) t
   pub each : (μ : Meaning F) → Turned (rd μ) (rd μ .cast (b .c)) (rd μ .cast (a .c)) (a .n - b .n) (pt μ ab ac) (pt μ bb bc) (pt μ nb nc)
 
 -- ---- the first loop
-pub record ClearIn (F : Frame) (q : Pair) (top lu : ℕ) : Type 0 where
+pub record ClearYAsks (F : Frame) (q : Pair) (top lu : ℕ) : Type 0 where
   pub room : Room F top
   pub hm : Rows F top (q .mb) (q .mc)
   pub hn : Rows F top (q .nb) (q .nc)
@@ -150,7 +150,7 @@ pub record Cleared (F : Frame) (q : Pair) (top lu : ℕ) (o : Pair) : Type 0 whe
   pub all : state .x1 + y2 .n ≡ state .s + state .u + 2
 
 -- ---- the second loop: X(m) has the degree x, Y(n) the length y2, Y(m) at most y1
-pub record ShearIn (F : Frame) (q : Pair) (top : ℕ) : Type 0 where
+pub record ShearAsks (F : Frame) (q : Pair) (top : ℕ) : Type 0 where
   pub room : Room F top
   pub hm : Rows F top (q .mb) (q .mc)
   pub hn : Rows F top (q .nb) (q .nc)
@@ -167,8 +167,8 @@ pub record ShearIn (F : Frame) (q : Pair) (top : ℕ) : Type 0 where
   pub xn : Ltμ some (X some (pt some (q .nb) (q .nc))) top
 
 -- the same with the rows that X(m), X(n) go into
-pub record ShearBy (F : Frame) (q : Pair) (top : ℕ) (mx nx : List ℕ) : Type 0 where
-  pub inp : ShearIn F q top
+pub record ClearXAsks (F : Frame) (q : Pair) (top : ℕ) (mx nx : List ℕ) : Type 0 where
+  pub inp : ShearAsks F q top
   pub hmx : Short (F .m .p) mx top
   pub hnx : Short (F .m .p) nx top
 
@@ -202,8 +202,8 @@ pub record Sheared (F : Frame) (q : Pair) (top : ℕ) (o : Ends) : Type 0 where
   pub moved : (μ : Meaning F) → Movedμ μ q (o .mb) (o .mc) (o .nb) (o .nc)
 
 -- ---- both
-pub record ReduceIn (F : Frame) (q : Pair) (top lu : ℕ) (mx nx : List ℕ) : Type 0 where
-  pub inp : ClearIn F q top lu
+pub record ReducedAsks (F : Frame) (q : Pair) (top lu : ℕ) (mx nx : List ℕ) : Type 0 where
+  pub inp : ClearYAsks F q top lu
   pub hmx : Short (F .m .p) mx top
   pub hnx : Short (F .m .p) nx top
 

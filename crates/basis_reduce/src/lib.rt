@@ -3,13 +3,13 @@
 // Every contract speaks of the polynomial that a row stands for; none speaks of coefficients.
 use basis_parts::Bounds;
 use basis_parts::Top;
-use basis_parts::part_in;
+use basis_parts::floor_in;
 use basis_parts::top_of;
 use num_mod::Modulus;
 use poly_rows::cross_in;
 use poly_rows::size_from;
 ghost use Rattle.basis_parts.specs.Given.{given};
-ghost use Rattle.basis_reduce.specs.Clear.{CancelIn, CancelOut, ClearIn, Cleared, ShearBy, Sheared, ReduceIn, Reduced, pair, ends, swapIf, endsIf};
+ghost use Rattle.basis_reduce.specs.Clear.{CanceledAsks, CanceledGives, ClearYAsks, Cleared, ClearXAsks, Sheared, ReducedAsks, Reduced, pair, ends, swapIf, endsIf};
 
 // The element a with its leading term canceled by b, which is no longer: s a - c t^k b in place of a, and the top of its size
 fn canceled(
@@ -25,8 +25,8 @@ fn canceled(
     b: Top,
     low: usize,
 ) -> Top
-    requires { ⌜ CancelIn (given f (now r) (now w)) minus (now ab) (now ac) a (now bb) (now bc) b (f .top) low ⌝ }
-    ensures { λ t. ⌜ CancelOut (given f (now (r .entry)) (now (w .entry))) minus (now (ab .entry)) (now (ac .entry)) a (now (bb .entry)) (now (bc .entry)) b (f .top) low (now (ab .exit)) (now (ac .exit)) t ⌝ }
+    requires { ⌜ CanceledAsks (given f (now r) (now w)) minus (now ab) (now ac) a (now bb) (now bc) b (f .top) low ⌝ }
+    ensures { λ t. ⌜ CanceledGives (given f (now (r .entry)) (now (w .entry))) minus (now (ab .entry)) (now (ac .entry)) a (now (bb .entry)) (now (bc .entry)) b (f .top) low (now (ab .exit)) (now (ac .exit)) t ⌝ }
 {
     let m: Modulus = f.m;
     let dr = f.dr;
@@ -51,7 +51,7 @@ fn clear_y(
     nc: &mut [u64; 32],
     lu: usize,
 ) -> bool
-    requires { ⌜ ClearIn (given f (now r) (now w)) (pair (now mb) (now mc) (now nb) (now nc)) (f .top) lu ⌝ }
+    requires { ⌜ ClearYAsks (given f (now r) (now w)) (pair (now mb) (now mc) (now nb) (now nc)) (f .top) lu ⌝ }
     ensures { λ o. ⌜ Cleared (given f (now (r .entry)) (now (w .entry))) (pair (now (mb .entry)) (now (mc .entry)) (now (nb .entry)) (now (nc .entry))) (f .top) lu (swapIf o (pair (now (mb .exit)) (now (mc .exit)) (now (nb .exit)) (now (nc .exit)))) ⌝ }
 {
     let top = f.top;
@@ -86,11 +86,11 @@ fn clear_x(
     nc: &mut [u64; 32],
     nx: &mut [u64; 32],
 ) -> usize
-    requires { ⌜ ShearBy (given f (now r) (now w)) (pair (now mb) (now mc) (now nb) (now nc)) (f .top) (now mx) (now nx) ⌝ }
+    requires { ⌜ ClearXAsks (given f (now r) (now w)) (pair (now mb) (now mc) (now nb) (now nc)) (f .top) (now mx) (now nx) ⌝ }
     ensures { λ l. ⌜ Sheared (given f (now (r .entry)) (now (w .entry))) (pair (now (mb .entry)) (now (mc .entry)) (now (nb .entry)) (now (nc .entry))) (f .top) (ends (now (mb .entry)) (now (mc .entry)) (now (mx .exit)) (now (nb .exit)) (now (nc .exit)) (now (nx .exit)) l) ⌝ }
 {
     let top = f.top;
-    part_in(f, false, mb, mc, r, w, mx);
+    floor_in(f, false, mb, mc, r, w, mx);
     let l = size_from(mx, top);
     let low = l - 1;
     let x1 = Top { n: l, c: mx[low] };
@@ -99,7 +99,7 @@ fn clear_x(
         let t = canceled(f, false, r, w, nb, nc, x2, mb, mc, x1, low);
         x2 = t;
     }
-    part_in(f, false, nb, nc, r, w, nx);
+    floor_in(f, false, nb, nc, r, w, nx);
     l
 }
 
@@ -123,7 +123,7 @@ pub fn reduced(
     nx: &mut [u64; 32],
     lu: usize,
 ) -> Ended
-    requires { ⌜ ReduceIn (given f (now r) (now w)) (pair (now mb) (now mc) (now nb) (now nc)) (f .top) lu (now mx) (now nx) ⌝ }
+    requires { ⌜ ReducedAsks (given f (now r) (now w)) (pair (now mb) (now mc) (now nb) (now nc)) (f .top) lu (now mx) (now nx) ⌝ }
     ensures { λ o. ⌜ Reduced (given f (now (r .entry)) (now (w .entry))) (pair (now (mb .entry)) (now (mc .entry)) (now (nb .entry)) (now (nc .entry))) (f .top) lu (endsIf (o .swap) (ends (now (mb .exit)) (now (mc .exit)) (now (mx .exit)) (now (nb .exit)) (now (nc .exit)) (now (nx .exit)) (o .l))) ⌝ }
 {
     let swap = clear_y(f, r, w, mb, mc, nb, nc, lu);

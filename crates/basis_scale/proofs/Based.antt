@@ -24,20 +24,20 @@ use Rattle.math_rows.proofs.Unique.{cast-inj}
 use Rattle.num_mod.specs.Prepared.{Prepared}
 use Rattle.num_mod.specs.declared.Modulus.{Modulus}
 use Rattle.num_mod.proofs.Prepared.{bare}
-use Rattle.poly_rows.specs.Leaf.{Scaled, ScaleBy, ScaleOut}
-use Rattle.poly_rows.proofs.Leaf.{size-one}
+use Rattle.poly_rows.specs.Leaf.{Scaled, ScaleInAsks, ScaleInGives}
+use Rattle.poly_rows.proofs.Leaf.{size-unique}
 use Rattle.poly_lent.proofs.Mixing.{size-cut}
 use Rattle.basis_record.specs.Record.{part}
 use Rattle.basis_parts.specs.Frame.{Frame, Meaning, Short, Held, point, rd, Ser, rowμ, pt, X, Y, Ltμ}
-use Rattle.basis_parts.specs.Leaves.{PartIn, Led}
-use Rattle.basis_reduce.specs.Clear.{Pair, Ends, ClearIn, Reduced}
+use Rattle.basis_parts.specs.Leaves.{PartAsks, Led}
+use Rattle.basis_reduce.specs.Clear.{Pair, Ends, ClearYAsks, Reduced}
 use Rattle.basis_scale.specs.declared.Factors.{Factors}
 use Rattle.basis_parts.proofs.Laid.{zeros-at}
 use Rattle.basis_reduce.proofs.Clearing.{part-in, rows-of}
 use Rattle.basis_scale.specs.Levels.{Monic}
-use Rattle.basis_scale.specs.Place.{off, ElementIn, PlacedAt, FillIn, Filled}
-use Rattle.basis_scale.specs.Scales.{ScalesIn, Scaling}
-use Rattle.basis_scale.specs.Based.{BasisIn, BasedAt, Based, Z, at, Mpt, Npt}
+use Rattle.basis_scale.specs.Place.{off, ElementAsks, PlacedAt, FilledAsks, Filled}
+use Rattle.basis_scale.specs.Scales.{FactorsOfAsks, Scaling}
+use Rattle.basis_scale.specs.Based.{BasisAsks, BasedAt, Based, Z, at, Mpt, Npt}
 use Rattle.basis_record.proofs.Store.{stored-part, stored-other, stored-each, part-same}
 use Rattle.poly_rows.proofs.Lengths.{size-below, scaled-size}
 use Rattle.basis_scale.proofs.Two.{const-two, half}
@@ -47,42 +47,42 @@ positive zero h = absurd (h refl)
 positive (suc v) h = omega arith
 
 -- what `scale_in` asks, where the length is known
-by-size : {q : Modulus} {c : ℕ} {x : List ℕ} {n : ℕ} → Prepared q → c < q .p → Row (q .p) x → Size x n → ScaleBy q c x n
+by-size : {q : Modulus} {c : ℕ} {x : List ℕ} {n : ℕ} → Prepared q → c < q .p → Row (q .p) x → Size x n → ScaleInAsks q c x n
 by-size m l h s = record { modulus = m; hc = l; hx = record { is-row = h; above = s .above }; fits = size-cut h s .fits }
 
-module _ {F : Frame} {q : Pair} {top : ℕ} {d x1 y1 : List ℕ} (g : BasisIn F q top d x1 y1) where
+module _ {F : Frame} {q : Pair} {top : ℕ} {d x1 y1 : List ℕ} (g : BasisAsks F q top d x1 y1) where
   two-low : 2 < F .m .p
   two-low = let b : 1 < F .m .p = g .clear .room .fine .modulus .big in let o : F .m .p % 2 ≡ 1 = g .odd in omega arith
 
   -- the doubles of x1 and y1
-  pub double-x : {n : ℕ} → Size x1 n → ScaleBy (F .m) 2 x1 n
+  pub double-x : {n : ℕ} → Size x1 n → ScaleInAsks (F .m) 2 x1 n
   double-x s = by-size (g .clear .room .fine .modulus) two-low (g .h1 .is-row) s
 
-  pub double-y : {n : ℕ} → Size y1 n → ScaleBy (F .m) 2 y1 n
+  pub double-y : {n : ℕ} → Size y1 n → ScaleInAsks (F .m) 2 y1 n
   double-y s = by-size (g .clear .room .fine .modulus) two-low (g .h2 .is-row) s
 
-module _ {F : Frame} {q : Pair} {top : ℕ} {d x1 y1 : List ℕ} (g : BasisIn F q top d x1 y1) {lu : ℕ} (sd : Size d lu) where
+module _ {F : Frame} {q : Pair} {top : ℕ} {d x1 y1 : List ℕ} (g : BasisAsks F q top d x1 y1) {lu : ℕ} (sd : Size d lu) where
   lu-is : lu ≡ suc (g .u)
-  lu-is = size-one sd (g .d-size)
+  lu-is = size-unique sd (g .d-size)
 
   pub based-lu : 0 < lu
   based-lu = let e : lu ≡ suc (g .u) = lu-is in omega arith
 
-  pub based-clear : ClearIn F q top lu
-  based-clear = subst (λ n. ClearIn F q top n) (sym lu-is) (g .clear)
+  pub based-clear : ClearYAsks F q top lu
+  based-clear = subst (λ n. ClearYAsks F q top n) (sym lu-is) (g .clear)
 
-  pub based-u : {s : ℕ} → s < F .m .p → ScaleBy (F .m) s d lu
+  pub based-u : {s : ℕ} → s < F .m .p → ScaleInAsks (F .m) s d lu
   based-u l = by-size (g .clear .room .fine .modulus) l (g .hd .is-row) sd
 
   module _ {o : Ends} (h : Reduced F q top lu o) where
-    pub based-part : PartIn F (o .nb) (o .nc) top
+    pub based-part : PartAsks F (o .nb) (o .nc) top
     based-part = part-in (g .clear .room) (rows-of (h .hn))
 
     pub lx-pos : 0 < o .lx
     lx-pos = let l : h .x2 < o .lx = h .x-less in omega arith
 
     module _ {y : ℕ} (ly : Led F true (o .nb) (o .nc) y) where
-      pub based-scales : ScalesIn (F .m .p) (getD d (lu - 1) 0) (getD (o .mx) (o .lx - 1) 0) y
+      pub based-scales : FactorsOfAsks (F .m .p) (getD d (lu - 1) 0) (getD (o .mx) (o .lx - 1) 0) y
       based-scales =
           let μ = g .clear .some in
           let l = ly .law μ (h .y) (h .y-has μ) in
@@ -99,8 +99,8 @@ module _ {F : Frame} {q : Pair} {top : ℕ} {d x1 y1 : List ℕ} (g : BasisIn F 
           }
 
       module _ {k : Factors} (hk : Scaling (F .m .p) (getD d (lu - 1) 0) (getD (o .mx) (o .lx - 1) 0) y k) where
-        module _ {u : List ℕ} (so : ScaleOut (F .m .p) (k .u) d lu u) where
-          open ScaleOut so using (scaled as su)
+        module _ {u : List ℕ} (so : ScaleInGives (F .m .p) (k .u) d lu u) where
+          open ScaleInGives so using (scaled as su)
 
           -- U leads with 1
           u-lead : (pr : Prime (F .m .p)) → reading (F .m .p) pr .𝓥 .Lead (row (reading (F .m .p) pr) u) (g .u) 0 (reading (F .m .p) pr .𝓥 .K .ops .𝟏)
@@ -127,9 +127,9 @@ module _ {F : Frame} {q : Pair} {top : ℕ} {d x1 y1 : List ℕ} (g : BasisIn F 
                     (ρ .𝓥 .lead-unique (size-lead-at ρ lu s based-lu) (subst (λ m. ρ .𝓥 .Lead (row ρ u) m 0 (ρ .𝓥 .K .ops .𝟏)) (sym w) (u-lead (μ .prime))) ∙ sym (ρ .cast-one));
               }
 
-          module _ {n1 n2 : ℕ} (s1 : Size x1 n1) (s2 : Size y1 n2) {x2 y2 : List ℕ} (e1 : ScaleOut (F .m .p) 2 x1 n1 x2) (e2 : ScaleOut (F .m .p) 2 y1 n2 y2) where
+          module _ {n1 n2 : ℕ} (s1 : Size x1 n1) (s2 : Size y1 n2) {x2 y2 : List ℕ} (e1 : ScaleInGives (F .m .p) 2 x1 n1 x2) (e2 : ScaleInGives (F .m .p) 2 y1 n2 y2) where
             -- an element with its polynomial part, over U
-            element : {b c x : List ℕ} {s : ℕ} → s < F .m .p → Held F false top (point b c x) → ElementIn (F .m) top s b c x x2 n1 y2 n2 u lu
+            element : {b c x : List ℕ} {s : ℕ} → s < F .m .p → Held F false top (point b c x) → ElementAsks (F .m) top s b c x x2 n1 y2 n2 u lu
             element ls t =
                 let f : top ≤ 17 = g .fits in
                 let r : F .dr ≤ top = g .clear .room .low-r in
@@ -161,7 +161,7 @@ module _ {F : Frame} {q : Pair} {top : ℕ} {d x1 y1 : List ℕ} (g : BasisIn F 
                   low-u = omega arith;
                 }
 
-            pub based-fill : FillIn (F .m) top k (o .mb) (o .mc) (o .mx) (o .nb) (o .nc) (o .nx) x2 n1 y2 n2 u lu
+            pub based-fill : FilledAsks (F .m) top k (o .mb) (o .mc) (o .mx) (o .nb) (o .nc) (o .nx) x2 n1 y2 n2 u lu
             based-fill = record { m = element (hk .m-low) (h .hm); n = element (hk .n-low) (h .hn) }
 
             module _ {B₃ : List ℕ} (fl : Filled (F .m .p) k (o .mb) (o .mc) (o .mx) (o .nb) (o .nc) (o .nx) x2 y2 u B₃) where

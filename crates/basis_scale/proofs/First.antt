@@ -17,10 +17,10 @@ use Rattle.math_rows.specs.Row.{Row, Size, row, psum, tpow}
 use Rattle.math_rows.proofs.Rows.{row-cut}
 use Rattle.math_turns.specs.Points.{Pt}
 use Rattle.basis_parts.specs.Frame.{Frame, Meaning, Short, rd, Ser, pt, X, Y, D, Hasμ}
-use Rattle.basis_reduce.specs.Clear.{ClearIn, Room, Rows}
+use Rattle.basis_reduce.specs.Clear.{ClearYAsks, Room, Rows}
 use Rattle.basis_parts.proofs.Laid.{zeros-at, zeros-row, zeros-size}
-use Rattle.basis_scale.specs.Based.{BasisIn, BasisBy}
-use Rattle.basis_scale.specs.First.{unit, nothing, units, OrderIn}
+use Rattle.basis_scale.specs.Based.{BasisAsks, ReducedBasisAsks}
+use Rattle.basis_scale.specs.First.{unit, nothing, units, OrderAsks}
 
 -- ---- the rows of 1 and 0
 unit-at : (i : ℕ) → 1 ≤ i → getD unit i 0 ≡ 0
@@ -47,7 +47,7 @@ module _ {p : ℕ} (ρ : Reading p) where
   nothing-is = row-cut ρ nothing 0 zeros-size
 
 -- ---- the demands of the reduction
-module _ {F : Frame} {top : ℕ} (i : OrderIn F top) where
+module _ {F : Frame} {top : ℕ} (i : OrderAsks F top) where
   pos : 1 < F .m .p
   pos = i .fine .modulus .big
 
@@ -63,7 +63,7 @@ module _ {F : Frame} {top : ℕ} (i : OrderIn F top) where
   at-n : pt (i .some) nothing unit ≡ record { b = rd (i .some) .𝓥 .L .ops .𝟎; c = rd (i .some) .𝓥 .L .ops .𝟏 }
   at-n = ap₂ (λ x y. record { b = x; c = y }) (nothing-is (rd (i .some))) (unit-is (rd (i .some)))
 
-  pub order-in : BasisIn F units top unit nothing nothing
+  pub order-in : BasisAsks F units top unit nothing nothing
   order-in =
       let μ = i .some in
       let v = rd μ .𝓥 in
@@ -111,5 +111,5 @@ module _ {F : Frame} {top : ℕ} (i : OrderIn F top) where
         };
       }
 
-  pub order-by : BasisBy F units top unit 1 nothing 0 nothing 0
+  pub order-by : ReducedBasisAsks F units top unit 1 nothing 0 nothing 0
   order-by = record { inp = order-in; size = unit-size; size-1 = zeros-size; size-2 = zeros-size }

@@ -1,4 +1,4 @@
--- What `level` makes: half of x less the remainder of k by u.
+-- What `row_zero` makes: half of x less the remainder of k by u.
 use mathlib.Core.Path.{_≡_, sym, ap, _∙_}
 use mathlib.Core.Bool.{true}
 use mathlib.Core.List.{List, [], _∷_}
@@ -19,23 +19,23 @@ use Rattle.math_rows.specs.Reading.{Reading}
 use Rattle.math_rows.specs.Made.{reading}
 use Rattle.math_rows.specs.Row.{row, shiftAt, tpow}
 use Rattle.math_rows.proofs.Rows.{row-poly, size-has-at}
-use Rattle.poly_rows.specs.Leaf.{CrossBy, CrossOut}
-use Rattle.poly_rows.specs.Division.{DivIn, Quotient}
-use Rattle.poly_rows.proofs.Leaf.{size-one}
+use Rattle.poly_rows.specs.Leaf.{CrossInAsks, CrossInGives}
+use Rattle.poly_rows.specs.Division.{DivisionAsks, Quotient}
+use Rattle.poly_rows.proofs.Leaf.{size-unique}
 use Rattle.poly_lent.specs.Sized.{Mixed}
 use Rattle.basis_parts.specs.Frame.{Short}
-use Rattle.basis_scale.specs.Levels.{LevelIn, Leveled, Monic}
+use Rattle.basis_scale.specs.Levels.{RowZeroAsks, Leveled, Monic}
 use Rattle.basis_scale.proofs.Two.{half}
 use Rattle.poly_rows.proofs.Lengths.{row-short}
 
-module _ {M : Modulus} {u : List ℕ} {lu : ℕ} {k : List ℕ} {n : ℕ} {x : List ℕ} {top : ℕ} (i : LevelIn M u lu k n x top) where
-  pub level-divide : DivIn (M .p) k u 1
+module _ {M : Modulus} {u : List ℕ} {lu : ℕ} {k : List ℕ} {n : ℕ} {x : List ℕ} {top : ℕ} (i : RowZeroAsks M u lu k n x top) where
+  pub level-divide : DivisionAsks (M .p) k u 1
   level-divide = let b : 1 < M .p = i .modulus .big in record {
     modulus = bare (i .modulus);
     ha = i .hk;
     hb = i .monic .is-row;
     hi = b;
-    inv = λ m s. ap (λ a. N._*_ 1 (getD u (N._-_ a 1) 0) % M .p) (size-one s (i .monic .size)) ∙ ap (λ a. N._*_ 1 a % M .p) (i .monic .lead) ∙ mod-eq-of-lt b;
+    inv = λ m s. ap (λ a. N._*_ 1 (getD u (N._-_ a 1) 0) % M .p) (size-unique s (i .monic .size)) ∙ ap (λ a. N._*_ 1 a % M .p) (i .monic .lead) ∙ mod-eq-of-lt b;
   }
 
   -- what is left of k where the product of its quotient and u is taken off
@@ -49,7 +49,7 @@ module _ {M : Modulus} {u : List ℕ} {lu : ℕ} {k : List ℕ} {n : ℕ} {x : L
         let l : lu ≤ top = i .low in
         row-short ρ top (f .is-row) (lt-up (ρ .𝓥) top (low (i .prime) (N._-_ lu 1) (size-has-at ρ lu (i .monic .is-row) (i .monic .size) (i .monic .pos))) (omega arith))
 
-    pub level-half : CrossBy M (N._+_ (M .p) 1 / 2) x (N._+_ (M .p) 1 / 2) 0 r top
+    pub level-half : CrossInAsks M (N._+_ (M .p) 1 / 2) x (N._+_ (M .p) 1 / 2) 0 r top
     unfolding shiftAt
     level-half = let b : 1 < M .p = i .modulus .big in record {
       modulus = i .modulus;
@@ -62,7 +62,7 @@ module _ {M : Modulus} {u : List ℕ} {lu : ℕ} {k : List ℕ} {n : ℕ} {x : L
       above = level-rest .above;
     }
 
-    module _ {a : List ℕ} (h : CrossOut (M .p) (N._+_ (M .p) 1 / 2) x (N._+_ (M .p) 1 / 2) 0 r top a) where
+    module _ {a : List ℕ} (h : CrossInGives (M .p) (N._+_ (M .p) 1 / 2) x (N._+_ (M .p) 1 / 2) 0 r top a) where
       -- 2a = x − r
       twice : (pr : Prime (M .p)) → let ρ = reading (M .p) pr in let o = ρ .𝓥 .L .ops in o .mul (o .add (o .𝟏) (o .𝟏)) (row ρ a) ≡ o .add (row ρ x) (o .neg (row ρ r))
       unfolding tpow

@@ -1,4 +1,4 @@
--- What `placed` and `filled` ask of their callees, and what they make.
+-- What `store_element` and `filled` ask of their callees, and what they make.
 use mathlib.Core.Path.{_≡_, refl, sym, ap, ap₂, _∙_}
 use mathlib.Core.Logic.{_⊎_, inl, inr}
 use mathlib.Core.Bool.{false}
@@ -16,32 +16,32 @@ use Rattle.num_mod.specs.declared.Modulus.{Modulus}
 use Rattle.math_rows.specs.Reading.{Reading}
 use Rattle.math_rows.specs.Made.{reading}
 use Rattle.math_rows.specs.Row.{Size, row}
-use Rattle.poly_rows.specs.Leaf.{Cut, ScaleBy, ScaleOut}
+use Rattle.poly_rows.specs.Leaf.{Cut, ScaleInAsks, ScaleInGives}
 use Rattle.poly_rows.proofs.Lengths.{size-below, short-up, short-cut, scaled-short}
-use Rattle.poly_lent.specs.Sized.{BothIn, BothOut}
+use Rattle.poly_lent.specs.Sized.{BothInAsks, BothInGives}
 use Rattle.poly_lent.proofs.Mixing.{size-cut}
 use Rattle.basis_record.specs.Record.{part}
 use Rattle.basis_parts.specs.Frame.{Short}
 use Rattle.basis_parts.proofs.Laid.{zeros-at}
-use Rattle.basis_record.specs.Store.{StoreIn, Stored}
-use Rattle.basis_scale.specs.Levels.{LevelIn, Leveled}
-use Rattle.basis_scale.specs.Place.{PlaceIn, Placed, FillIn}
+use Rattle.basis_record.specs.Store.{StoredAsks, Stored}
+use Rattle.basis_scale.specs.Levels.{RowZeroAsks, Leveled}
+use Rattle.basis_scale.specs.Place.{StoreElementAsks, Placed, FilledAsks}
 use Rattle.basis_scale.specs.declared.Factors.{Factors}
 use Rattle.basis_record.proofs.Store.{stored-part, stored-other, stored-blank, stored-each}
 
-module _ {M : Modulus} {i top s : ℕ} {b c x x1 : List ℕ} {n1 : ℕ} {y1 : List ℕ} {n2 : ℕ} {u : List ℕ} {lu : ℕ} {B : List ℕ} (g : PlaceIn M i top s b c x x1 n1 y1 n2 u lu B) where
-  pub place-scale : {l : List ℕ} {n : ℕ} → Short (M .p) l n → n ≤ top → ScaleBy M s l top
+module _ {M : Modulus} {i top s : ℕ} {b c x x1 : List ℕ} {n1 : ℕ} {y1 : List ℕ} {n2 : ℕ} {u : List ℕ} {lu : ℕ} {B : List ℕ} (g : StoreElementAsks M i top s b c x x1 n1 y1 n2 u lu B) where
+  pub place-scale : {l : List ℕ} {n : ℕ} → Short (M .p) l n → n ≤ top → ScaleInAsks M s l top
   place-scale h w = let f : top ≤ 17 = g .inp .fits in record { modulus = g .inp .modulus; hc = g .inp .hs; hx = short-up h w; fits = omega arith }
 
   pub place-cut : {l : List ℕ} → Short (M .p) l top → Cut l top
   place-cut h = let f : top ≤ 17 = g .inp .fits in short-cut h (omega arith)
 
-  module _ {mb mc t : List ℕ} (sb : ScaleOut (M .p) s b top mb) (sc : ScaleOut (M .p) s c top mc) (st : ScaleOut (M .p) s x top t) where
+  module _ {mb mc t : List ℕ} (sb : ScaleInGives (M .p) s b top mb) (sc : ScaleInGives (M .p) s c top mc) (st : ScaleInGives (M .p) s x top t) where
     -- a length is bounded by where the row ended before it was scaled
-    within : {l m : List ℕ} {j n : ℕ} → Short (M .p) l n → ScaleOut (M .p) s l top m → Size m j → j ≤ n
+    within : {l m : List ℕ} {j n : ℕ} → Short (M .p) l n → ScaleInGives (M .p) s l top m → Size m j → j ≤ n
     within h e = size-below (scaled-short {c = s} (reading (M .p) (g .inp .prime)) h (e .short .is-row) (e .scaled .law (g .inp .prime)))
 
-    pub place-both : {n m : ℕ} → Size mb n → Size mc m → BothIn M mb n x1 n1 mc m y1 n2 t top
+    pub place-both : {n m : ℕ} → Size mb n → Size mc m → BothInAsks M mb n x1 n1 mc m y1 n2 t top
     place-both {n} {m} en em =
         let w : n ≤ g .inp .lb = within (g .inp .hb) sb en in
         let v : m ≤ g .inp .lc = within (g .inp .hc) sc em in
@@ -63,8 +63,8 @@ module _ {M : Modulus} {i top s : ℕ} {b c x x1 : List ℕ} {n1 : ℕ} {y1 : Li
         }
 
     -- k = s x + s b x1 + s c y1
-    module _ {k : List ℕ} {l : ℕ} (ek : BothOut (M .p) false mb x1 false mc y1 t k l) where
-      pub place-level : LevelIn M u lu k l t top
+    module _ {k : List ℕ} {l : ℕ} (ek : BothInGives (M .p) false mb x1 false mc y1 t k l) where
+      pub place-level : RowZeroAsks M u lu k l t top
       place-level = let f : top ≤ 17 = g .inp .fits in record {
         modulus = g .inp .modulus;
         prime = g .inp .prime;
@@ -78,7 +78,7 @@ module _ {M : Modulus} {i top s : ℕ} {b c x x1 : List ℕ} {n1 : ℕ} {y1 : Li
       }
 
       module _ {a : List ℕ} (la : Leveled (M .p) u k t top a) where
-        store : {A l : List ℕ} (j : ℕ) → j < 7 → length A ≡ 119 → ((m : ℕ) → 17 * j ≤ m → getD A m 0 ≡ 0) → Short (M .p) l top → StoreIn A j l top
+        store : {A l : List ℕ} (j : ℕ) → j < 7 → length A ≡ 119 → ((m : ℕ) → 17 * j ≤ m → getD A m 0 ≡ 0) → Short (M .p) l top → StoredAsks A j l top
         store {l = l} j w e z h = record {
           size = e;
           blank = z;
@@ -88,18 +88,18 @@ module _ {M : Modulus} {i top s : ℕ} {b c x x1 : List ℕ} {n1 : ℕ} {y1 : Li
           above = h .above;
         }
 
-        pub place-0 : StoreIn B i a top
+        pub place-0 : StoredAsks B i a top
         place-0 = let w : i + 2 < 7 = g .at in store i (omega arith) (g .size) (g .blank) (la .short)
 
         module _ {B₀ : List ℕ} (s₀ : Stored B i a B₀) where
           blank-1 : (m : ℕ) → 17 * (i + 1) ≤ m → getD B₀ m 0 ≡ 0
           blank-1 = stored-blank B i a B₀ s₀ (g .blank)
 
-          pub place-1 : StoreIn B₀ (i + 1) mb top
+          pub place-1 : StoredAsks B₀ (i + 1) mb top
           place-1 = let w : i + 2 < 7 = g .at in store (i + 1) (omega arith) (s₀ .size) blank-1 (sb .short)
 
           module _ {B₁ : List ℕ} (s₁ : Stored B₀ (i + 1) mb B₁) where
-            pub place-2 : StoreIn B₁ (i + 2) mc top
+            pub place-2 : StoredAsks B₁ (i + 2) mc top
             place-2 = store (i + 2) (g .at) (s₁ .size) (λ m l. stored-blank B₀ (i + 1) mb B₁ s₁ blank-1 m (omega arith)) (sc .short)
 
             module _ {B₂ : List ℕ} (s₂ : Stored B₁ (i + 2) mc B₂) where
@@ -139,16 +139,16 @@ module _ {M : Modulus} {i top s : ℕ} {b c x x1 : List ℕ} {n1 : ℕ} {y1 : Li
                       solve (ρ .𝓥 .L) (var 1 :+ var 2) (var 0 :+ var 1 :+ var 2 :+ minus (var 0)) tt (row ρ t ∷ o .mul (row ρ mb) (row ρ x1) ∷ o .mul (row ρ mc) (row ρ y1) ∷ []) ∙ ap (λ z. o .add z (o .neg (row ρ t))) (sym (ek .law pr))
 
 -- ---- m, n and u in turn
-module _ {M : Modulus} {top : ℕ} {k : Factors} {mb mc mx nb nc nx x1 : List ℕ} {n1 : ℕ} {y1 : List ℕ} {n2 : ℕ} {u : List ℕ} {lu : ℕ} (g : FillIn M top k mb mc mx nb nc nx x1 n1 y1 n2 u lu) where
-  pub fill-m : PlaceIn M 0 top (k .m) mb mc mx x1 n1 y1 n2 u lu (replicate 119 0)
+module _ {M : Modulus} {top : ℕ} {k : Factors} {mb mc mx nb nc nx x1 : List ℕ} {n1 : ℕ} {y1 : List ℕ} {n2 : ℕ} {u : List ℕ} {lu : ℕ} (g : FilledAsks M top k mb mc mx nb nc nx x1 n1 y1 n2 u lu) where
+  pub fill-m : StoreElementAsks M 0 top (k .m) mb mc mx x1 n1 y1 n2 u lu (replicate 119 0)
   fill-m = record { inp = g .m; at = omega arith; size = refl; blank = λ j w. zeros-at 119 j }
 
   module _ {B₁ : List ℕ} (pm : Placed (M .p) 0 (k .m) mb mc mx x1 y1 u (replicate 119 0) B₁) where
-    pub fill-n : PlaceIn M 3 top (k .n) nb nc nx x1 n1 y1 n2 u lu B₁
+    pub fill-n : StoreElementAsks M 3 top (k .n) nb nc nx x1 n1 y1 n2 u lu B₁
     fill-n = record { inp = g .n; at = omega arith; size = pm .size; blank = λ j w. pm .there j (inr (omega arith)) ∙ zeros-at 119 j }
 
     module _ {B₂ : List ℕ} (pn : Placed (M .p) 3 (k .n) nb nc nx x1 y1 u B₁ B₂) where
-      pub fill-u : StoreIn B₂ 6 u lu
+      pub fill-u : StoredAsks B₂ 6 u lu
       fill-u = let l : lu ≤ top = g .m .low-u in let f : top ≤ 17 = g .m .fits in record {
         size = pn .size;
         blank = λ j w. pn .there j (inr (omega arith)) ∙ pm .there j (inr (omega arith)) ∙ zeros-at 119 j;

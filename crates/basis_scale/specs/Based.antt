@@ -1,11 +1,11 @@
 -- The scaled basis that the reduction of two elements over a denominator gives, as a record.
---   BasisIn F q top d x1 y1   two elements within the bounds of the reduction, the denominator d, and the polynomials x1, y1: the element
+--   BasisAsks F q top d x1 y1   two elements within the bounds of the reduction, the denominator d, and the polynomials x1, y1: the element
 --                             of the lattice over b r + c w has the first coordinate −(b x1 + c y1) modulo d
---   BasisBy, BasisOn          the same for code: with the lengths, what a quick remainder needs, and rows for the polynomial parts
+--   ReducedBasisAsks, BasisInAsks          the same for code: with the lengths, what a quick remainder needs, and rows for the polynomial parts
 --   M, N, U of a record B     its rows, as series
 --   BasedAt                   a reduced basis in numbers (crate math_ideals), scaled; M and N span what q does; row 0 is as above
 --   Based                     the same at each meaning of the series
---   FinishIn, Finished        from a pair o that the reduction made: Based for every q that it is the reduction of
+--   FinishedAsks, Finished        from a pair o that the reduction made: Based for every q that it is the reduction of
 use mathlib.Core.Path.{_≡_}
 use mathlib.Core.Logic.{_≢_}
 use mathlib.Core.List.{List}
@@ -21,10 +21,10 @@ use Rattle.math_ideals.specs.Tests.{InNumbers}
 use Rattle.math_turns.specs.Points.{Pt, Moved}
 use Rattle.basis_record.specs.Record.{part}
 use Rattle.basis_parts.specs.Frame.{Frame, Meaning, Short, rd, Ser, rowμ, pt}
-use Rattle.basis_reduce.specs.Clear.{Pair, Ends, ClearIn, Reduced}
+use Rattle.basis_reduce.specs.Clear.{Pair, Ends, ClearYAsks, Reduced}
 use Rattle.basis_scale.specs.Place.{off}
 
-pub record BasisIn (F : Frame) (q : Pair) (top : ℕ) (d x1 y1 : List ℕ) : Type 0 where
+pub record BasisAsks (F : Frame) (q : Pair) (top : ℕ) (d x1 y1 : List ℕ) : Type 0 where
   pub small : F .m .p ≤ 65535
   pub odd : F .m .p % 2 ≡ 1
   pub fits : top ≤ 17
@@ -33,18 +33,18 @@ pub record BasisIn (F : Frame) (q : Pair) (top : ℕ) (d x1 y1 : List ℕ) : Typ
   pub h2 : Short (F .m .p) y1 (suc (F .dw))
   pub u : ℕ
   pub d-size : Size d (suc u)
-  pub clear : ClearIn F q top (suc u)
+  pub clear : ClearYAsks F q top (suc u)
 
 -- the same with the lengths of d, x1 and y1
-pub record BasisBy (F : Frame) (q : Pair) (top : ℕ) (d : List ℕ) (lu : ℕ) (x1 : List ℕ) (n1 : ℕ) (y1 : List ℕ) (n2 : ℕ) : Type 0 where
-  pub inp : BasisIn F q top d x1 y1
+pub record ReducedBasisAsks (F : Frame) (q : Pair) (top : ℕ) (d : List ℕ) (lu : ℕ) (x1 : List ℕ) (n1 : ℕ) (y1 : List ℕ) (n2 : ℕ) : Type 0 where
+  pub inp : BasisAsks F q top d x1 y1
   pub size : Size d lu
   pub size-1 : Size x1 n1
   pub size-2 : Size y1 n2
 
 -- the same with the rows that X(m), X(n) go into
-pub record BasisOn (F : Frame) (q : Pair) (top : ℕ) (d : List ℕ) (lu : ℕ) (x1 : List ℕ) (n1 : ℕ) (y1 : List ℕ) (n2 : ℕ) (mx nx : List ℕ) : Type 0 where
-  pub by : BasisBy F q top d lu x1 n1 y1 n2
+pub record BasisInAsks (F : Frame) (q : Pair) (top : ℕ) (d : List ℕ) (lu : ℕ) (x1 : List ℕ) (n1 : ℕ) (y1 : List ℕ) (n2 : ℕ) (mx nx : List ℕ) : Type 0 where
+  pub by : ReducedBasisAsks F q top d lu x1 n1 y1 n2
   pub hmx : Short (F .m .p) mx top
   pub hnx : Short (F .m .p) nx top
 
@@ -91,10 +91,10 @@ pub record Based (F : Frame) (q : Pair) (d x1 y1 B : List ℕ) : Type 0 where
   pub meant : (μ : Meaning F) → BasedAt μ q d x1 y1 B
 
 -- ---- from a reduced pair o on
-pub record FinishIn (F : Frame) (top : ℕ) (o : Ends) (d : List ℕ) (lu : ℕ) (x1 : List ℕ) (n1 : ℕ) (y1 : List ℕ) (n2 : ℕ) : Type 0 where
+pub record FinishedAsks (F : Frame) (top : ℕ) (o : Ends) (d : List ℕ) (lu : ℕ) (x1 : List ℕ) (n1 : ℕ) (y1 : List ℕ) (n2 : ℕ) : Type 0 where
   pub q : Pair
-  pub by : BasisBy F q top d lu x1 n1 y1 n2
+  pub by : ReducedBasisAsks F q top d lu x1 n1 y1 n2
   pub from : Reduced F q top lu o
 
 pub record Finished (F : Frame) (top : ℕ) (o : Ends) (d : List ℕ) (lu : ℕ) (x1 y1 B : List ℕ) : Type 0 where
-  pub each : {q : Pair} → BasisIn F q top d x1 y1 → Size d lu → Reduced F q top lu o → Based F q d x1 y1 B
+  pub each : {q : Pair} → BasisAsks F q top d x1 y1 → Size d lu → Reduced F q top lu o → Based F q d x1 y1 B

@@ -1,7 +1,7 @@
 -- The basis of the order: the reduction of r and w, whose denominator is 1.
 --   unit, nothing     the rows of 1 and of 0
 --   units             the elements r and w
---   OrderIn F top     the numbers are in range, and top is deg r + deg w + 1
+--   OrderAsks F top     the numbers are in range, and top is deg r + deg w + 1
 -- The contract of `order` is `Based`. That the record is then the basis of the order O of an accepted field is `order-start` in proofs/First.antt.
 use mathlib.Core.Path.{_≡_}
 use mathlib.Core.List.{List}
@@ -19,7 +19,7 @@ unit = set (replicate 32 0) 0 1
 abbrev pub units : Pair
 units = pair unit nothing nothing unit
 
-pub record OrderIn (F : Frame) (top : ℕ) : Type 0 where
+pub record OrderAsks (F : Frame) (top : ℕ) : Type 0 where
   pub fine : Fine F
   pub small : F .m .p ≤ 65535
   pub odd : F .m .p % 2 ≡ 1

@@ -24,7 +24,7 @@ pub record Monic (p : ℕ) (u : List ℕ) (n : ℕ) : Type 0 where
   pub pos : 0 < n
   pub lead : getD u (n - 1) 0 ≡ 1
 
-pub record LevelIn (q : Modulus) (u : List ℕ) (lu : ℕ) (k : List ℕ) (n : ℕ) (x : List ℕ) (top : ℕ) : Type 0 where
+pub record RowZeroAsks (q : Modulus) (u : List ℕ) (lu : ℕ) (k : List ℕ) (n : ℕ) (x : List ℕ) (top : ℕ) : Type 0 where
   pub modulus : Prepared q
   pub prime : Prime (q .p)
   pub odd : q .p % 2 ≡ 1

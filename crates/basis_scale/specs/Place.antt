@@ -1,7 +1,7 @@
 -- An element s (b r + c w) over u, put into three rows of the record from row i on.
---   ElementIn     rows b, c, x for the element and the polynomial part of its X; the denominator u; polynomials x1, y1 that settle row 0;
+--   ElementAsks     rows b, c, x for the element and the polynomial part of its X; the denominator u; polynomials x1, y1 that settle row 0;
 --                 numbers: n1, n2 and top, before which x1, y1 and b, c, x end, and the length lu of u
---   PlaceIn       the same, and the record is 0 from row i on
+--   StoreElementAsks       the same, and the record is 0 from row i on
 --   PlacedAt      b₀ and c₀ are s b and s c; 2 a₀ is −(s b x1 + s c y1) modulo u, and 2 a₀ less s x lies below u
 --   Placed        the three rows of B′ are such, for a prime p; the rest of it is that of B
 --   Filled        the record of m and n, scaled by the factors of k, and of u
@@ -30,7 +30,7 @@ use Rattle.basis_scale.specs.declared.Factors.{Factors}
 abbrev pub off : {A : Type 0} → Ops A → A → A → A → A → A → A
 off o x y a b c = o .add a (o .add (o .mul b x) (o .mul c y))
 
-pub record ElementIn (q : Modulus) (top s : ℕ) (b c x x1 : List ℕ) (n1 : ℕ) (y1 : List ℕ) (n2 : ℕ) (u : List ℕ) (lu : ℕ) : Type 0 where
+pub record ElementAsks (q : Modulus) (top s : ℕ) (b c x x1 : List ℕ) (n1 : ℕ) (y1 : List ℕ) (n2 : ℕ) (u : List ℕ) (lu : ℕ) : Type 0 where
   pub modulus : Prepared q
   pub prime : Prime (q .p)
   pub small : q .p ≤ 65535
@@ -54,8 +54,8 @@ pub record ElementIn (q : Modulus) (top s : ℕ) (b c x x1 : List ℕ) (n1 : ℕ
   pub monic : Monic (q .p) u lu
   pub low-u : lu ≤ top
 
-pub record PlaceIn (q : Modulus) (i top s : ℕ) (b c x x1 : List ℕ) (n1 : ℕ) (y1 : List ℕ) (n2 : ℕ) (u : List ℕ) (lu : ℕ) (B : List ℕ) : Type 0 where
-  pub inp : ElementIn q top s b c x x1 n1 y1 n2 u lu
+pub record StoreElementAsks (q : Modulus) (i top s : ℕ) (b c x x1 : List ℕ) (n1 : ℕ) (y1 : List ℕ) (n2 : ℕ) (u : List ℕ) (lu : ℕ) (B : List ℕ) : Type 0 where
+  pub inp : ElementAsks q top s b c x x1 n1 y1 n2 u lu
   pub at : i + 2 < 7
   pub size : length B ≡ 119
   pub blank : (k : ℕ) → 17 * i ≤ k → getD B k 0 ≡ 0
@@ -77,9 +77,9 @@ pub record Placed (p i s : ℕ) (b c x x1 y1 u B B′ : List ℕ) : Type 0 where
   pub at : (pr : Prime p) → PlacedAt (reading p pr) s b c x x1 y1 u (part i B′) (part (i + 1) B′) (part (i + 2) B′)
 
 -- ---- the whole record
-pub record FillIn (q : Modulus) (top : ℕ) (k : Factors) (mb mc mx nb nc nx x1 : List ℕ) (n1 : ℕ) (y1 : List ℕ) (n2 : ℕ) (u : List ℕ) (lu : ℕ) : Type 0 where
-  pub m : ElementIn q top (k .m) mb mc mx x1 n1 y1 n2 u lu
-  pub n : ElementIn q top (k .n) nb nc nx x1 n1 y1 n2 u lu
+pub record FilledAsks (q : Modulus) (top : ℕ) (k : Factors) (mb mc mx nb nc nx x1 : List ℕ) (n1 : ℕ) (y1 : List ℕ) (n2 : ℕ) (u : List ℕ) (lu : ℕ) : Type 0 where
+  pub m : ElementAsks q top (k .m) mb mc mx x1 n1 y1 n2 u lu
+  pub n : ElementAsks q top (k .n) nb nc nx x1 n1 y1 n2 u lu
 
 pub record Filled (p : ℕ) (k : Factors) (mb mc mx nb nc nx x1 y1 u B : List ℕ) : Type 0 where
   pub B₁ : List ℕ

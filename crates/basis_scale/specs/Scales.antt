@@ -10,7 +10,7 @@ use Rattle.math_rows.specs.Reading.{Reading}
 use Rattle.math_rows.specs.Made.{reading}
 use Rattle.basis_scale.specs.declared.Factors.{Factors}
 
-pub record ScalesIn (p a b c : ℕ) : Type 0 where
+pub record FactorsOfAsks (p a b c : ℕ) : Type 0 where
   pub modulus : IsModulus p
   pub prime : Prime p
   pub a-pos : 0 < a

@@ -14,14 +14,14 @@ use poly_rows::size_from;
 ghost use Prim.Native.Nat.{_+_, _*_, _-_, _%_, _<_, _≤_};
 ghost use Rattle.basis_parts.specs.Given.{given};
 ghost use Rattle.basis_reduce.specs.Clear.{pair, ends};
-ghost use Rattle.basis_scale.specs.Based.{BasisBy, BasisOn, Based, FinishIn, Finished};
-ghost use Rattle.basis_scale.specs.First.{OrderIn, units, unit, nothing};
-ghost use Rattle.basis_scale.specs.Levels.{LevelIn, Leveled};
-ghost use Rattle.basis_scale.specs.Place.{PlaceIn, Placed, FillIn, Filled};
-ghost use Rattle.basis_scale.specs.Scales.{ScalesIn, Scaling};
+ghost use Rattle.basis_scale.specs.Based.{ReducedBasisAsks, BasisInAsks, Based, FinishedAsks, Finished};
+ghost use Rattle.basis_scale.specs.First.{OrderAsks, units, unit, nothing};
+ghost use Rattle.basis_scale.specs.Levels.{RowZeroAsks, Leveled};
+ghost use Rattle.basis_scale.specs.Place.{StoreElementAsks, Placed, FilledAsks, Filled};
+ghost use Rattle.basis_scale.specs.Scales.{FactorsOfAsks, Scaling};
 
 // Row 0 of an element over the denominator u, which leads with 1: half of x - (k mod u), in place of x
-fn level(
+fn row_zero(
     q: Modulus,
     u: &[u64; 32],
     lu: usize,
@@ -30,7 +30,7 @@ fn level(
     x: &mut [u64; 32],
     top: usize,
 )
-    requires { ⌜ LevelIn q (now u) lu (now k) n (now x) top ⌝ }
+    requires { ⌜ RowZeroAsks q (now u) lu (now k) n (now x) top ⌝ }
     ensures { λ _. ⌜ Leveled (q .p) (now (u .entry)) (now (k .entry)) (now (x .entry)) top (now (x .exit)) ⌝ }
 {
     let mut d: [u64; 32] = [0; 32];
@@ -49,7 +49,7 @@ struct Factors {
 
 // 1 / a, 2 / b and 1 / c, by one inversion
 fn factors_of(p: u64, a: u64, b: u64, c: u64) -> Factors
-    requires { ⌜ ScalesIn p a b c ⌝ }
+    requires { ⌜ FactorsOfAsks p a b c ⌝ }
     ensures { λ k. ⌜ Scaling p a b c k ⌝ }
 {
     let ab = a * b % p;
@@ -64,7 +64,7 @@ fn factors_of(p: u64, a: u64, b: u64, c: u64) -> Factors
 
 // Rows i, i + 1, i + 2 of the record: the element s (b r + c w) over u, x the polynomial part of b r + c w. The rows are scaled in
 // place, and x1 and y1 are twice what settles row 0.
-fn placed(
+fn store_element(
     rows: &mut [u16; 119],
     i: usize,
     q: Modulus,
@@ -80,7 +80,7 @@ fn placed(
     u: &[u64; 32],
     lu: usize,
 )
-    requires { ⌜ PlaceIn q i top s (now b) (now c) (now x) (now x1) n1 (now y1) n2 (now u) lu (now rows) ⌝ }
+    requires { ⌜ StoreElementAsks q i top s (now b) (now c) (now x) (now x1) n1 (now y1) n2 (now u) lu (now rows) ⌝ }
     ensures { λ _. ⌜ Placed (q .p) i s (now (b .entry)) (now (c .entry)) (now (x .entry)) (now (x1 .entry)) (now (y1 .entry)) (now (u .entry)) (now (rows .entry)) (now (rows .exit)) ⌝ }
 {
     scale_in(q, s, b, top);
@@ -90,7 +90,7 @@ fn placed(
     let nc = size_from(c, top);
     let mut k = *x;
     let n = both_in(q, false, b, nb, x1, n1, false, c, nc, y1, n2, &mut k, top);
-    level(q, u, lu, &mut k, n, x, top);
+    row_zero(q, u, lu, &mut k, n, x, top);
     stored(rows, i, x, top);
     stored(rows, i + 1, b, top);
     stored(rows, i + 2, c, top);
@@ -114,12 +114,12 @@ fn filled(
     u: &[u64; 32],
     lu: usize,
 ) -> [u16; 119]
-    requires { ⌜ FillIn q top k (now mb) (now mc) (now mx) (now nb) (now nc) (now nx) (now x1) n1 (now y1) n2 (now u) lu ⌝ }
+    requires { ⌜ FilledAsks q top k (now mb) (now mc) (now mx) (now nb) (now nc) (now nx) (now x1) n1 (now y1) n2 (now u) lu ⌝ }
     ensures { λ o. ⌜ Filled (q .p) k (now (mb .entry)) (now (mc .entry)) (now (mx .entry)) (now (nb .entry)) (now (nc .entry)) (now (nx .entry)) (now (x1 .entry)) (now (y1 .entry)) (now (u .entry)) o ⌝ }
 {
     let mut rows: [u16; 119] = [0; 119];
-    placed(&mut rows, 0, q, top, k.m, mb, mc, mx, x1, n1, y1, n2, u, lu);
-    placed(&mut rows, 3, q, top, k.n, nb, nc, nx, x1, n1, y1, n2, u, lu);
+    store_element(&mut rows, 0, q, top, k.m, mb, mc, mx, x1, n1, y1, n2, u, lu);
+    store_element(&mut rows, 3, q, top, k.n, nb, nc, nx, x1, n1, y1, n2, u, lu);
     stored(&mut rows, 6, u, lu);
     rows
 }
@@ -143,7 +143,7 @@ fn finished(
     y1: &mut [u64; 32],
     n2: usize,
 ) -> [u16; 119]
-    requires { ⌜ FinishIn (given f (now r) (now w)) (f .top) (ends (now mb) (now mc) (now mx) (now nb) (now nc) (now nx) l) (now d) lu (now x1) n1 (now y1) n2 ⌝ }
+    requires { ⌜ FinishedAsks (given f (now r) (now w)) (f .top) (ends (now mb) (now mc) (now mx) (now nb) (now nc) (now nx) l) (now d) lu (now x1) n1 (now y1) n2 ⌝ }
     ensures { λ o. ⌜ Finished (given f (now (r .entry)) (now (w .entry))) (f .top) (ends (now (mb .entry)) (now (mc .entry)) (now (mx .entry)) (now (nb .entry)) (now (nc .entry)) (now (nx .entry)) l) (now (d .entry)) lu (now (x1 .entry)) (now (y1 .entry)) o ⌝ }
 {
     let q = f.m;
@@ -174,7 +174,7 @@ fn basis_in(
     y1: &mut [u64; 32],
     n2: usize,
 ) -> [u16; 119]
-    requires { ⌜ BasisOn (given f (now r) (now w)) (pair (now mb) (now mc) (now nb) (now nc)) (f .top) (now d) lu (now x1) n1 (now y1) n2 (now mx) (now nx) ⌝ }
+    requires { ⌜ BasisInAsks (given f (now r) (now w)) (pair (now mb) (now mc) (now nb) (now nc)) (f .top) (now d) lu (now x1) n1 (now y1) n2 (now mx) (now nx) ⌝ }
     ensures { λ o. ⌜ Based (given f (now (r .entry)) (now (w .entry))) (pair (now (mb .entry)) (now (mc .entry)) (now (nb .entry)) (now (nc .entry))) (now (d .entry)) (now (x1 .entry)) (now (y1 .entry)) o ⌝ }
 {
     let o = reduced(f, r, w, mb, mc, mx, nb, nc, nx, lu);
@@ -202,7 +202,7 @@ pub fn reduced_basis(
     y1: &mut [u64; 32],
     n2: usize,
 ) -> [u16; 119]
-    requires { ⌜ BasisBy (given f (now r) (now w)) (pair (now mb) (now mc) (now nb) (now nc)) (f .top) (now d) lu (now x1) n1 (now y1) n2 ⌝ }
+    requires { ⌜ ReducedBasisAsks (given f (now r) (now w)) (pair (now mb) (now mc) (now nb) (now nc)) (f .top) (now d) lu (now x1) n1 (now y1) n2 ⌝ }
     ensures { λ o. ⌜ Based (given f (now (r .entry)) (now (w .entry))) (pair (now (mb .entry)) (now (mc .entry)) (now (nb .entry)) (now (nc .entry))) (now (d .entry)) (now (x1 .entry)) (now (y1 .entry)) o ⌝ }
 {
     let mut mx: [u64; 32] = [0; 32];
@@ -228,7 +228,7 @@ pub fn reduced_basis(
 
 // The basis of the order: from the elements r and w, with the denominator 1
 pub fn order(f: Bounds, r: &[u64; 32], w: &[u64; 32]) -> [u16; 119]
-    requires { ⌜ OrderIn (given f (now r) (now w)) (f .top) ⌝ }
+    requires { ⌜ OrderAsks (given f (now r) (now w)) (f .top) ⌝ }
     ensures { λ o. ⌜ Based (given f (now (r .entry)) (now (w .entry))) units unit nothing nothing o ⌝ }
 {
     let mut mb: [u64; 32] = [0; 32];

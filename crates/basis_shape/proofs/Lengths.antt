@@ -12,7 +12,7 @@ use native.Mathlib.Omega.{arith}
 use native.Mathlib.Decide.{decLt}
 use lib.ListN.{length, getD, List·getD-eq-default}
 use Rattle.math_rows.specs.Row.{Size}
-use Rattle.poly_rows.proofs.Leaf.{size-one}
+use Rattle.poly_rows.proofs.Leaf.{size-unique}
 use Rattle.base_answers.specs.Decides.{Decides}
 use Rattle.basis_shape.specs.Lengths.{Ends, Ordered, Units, Shape}
 
@@ -32,13 +32,13 @@ below-end p B i h s l k = elim (decLt k 119) [
 pub not-ordered : {u mx my nx ny zm zn : List ℕ} {lu lx ly ln lm a b : ℕ} → Size u lu → Size mx lx → Size ny ly → Size nx ln → Size my lm → Size zm a → Size zn b
     → (Ordered lu lx ly ln lm a b → ⊥) → Shape u mx my nx ny zm zn → ⊥
 not-ordered {lu = lu} {lx} {ly} {ln} {lm} {a} {b} su sx sy sn sm sa sb out s =
-    let e₁ : s .lu ≡ lu = size-one (s .su) su in
-    let e₂ : s .lx ≡ lx = size-one (s .sx) sx in
-    let e₃ : s .ly ≡ ly = size-one (s .sy) sy in
-    let e₄ : s .ln ≡ ln = size-one (s .sn) sn in
-    let e₅ : s .lm ≡ lm = size-one (s .sm) sm in
-    let e₆ : s .a ≡ a = size-one (s .sa) sa in
-    let e₇ : s .b ≡ b = size-one (s .sb) sb in
+    let e₁ : s .lu ≡ lu = size-unique (s .su) su in
+    let e₂ : s .lx ≡ lx = size-unique (s .sx) sx in
+    let e₃ : s .ly ≡ ly = size-unique (s .sy) sy in
+    let e₄ : s .ln ≡ ln = size-unique (s .sn) sn in
+    let e₅ : s .lm ≡ lm = size-unique (s .sm) sm in
+    let e₆ : s .a ≡ a = size-unique (s .sa) sa in
+    let e₇ : s .b ≡ b = size-unique (s .sb) sb in
     let o = s .ordered in
     out (record {
       Y-M = omega (arith, o .Y-M);
@@ -53,9 +53,9 @@ not-ordered {lu = lu} {lx} {ly} {ln} {lm} {a} {b} su sx sy sn sm sa sb out s =
 pub not-units : {u mx my nx ny zm zn : List ℕ} {lu lx ly : ℕ} → Size u lu → Size mx lx → Size ny ly
     → (Units (getD u (lu - 1) 0) (getD mx (lx - 1) 0) (getD ny (ly - 1) 0) → ⊥) → Shape u mx my nx ny zm zn → ⊥
 not-units {u} {mx} {my} {nx} {ny} su sx sy out s = out (record {
-  U-one = ap (λ n. getD u (n - 1) 0) (size-one su (s .su)) ∙ s .units .U-one;
-  X-two = ap (λ n. getD mx (n - 1) 0) (size-one sx (s .sx)) ∙ s .units .X-two;
-  Y-one = ap (λ n. getD ny (n - 1) 0) (size-one sy (s .sy)) ∙ s .units .Y-one;
+  U-one = ap (λ n. getD u (n - 1) 0) (size-unique su (s .su)) ∙ s .units .U-one;
+  X-two = ap (λ n. getD mx (n - 1) 0) (size-unique sx (s .sx)) ∙ s .units .X-two;
+  Y-one = ap (λ n. getD ny (n - 1) 0) (size-unique sy (s .sy)) ∙ s .units .Y-one;
 })
 
 -- the shape, where the lengths are in order

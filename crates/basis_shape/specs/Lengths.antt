@@ -17,7 +17,7 @@ abbrev pub Below : ℕ → List ℕ → Type 0
 Below p B = (i : ℕ) → getD B i 0 < p
 
 -- ---- lengths
-pub record NarrowIn (m1 m2 n1 n2 : List ℕ) : Type 0 where
+pub record RowsFitAsks (m1 m2 n1 n2 : List ℕ) : Type 0 where
   pub h1 : length m1 ≡ 32
   pub h2 : length m2 ≡ 32
   pub k1 : length n1 ≡ 32
@@ -48,7 +48,7 @@ pub record Units (u x y : ℕ) : Type 0 where
   pub X-two : x ≡ 2
   pub Y-one : y ≡ 1
 
-pub record ShapeIn (u mx my nx ny zm zn : List ℕ) : Type 0 where
+pub record ShapeAsks (u mx my nx ny zm zn : List ℕ) : Type 0 where
   pub hu : length u ≡ 32
   pub hmx : length mx ≡ 32
   pub hmy : length my ≡ 32

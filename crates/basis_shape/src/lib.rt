@@ -1,15 +1,10 @@
 // Refusal 9: the tests of a record that look at numbers, lengths and leading coefficients alone. Each is two-sided. specs/Lengths.antt has what
 // they decide, proofs/Lengths.antt that lengths are settled. Crate accepts has what they say of an ideal.
+use base_lists::wide;
 use poly_rows::size;
 ghost use mathlib.Core.Path.{_≡_};
 ghost use Rattle.base_answers.specs.Decides.{Decides};
-ghost use Rattle.basis_shape.specs.Lengths.{Below, Narrow, NarrowIn, Ordered, Units, Shape, ShapeIn};
-
-fn wide(x: u16) -> u64
-    ensures { λ r. ⌜ r ≡ x ⌝ }
-{
-    x as u64
-}
+ghost use Rattle.basis_shape.specs.Lengths.{Below, Narrow, RowsFitAsks, Ordered, Units, Shape, ShapeAsks};
 
 // Whether every number is below p.
 pub fn below(p: u64, b: [u16; 119]) -> bool
@@ -27,7 +22,7 @@ pub fn below(p: u64, b: [u16; 119]) -> bool
 }
 
 // Whether m1 and n1 end before kb, and m2 and n2 before kc.
-pub fn narrow(
+pub fn rows_fit(
     kb: usize,
     kc: usize,
     m1: &[u64; 32],
@@ -35,7 +30,7 @@ pub fn narrow(
     n1: &[u64; 32],
     n2: &[u64; 32],
 ) -> bool
-    requires { ⌜ NarrowIn (now m1) (now m2) (now n1) (now n2) ⌝ }
+    requires { ⌜ RowsFitAsks (now m1) (now m2) (now n1) (now n2) ⌝ }
     ensures { λ o. ⌜ Decides o (Narrow kb kc (now (m1 .entry)) (now (m2 .entry)) (now (n1 .entry)) (now (n2 .entry))) ⌝ }
 {
     let a = size(m1);
@@ -114,7 +109,7 @@ pub fn shape(
     zm: &[u64; 32],
     zn: &[u64; 32],
 ) -> bool
-    requires { ⌜ ShapeIn (now u) (now mx) (now my) (now nx) (now ny) (now zm) (now zn) ⌝ }
+    requires { ⌜ ShapeAsks (now u) (now mx) (now my) (now nx) (now ny) (now zm) (now zn) ⌝ }
     ensures { λ o. ⌜ Decides o (Shape (now (u .entry)) (now (mx .entry)) (now (my .entry)) (now (nx .entry)) (now (ny .entry)) (now (zm .entry)) (now (zn .entry))) ⌝ }
 {
     let lu = size(u);

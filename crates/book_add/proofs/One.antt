@@ -1,7 +1,7 @@
 -- The outcome of adding is settled by the slice, the book's length and the body.
---   add-one       what is said, and the slice
---   added-one     the answer itself, and the slice
---   verdict-one   whether a body may be added
+--   add-unique       what is said, and the slice
+--   added-unique     the answer itself, and the slice
+--   verdict-unique   whether a body may be added
 use mathlib.Core.Path.{_≡_, refl, sym, ap, _∙_}
 use mathlib.Core.Logic.{_⊎_, inl, inr}
 use mathlib.Core.List.{List}
@@ -11,7 +11,7 @@ use lib.ListN.{length, take}
 use Rattle.base_answers.specs.Said.{Said}
 use Rattle.book_body.specs.Body.{Finished}
 use Rattle.book_check.specs.Book.{Accepted}
-use Rattle.book_check.proofs.One.{tells-one, body-one, finished-no, reason, reasonOf, reason-one}
+use Rattle.book_check.proofs.One.{tells-unique, body-unique, finished-no, reason, reasonOf, reason-unique}
 use Rattle.book_check.specs.declared.Reason.{Reason}
 use Rattle.book_check.specs.declared.Reason.the-variants.{Mark, Contents, BodyRule, Field, Twice}
 use Rattle.book_add.specs.Code.{VerdictTells}
@@ -50,46 +50,46 @@ module _ (d : List ℕ) (n : ℕ) (b : List ℕ) where
   no-room (inl h) k l = omega arith
   no-room (inr h) k l = omega arith
 
-  pub add-one : {x y : Said} {e f : List ℕ} → AddTells d n b x e → AddTells d n b y f → (x ≡ y) × (e ≡ f)
-  add-one (length-out h p q) (length-out k u v) = (p ∙ sym u, q ∙ sym v)
-  add-one (length-out h p q) (book k g t v) = absurd (omega arith)
-  add-one (length-out h p q) (body k a t v) = absurd (omega arith)
-  add-one (length-out h p q) (known k a g j l o u v) = absurd (omega arith)
-  add-one (length-out h p q) (short k a g l r u v) = absurd (omega arith)
-  add-one (length-out h p q) (added k a g l r m u v) = absurd (omega arith)
-  add-one (book h f t q) (length-out k u v) = absurd (omega arith)
-  add-one (book h f t q) (book k g u v) = (tells-one (take n d) t u, q ∙ sym v)
-  add-one (book h f t q) (body k a u v) = absurd (f a)
-  add-one (book h f t q) (known k a g j l o u v) = absurd (f a)
-  add-one (book h f t q) (short k a g l r u v) = absurd (f a)
-  add-one (book h f t q) (added k a g l r m u v) = absurd (f a)
-  add-one (body h f t q) (length-out k u v) = absurd (omega arith)
-  add-one (body h f t q) (book k g u v) = absurd (g f)
-  add-one (body h f t q) (body k a u v) = (body-one t u, q ∙ sym v)
-  add-one (body h f t q) (known k a g j l o u v) = absurd (finished-no g t)
-  add-one (body h f t q) (short k a g l r u v) = absurd (finished-no g t)
-  add-one (body h f t q) (added k a g l r m u v) = absurd (finished-no g t)
-  add-one (known h f i w z o p q) (length-out k u v) = absurd (omega arith)
-  add-one (known h f i w z o p q) (book k g u v) = absurd (g f)
-  add-one (known h f i w z o p q) (body k a u v) = absurd (finished-no i u)
-  add-one (known h f i w z o p q) (known k a g j l c u v) = (p ∙ sym u, q ∙ sym v)
-  add-one (known h f i w z o p q) (short k a g l r u v) = absurd (l w z o)
-  add-one (known h f i w z o p q) (added k a g l r m u v) = absurd (l w z o)
-  add-one (short h f i w z p q) (length-out k u v) = absurd (omega arith)
-  add-one (short h f i w z p q) (book k g u v) = absurd (g f)
-  add-one (short h f i w z p q) (body k a u v) = absurd (finished-no i u)
-  add-one (short h f i w z p q) (known k a g j l o u v) = absurd (w j l o)
-  add-one (short h f i w z p q) (short k a g l r u v) = (p ∙ sym u, q ∙ sym v)
-  add-one (short h f i w z p q) (added k a g l r m u v) = absurd (no-room z r m)
-  add-one (added h f i w z c p q) (length-out k u v) = absurd (omega arith)
-  add-one (added h f i w z c p q) (book k g u v) = absurd (g f)
-  add-one (added h f i w z c p q) (body k a u v) = absurd (finished-no i u)
-  add-one (added h f i w z c p q) (known k a g j l o u v) = absurd (w j l o)
-  add-one (added h f i w z c p q) (short k a g l r u v) = absurd (no-room r z c)
-  add-one (added h f i w z c p q) (added k a g l r m u v) = (p ∙ sym u, q ∙ sym v)
+  pub add-unique : {x y : Said} {e f : List ℕ} → AddTells d n b x e → AddTells d n b y f → (x ≡ y) × (e ≡ f)
+  add-unique (length-out h p q) (length-out k u v) = (p ∙ sym u, q ∙ sym v)
+  add-unique (length-out h p q) (book k g t v) = absurd (omega arith)
+  add-unique (length-out h p q) (body k a t v) = absurd (omega arith)
+  add-unique (length-out h p q) (known k a g j l o u v) = absurd (omega arith)
+  add-unique (length-out h p q) (short k a g l r u v) = absurd (omega arith)
+  add-unique (length-out h p q) (added k a g l r m u v) = absurd (omega arith)
+  add-unique (book h f t q) (length-out k u v) = absurd (omega arith)
+  add-unique (book h f t q) (book k g u v) = (tells-unique (take n d) t u, q ∙ sym v)
+  add-unique (book h f t q) (body k a u v) = absurd (f a)
+  add-unique (book h f t q) (known k a g j l o u v) = absurd (f a)
+  add-unique (book h f t q) (short k a g l r u v) = absurd (f a)
+  add-unique (book h f t q) (added k a g l r m u v) = absurd (f a)
+  add-unique (body h f t q) (length-out k u v) = absurd (omega arith)
+  add-unique (body h f t q) (book k g u v) = absurd (g f)
+  add-unique (body h f t q) (body k a u v) = (body-unique t u, q ∙ sym v)
+  add-unique (body h f t q) (known k a g j l o u v) = absurd (finished-no g t)
+  add-unique (body h f t q) (short k a g l r u v) = absurd (finished-no g t)
+  add-unique (body h f t q) (added k a g l r m u v) = absurd (finished-no g t)
+  add-unique (known h f i w z o p q) (length-out k u v) = absurd (omega arith)
+  add-unique (known h f i w z o p q) (book k g u v) = absurd (g f)
+  add-unique (known h f i w z o p q) (body k a u v) = absurd (finished-no i u)
+  add-unique (known h f i w z o p q) (known k a g j l c u v) = (p ∙ sym u, q ∙ sym v)
+  add-unique (known h f i w z o p q) (short k a g l r u v) = absurd (l w z o)
+  add-unique (known h f i w z o p q) (added k a g l r m u v) = absurd (l w z o)
+  add-unique (short h f i w z p q) (length-out k u v) = absurd (omega arith)
+  add-unique (short h f i w z p q) (book k g u v) = absurd (g f)
+  add-unique (short h f i w z p q) (body k a u v) = absurd (finished-no i u)
+  add-unique (short h f i w z p q) (known k a g j l o u v) = absurd (w j l o)
+  add-unique (short h f i w z p q) (short k a g l r u v) = (p ∙ sym u, q ∙ sym v)
+  add-unique (short h f i w z p q) (added k a g l r m u v) = absurd (no-room z r m)
+  add-unique (added h f i w z c p q) (length-out k u v) = absurd (omega arith)
+  add-unique (added h f i w z c p q) (book k g u v) = absurd (g f)
+  add-unique (added h f i w z c p q) (body k a u v) = absurd (finished-no i u)
+  add-unique (added h f i w z c p q) (known k a g j l o u v) = absurd (w j l o)
+  add-unique (added h f i w z c p q) (short k a g l r u v) = absurd (no-room r z c)
+  add-unique (added h f i w z c p q) (added k a g l r m u v) = (p ∙ sym u, q ∙ sym v)
 
-  pub added-one : (r q : Added) {e f : List ℕ} → AddTells d n b (addedSays r) e → AddTells d n b (addedSays q) f → (r ≡ q) × (e ≡ f)
-  added-one r q t u = let w = add-one t u in (sym (added-back r) ∙ ap addedOf (w .0) ∙ added-back q, w .1)
+  pub added-unique : (r q : Added) {e f : List ℕ} → AddTells d n b (addedSays r) e → AddTells d n b (addedSays q) f → (r ≡ q) × (e ≡ f)
+  added-unique r q t u = let w = add-unique t u in (sym (added-back r) ∙ ap addedOf (w .0) ∙ added-back q, w .1)
 
 -- ---- whether a body may be added
 module _ (s b : List ℕ) where
@@ -102,19 +102,19 @@ module _ (s b : List ℕ) where
   refused why (inl w) a f = w .0 a
   refused why (inr w) a f = finished-no f (w .1)
 
-  why-one : (why wer : Reason) → VerdictTells s b (No why) → VerdictTells s b (No wer) → why ≡ wer
-  why-one why wer (inl w) (inl z) = reason-one why wer (tells-one s (w .1) (z .1))
-  why-one why wer (inl w) (inr z) = absurd (w .0 (z .0))
-  why-one why wer (inr w) (inl z) = absurd (z .0 (w .0))
-  why-one why wer (inr w) (inr z) = reason-one why wer (body-one (w .1) (z .1))
+  why-unique : (why wer : Reason) → VerdictTells s b (No why) → VerdictTells s b (No wer) → why ≡ wer
+  why-unique why wer (inl w) (inl z) = reason-unique why wer (tells-unique s (w .1) (z .1))
+  why-unique why wer (inl w) (inr z) = absurd (w .0 (z .0))
+  why-unique why wer (inr w) (inl z) = absurd (z .0 (w .0))
+  why-unique why wer (inr w) (inr z) = reason-unique why wer (body-unique (w .1) (z .1))
 
-  pub verdict-one : (r q : Verdict) → VerdictTells s b r → VerdictTells s b q → r ≡ q
-  verdict-one (May c) (May k) t u = ap May (t .0 ∙ sym (u .0))
-  verdict-one (May c) (No why) t u = absurd (refused why u (t .1) (t .2))
-  verdict-one (May c) Has t u = absurd (apart t u)
-  verdict-one (No why) (May k) t u = absurd (refused why t (u .1) (u .2))
-  verdict-one (No why) (No wer) t u = ap No (why-one why wer t u)
-  verdict-one (No why) Has t u = absurd (refused why t (u .0) (u .1))
-  verdict-one Has (May k) t u = absurd (apart u t)
-  verdict-one Has (No why) t u = absurd (refused why u (t .0) (t .1))
-  verdict-one Has Has t u = refl
+  pub verdict-unique : (r q : Verdict) → VerdictTells s b r → VerdictTells s b q → r ≡ q
+  verdict-unique (May c) (May k) t u = ap May (t .0 ∙ sym (u .0))
+  verdict-unique (May c) (No why) t u = absurd (refused why u (t .1) (t .2))
+  verdict-unique (May c) Has t u = absurd (apart t u)
+  verdict-unique (No why) (May k) t u = absurd (refused why t (u .1) (u .2))
+  verdict-unique (No why) (No wer) t u = ap No (why-unique why wer t u)
+  verdict-unique (No why) Has t u = absurd (refused why t (u .0) (u .1))
+  verdict-unique Has (May k) t u = absurd (apart u t)
+  verdict-unique Has (No why) t u = absurd (refused why u (t .0) (t .1))
+  verdict-unique Has Has t u = refl

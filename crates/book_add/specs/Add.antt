@@ -6,7 +6,7 @@
 --   AddTells d n b x d' adding b to the book of length n in the slice d, which is d' then, says x: 14 when the length exceeds the
 --                       slice; 13 for the book; 13 for the body, with the old count as its entry; 15; 11 when there is too little room
 --                       in the slice or in 65,536 bytes; else the new length, and only the book's new extent is changed
--- That x and d', and the answer itself, are settled by d, n and b is `add-one` and `added-one`, in proofs/One.antt; that after 0 the
+-- That x and d', and the answer itself, are settled by d, n and b is `add-unique` and `added-unique`, in proofs/One.antt; that after 0 the
 -- new book is accepted and says the old bodies and the new one is `added-accepted`, in proofs/Accepted.antt.
 use mathlib.Core.Path.{_≡_}
 use mathlib.Core.Logic.{_⊎_}

@@ -20,13 +20,13 @@ use Rattle.field_open.specs.Refusal as field
 use Rattle.field_open.proofs.Accept.{accepted}
 use Rattle.book_body.specs.Body.{listAt, bodyOf, Finished}
 use Rattle.book_attest.specs.Attest.{NonZeroConstant, Attested}
-use Rattle.book_attest.specs.Code.{LoadIn, Loaded, NormIn, Norm, BodyNorm}
+use Rattle.book_attest.specs.Code.{LoadAsks, Loaded, NormAsks, Norm, BodyNorm}
 
 -- ---- one list
 past : (l : List ℕ) (i : ℕ) → length l ≤ i → getD l i 0 ≡ 0
 past l i h = List·getD-eq-default l 0 {n = i} h
 
-pub loaded : (s : List ℕ) (k : ℕ) (d r : List ℕ) (i : ℕ) → LoadIn s k d → Filled (length d) (λ j. getD (listAt s k) j 0) r i → length d ≤ i → Loaded s k d r
+pub loaded : (s : List ℕ) (k : ℕ) (d r : List ℕ) (i : ℕ) → LoadAsks s k d → Filled (length d) (λ j. getD (listAt s k) j 0) r i → length d ≤ i → Loaded s k d r
 loaded s k d r i w f h = record { size = f .size; places = λ j. at j (decLt j (length d)) }
   where
     at : (j : ℕ) → Dec (j < length d) → getD r j 0 ≡ getD (listAt s k) j 0
@@ -44,29 +44,29 @@ module _ (s : List ℕ) (w : Finished s) where
   lists : field.Accepted (bodyOf s .p) (bodyOf s .G) (bodyOf s .H)
   lists = accepted (bodyOf s .p) (bodyOf s .G) (bodyOf s .H) (w .field)
 
-  load-in : (k : ℕ) (d : List ℕ) → k < 5 → length (listAt s k) ≤ length d → ((i : ℕ) → i < length (listAt s k) → getD (listAt s k) i 0 < bodyOf s .p) → LoadIn s k d
+  load-in : (k : ℕ) (d : List ℕ) → k < 5 → length (listAt s k) ≤ length d → ((i : ℕ) → i < length (listAt s k) → getD (listAt s k) i 0 < bodyOf s .p) → LoadAsks s k d
   load-in k d h f g =
       let low : 5 ≤ bodyOf s .p = lists .low in
       let high : bodyOf s .p ≤ 65535 = lists .high in
       record { list = h; fits = f; small = λ i. omega (arith, below (bodyOf s .p) (listAt s k) (omega arith) g i) }
 
-  pub g-in : LoadIn s 0 (replicate 13 0)
+  pub g-in : LoadAsks s 0 (replicate 13 0)
   unfolding bodyOf
   g-in = load-in 0 (replicate 13 0) (omega arith) (lists .listG .short) (lists .listG .each)
 
-  pub h-in : LoadIn s 1 (replicate 13 0)
+  pub h-in : LoadAsks s 1 (replicate 13 0)
   unfolding bodyOf
   h-in = load-in 1 (replicate 13 0) (omega arith) (lists .listH .short) (lists .listH .each)
 
-  pub a-in : LoadIn s 2 (replicate 4096 0)
+  pub a-in : LoadAsks s 2 (replicate 4096 0)
   unfolding bodyOf
   a-in = load-in 2 (replicate 4096 0) (omega arith) (w .formed .rule .row0 .short) (w .formed .rule .row0 .each)
 
-  pub b-in : LoadIn s 3 (replicate 4096 0)
+  pub b-in : LoadAsks s 3 (replicate 4096 0)
   unfolding bodyOf
   b-in = load-in 3 (replicate 4096 0) (omega arith) (w .formed .rule .row1 .short) (w .formed .rule .row1 .each)
 
-  pub c-in : LoadIn s 4 (replicate 4096 0)
+  pub c-in : LoadAsks s 4 (replicate 4096 0)
   unfolding bodyOf
   c-in = load-in 4 (replicate 4096 0) (omega arith) (w .formed .rule .row2 .short) (w .formed .rule .row2 .each)
 
@@ -79,7 +79,7 @@ same-row ρ a b h =
 module _ (s : List ℕ) (w : Finished s) (p : ℕ) (e : p ≡ bodyOf s .p) where
   pub norm-in : (g h a b c out zg zh za zb zc : List ℕ) → length out ≡ 12327
       → length zg ≡ 13 → length zh ≡ 13 → length za ≡ 4096 → length zb ≡ 4096 → length zc ≡ 4096
-      → Loaded s 0 zg g → Loaded s 1 zh h → Loaded s 2 za a → Loaded s 3 zb b → Loaded s 4 zc c → NormIn p g h a b c out
+      → Loaded s 0 zg g → Loaded s 1 zh h → Loaded s 2 za a → Loaded s 3 zb b → Loaded s 4 zc c → NormAsks p g h a b c out
   norm-in g h a b c out zg zh za zb zc m eg eh ea eb ec qg qh qa qb qc =
       let low : 5 ≤ bodyOf s .p = lists s w .low in
       let high : bodyOf s .p ≤ 65535 = lists s w .high in

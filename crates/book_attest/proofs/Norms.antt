@@ -11,7 +11,7 @@ use Rattle.math_rows.specs.Row.{row}
 use Rattle.math_rows.proofs.Rows.{const-neg, cast-sub}
 use Rattle.poly_long.specs.Long.{Mixed, Times, Scaled}
 use Rattle.poly_long.proofs.Low.{whole}
-use Rattle.book_attest.specs.Code.{SquareIn, Square, CubesIn, Cubes, cubesOf, NormIn, Norm}
+use Rattle.book_attest.specs.Code.{SquareAsks, Square, CubesAsks, Cubes, cubesOf, NormAsks, Norm}
 
 -- the remainder p − 3 stands for −3
 thrice : {p : ℕ} (ρ : Reading p) → 3 ≤ p → let o = ρ .𝓥 .L .ops in ρ .𝓥 .const (ρ .cast (p - 3)) ≡ o .neg (o .add (o .add (o .𝟏) (o .𝟏)) (o .𝟏))
@@ -20,7 +20,7 @@ thrice ρ l = let o = ρ .𝓥 .L .ops in let one-is : ρ .𝓥 .const (ρ .cast
     ∙ ap (o .neg) (ap (ρ .𝓥 .const) (ρ .cast-add 2 1) ∙ ρ .const-add (ρ .cast 2) (ρ .cast 1)
     ∙ ap₂ (o .add) (ap (ρ .𝓥 .const) (ρ .cast-add 1 1) ∙ ρ .const-add (ρ .cast 1) (ρ .cast 1) ∙ ap₂ (o .add) one-is one-is) one-is)
 
-pub square-from : (p : ℕ) (gh a b c z bc s out r : List ℕ) → SquareIn p gh a b c out → length z ≡ 8192
+pub square-from : (p : ℕ) (gh a b c z bc s out r : List ℕ) → SquareAsks p gh a b c out → length z ≡ 8192
     → Times p b c z bc → Scaled p (p - 3) bc s → Mixed p a a gh s out r → Square p gh a b c out r
 square-from p gh a b c z bc s out r w e t q m = record {
   size = m .size;
@@ -38,7 +38,7 @@ square-from p gh a b c z bc s out r w e t q m = record {
       (var 0 :* var 0 :+ minus (var 1 :* (var 2 :* var 3) :+ var 1 :* (var 2 :* var 3) :+ var 1 :* (var 2 :* var 3))) tt (row ρ a ∷ row ρ gh ∷ row ρ b ∷ row ρ c ∷ []);
 }
 
-pub cubes-from : (p : ℕ) (g h b c z0 z1 z2 z3 hb bb gc cc out r : List ℕ) → CubesIn p g h b c out → length z0 ≡ 4109 → length z1 ≡ 8192 → length z2 ≡ 4109 → length z3 ≡ 8192
+pub cubes-from : (p : ℕ) (g h b c z0 z1 z2 z3 hb bb gc cc out r : List ℕ) → CubesAsks p g h b c out → length z0 ≡ 4109 → length z1 ≡ 8192 → length z2 ≡ 4109 → length z3 ≡ 8192
     → Times p h b z0 hb → Times p b b z1 bb → Times p g c z2 gc → Times p c c z3 cc → Mixed p hb bb gc cc out r → Cubes p g h b c out r
 cubes-from p g h b c z0 z1 z2 z3 hb bb gc cc out r w e0 e1 e2 e3 t0 t1 t2 t3 m = record {
   size = m .size;
@@ -52,7 +52,7 @@ cubes-from p g h b c z0 z1 z2 z3 hb bb gc cc out r w e0 e1 e2 e3 t0 t1 t2 t3 m =
       whole (omega arith) (omega arith) m pr ∙ ap₂ (o .add) (ap₂ (o .mul) (t0 .law pr) (t1 .law pr)) (ap₂ (o .mul) (t2 .law pr) (t3 .law pr));
 }
 
-pub norm-from : (p : ℕ) (g h a b c z0 z1 z2 gh x y out r : List ℕ) → NormIn p g h a b c out → length z0 ≡ 26 → length z1 ≡ 8218 → length z2 ≡ 12301
+pub norm-from : (p : ℕ) (g h a b c z0 z1 z2 gh x y out r : List ℕ) → NormAsks p g h a b c out → length z0 ≡ 26 → length z1 ≡ 8218 → length z2 ≡ 12301
     → Times p g h z0 gh → Square p gh a b c z1 x → Cubes p g h b c z2 y → Mixed p a x gh y out r → Norm p g h a b c out r
 norm-from p g h a b c z0 z1 z2 gh x y out r w e0 e1 e2 t q k m = record {
   size = m .size;

@@ -4,7 +4,7 @@
 --   Attested b            the norm of the body's E is a non-zero constant
 --   attestSays r          what the answer says in document 01's numbers: the result is 1 for yes and 0 for no
 --   AttestTells s i x     attesting entry i of the book s says x: 13 for the book first, then 14 if the entry is not there
--- That the bytes settle what is said, and the answer itself, is `attest-one` and `attestation-one`, in proofs/One.antt.
+-- That the bytes settle what is said, and the answer itself, is `attest-unique` and `attestation-unique`, in proofs/One.antt.
 use mathlib.Core.Path.{_≡_}
 use mathlib.Core.Logic.{_≢_}
 use mathlib.Core.List.{List}

@@ -21,7 +21,7 @@ use Rattle.book_attest.specs.Attest.{norm}
 abbrev pub places : ℕ
 places = 12327
 
-pub record LoadIn (s : List ℕ) (k : ℕ) (d : List ℕ) : Type 0 where
+pub record LoadAsks (s : List ℕ) (k : ℕ) (d : List ℕ) : Type 0 where
   pub list : k < 5
   pub fits : length (listAt s k) ≤ length d
   pub small : (i : ℕ) → getD (listAt s k) i 0 < 65536
@@ -47,7 +47,7 @@ module _ (p : ℕ) (pr : Prime p) where
       let ρ = reading p pr in
       row ρ h ⊗ row ρ b ⊗ (row ρ b ⊗ row ρ b) ⊕ row ρ g ⊗ row ρ c ⊗ (row ρ c ⊗ row ρ c)
 
-pub record SquareIn (p : ℕ) (gh a b c d : List ℕ) : Type 0 where
+pub record SquareAsks (p : ℕ) (gh a b c d : List ℕ) : Type 0 where
   pub modulus : Storable p
   pub three : 3 ≤ p
   pub size-gh : length gh ≡ 26
@@ -60,7 +60,7 @@ pub record Square (p : ℕ) (gh a b c d r : List ℕ) : Type 0 where
   pub size : length r ≡ length d
   pub law : (pr : Prime p) → row (reading p pr) r ≡ squareOf p pr gh a b c
 
-pub record CubesIn (p : ℕ) (g h b c d : List ℕ) : Type 0 where
+pub record CubesAsks (p : ℕ) (g h b c d : List ℕ) : Type 0 where
   pub modulus : Storable p
   pub size-g : length g ≡ 13
   pub size-h : length h ≡ 13
@@ -72,7 +72,7 @@ pub record Cubes (p : ℕ) (g h b c d r : List ℕ) : Type 0 where
   pub size : length r ≡ length d
   pub law : (pr : Prime p) → row (reading p pr) r ≡ cubesOf p pr g h b c
 
-pub record NormIn (p : ℕ) (g h a b c d : List ℕ) : Type 0 where
+pub record NormAsks (p : ℕ) (g h a b c d : List ℕ) : Type 0 where
   pub modulus : Storable p
   pub three : 3 ≤ p
   pub size-g : length g ≡ 13
@@ -87,7 +87,7 @@ pub record Norm (p : ℕ) (g h a b c d r : List ℕ) : Type 0 where
   pub each : (i : ℕ) → getD r i 0 < p
   pub law : (pr : Prime p) → row (reading p pr) r ≡ norm p pr g h a b c
 
-pub record BodyNormIn (s d : List ℕ) : Type 0 where
+pub record BodyNormAsks (s d : List ℕ) : Type 0 where
   pub body : Finished s
   pub room : length d ≡ places
 

@@ -13,7 +13,7 @@ ghost use Prim.Native.Nat.{_<_};
 ghost use Rattle.base_answers.specs.Decides.{Decides};
 ghost use Rattle.book_body.specs.Body.{bodyOf, Finished};
 ghost use Rattle.book_attest.specs.Attest.{Attested, attestSays, AttestTells};
-ghost use Rattle.book_attest.specs.Code.{LoadIn, Loaded, SquareIn, Square, CubesIn, Cubes, NormIn, Norm, BodyNormIn, BodyNorm};
+ghost use Rattle.book_attest.specs.Code.{LoadAsks, Loaded, SquareAsks, Square, CubesAsks, Cubes, NormAsks, Norm, BodyNormAsks, BodyNorm};
 
 // The answer to attesting an entry: yes or no; 13 with the reason; 14.
 pub enum Attestation {
@@ -25,7 +25,7 @@ pub enum Attestation {
 
 // List k of a body, zeros above it.
 fn load(s: &[u8], k: usize, out: &mut [u16])
-    requires { ⌜ LoadIn (now s) k (now out) ⌝ }
+    requires { ⌜ LoadAsks (now s) k (now out) ⌝ }
     ensures { λ _. ⌜ Loaded (now (s .entry)) k (now (out .entry)) (now (out .exit)) ⌝ }
 {
     let mut i: usize = 0;
@@ -38,7 +38,7 @@ fn load(s: &[u8], k: usize, out: &mut [u16])
 
 // a² − 3 gh b c
 fn square(p: u64, gh: &[u16], a: &[u16], b: &[u16], c: &[u16], out: &mut [u16])
-    requires { ⌜ SquareIn p (now gh) (now a) (now b) (now c) (now out) ⌝ }
+    requires { ⌜ SquareAsks p (now gh) (now a) (now b) (now c) (now out) ⌝ }
     ensures { λ _. ⌜ Square p (now (gh .entry)) (now (a .entry)) (now (b .entry)) (now (c .entry)) (now (out .entry)) (now (out .exit)) ⌝ }
 {
     let mut bc: [u16; 8192] = [0; 8192];
@@ -49,7 +49,7 @@ fn square(p: u64, gh: &[u16], a: &[u16], b: &[u16], c: &[u16], out: &mut [u16])
 
 // h b³ + g c³
 fn cubes(p: u64, g: &[u16], h: &[u16], b: &[u16], c: &[u16], out: &mut [u16])
-    requires { ⌜ CubesIn p (now g) (now h) (now b) (now c) (now out) ⌝ }
+    requires { ⌜ CubesAsks p (now g) (now h) (now b) (now c) (now out) ⌝ }
     ensures { λ _. ⌜ Cubes p (now (g .entry)) (now (h .entry)) (now (b .entry)) (now (c .entry)) (now (out .entry)) (now (out .exit)) ⌝ }
 {
     let mut hb: [u16; 4109] = [0; 4109];
@@ -65,7 +65,7 @@ fn cubes(p: u64, g: &[u16], h: &[u16], b: &[u16], c: &[u16], out: &mut [u16])
 
 // The norm of a + b r + c w: a (a² − 3 gh b c) + gh (h b³ + g c³).
 fn norm(p: u64, g: &[u16], h: &[u16], a: &[u16], b: &[u16], c: &[u16], out: &mut [u16])
-    requires { ⌜ NormIn p (now g) (now h) (now a) (now b) (now c) (now out) ⌝ }
+    requires { ⌜ NormAsks p (now g) (now h) (now a) (now b) (now c) (now out) ⌝ }
     ensures { λ _.
         ⌜ Norm p (now (g .entry)) (now (h .entry)) (now (a .entry)) (now (b .entry)) (now (c .entry)) (now (out .entry))
         (now (out .exit)) ⌝ }
@@ -81,7 +81,7 @@ fn norm(p: u64, g: &[u16], h: &[u16], a: &[u16], b: &[u16], c: &[u16], out: &mut
 
 // The norm of a body's E.
 fn body_norm(s: &[u8], out: &mut [u16])
-    requires { ⌜ BodyNormIn (now s) (now out) ⌝ }
+    requires { ⌜ BodyNormAsks (now s) (now out) ⌝ }
     ensures { λ _. ⌜ BodyNorm (now (s .entry)) (now (out .entry)) (now (out .exit)) ⌝ }
 {
     let p = book_body::prime_of(s);
@@ -119,7 +119,7 @@ pub fn attest(s: &[u8], i: usize) -> Attestation
     let a = book_check::ask_answer(s, i);
     match a {
         book_check::Request::There => {
-            let b = book_contents::part_of(s, i);
+            let b = book_contents::entry_bytes(s, i);
             let u = constant_norm(b);
             if u { Attestation::Yes } else { Attestation::No }
         }

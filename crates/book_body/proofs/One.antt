@@ -1,6 +1,6 @@
 -- The outcome of reading a list is settled by the body's bytes, the list's number and the slice.
---   list-one    what is said, and the slice
---   got-one     the answer itself, and the slice
+--   list-unique    what is said, and the slice
+--   got-unique     the answer itself, and the slice
 use mathlib.Core.Path.{_≡_, refl, sym, ap, _∙_}
 use mathlib.Core.List.{List}
 use Prim.Native.Nat.{ℕ, zero, suc, _-_}
@@ -10,16 +10,16 @@ use Rattle.book_body.specs.Code.{gotSays, ListTells, read, none, short}
 use Rattle.book_body.specs.declared.Got.{Got}
 use Rattle.book_body.specs.declared.Got.the-variants.{Length, Short, NoList}
 
-pub list-one : {s : List ℕ} {k : ℕ} {d : List ℕ} {x y : Said} {e f : List ℕ} → ListTells s k d x e → ListTells s k d y f → (x ≡ y) × (e ≡ f)
-list-one (read h l p q) (read i m u v) = (p ∙ sym u, q ∙ sym v)
-list-one (read h l p q) (none i u v) = absurd (omega arith)
-list-one (read h l p q) (short i m u v) = absurd (omega arith)
-list-one (none h p q) (read i m u v) = absurd (omega arith)
-list-one (none h p q) (none i u v) = (p ∙ sym u, q ∙ sym v)
-list-one (none h p q) (short i m u v) = absurd (omega arith)
-list-one (short h l p q) (read i m u v) = absurd (omega arith)
-list-one (short h l p q) (none i u v) = absurd (omega arith)
-list-one (short h l p q) (short i m u v) = (p ∙ sym u, q ∙ sym v)
+pub list-unique : {s : List ℕ} {k : ℕ} {d : List ℕ} {x y : Said} {e f : List ℕ} → ListTells s k d x e → ListTells s k d y f → (x ≡ y) × (e ≡ f)
+list-unique (read h l p q) (read i m u v) = (p ∙ sym u, q ∙ sym v)
+list-unique (read h l p q) (none i u v) = absurd (omega arith)
+list-unique (read h l p q) (short i m u v) = absurd (omega arith)
+list-unique (none h p q) (read i m u v) = absurd (omega arith)
+list-unique (none h p q) (none i u v) = (p ∙ sym u, q ∙ sym v)
+list-unique (none h p q) (short i m u v) = absurd (omega arith)
+list-unique (short h l p q) (read i m u v) = absurd (omega arith)
+list-unique (short h l p q) (none i u v) = absurd (omega arith)
+list-unique (short h l p q) (short i m u v) = (p ∙ sym u, q ∙ sym v)
 
 -- ---- the code's answer out of the numbers: 0, 11 and 14
 abbrev got : ℕ → ℕ → Got
@@ -32,5 +32,5 @@ got-back (Length n) = refl
 got-back NoList = refl
 got-back Short = refl
 
-pub got-one : {s : List ℕ} {k : ℕ} {d : List ℕ} (g h : Got) {e f : List ℕ} → ListTells s k d (gotSays g) e → ListTells s k d (gotSays h) f → (g ≡ h) × (e ≡ f)
-got-one g h t u = let w = list-one t u in (sym (got-back g) ∙ ap (λ (x : Said). got (x .number - 10) (x .result)) (w .0) ∙ got-back h, w .1)
+pub got-unique : {s : List ℕ} {k : ℕ} {d : List ℕ} (g h : Got) {e f : List ℕ} → ListTells s k d (gotSays g) e → ListTells s k d (gotSays h) f → (g ≡ h) × (e ≡ f)
+got-unique g h t u = let w = list-unique t u in (sym (got-back g) ∙ ap (λ (x : Said). got (x .number - 10) (x .result)) (w .0) ∙ got-back h, w .1)

@@ -1,15 +1,15 @@
 -- The bytes settle the answers: two outcomes that meet the contract are equal.
---   tells-one    the check: number, inner reason, entry and inner number
---   ask-one      asking for an entry
---   part-one     the part that is handed out
---   reason-one, answer-one, request-one    what the numbers say settles the code's answer
---   judge-one, earliest-one    judging a body by itself; the first entry of one field with it
+--   tells-unique    the check: number, inner reason, entry and inner number
+--   ask-unique      asking for an entry
+--   part-unique     the part that is handed out
+--   reason-unique, answer-unique, request-unique    what the numbers say settles the code's answer
+--   judge-unique, earliest-unique    judging a body by itself; the first entry of one field with it
 use mathlib.Core.Path.{_≡_, refl, sym, ap, _∙_, subst}
 use mathlib.Core.List.{List}
 use Prim.Native.Nat.{ℕ, zero, suc, _<_, _≤_}
 use native.Mathlib.Omega.{arith}
 use native.Mathlib.Decide.{decLt}
-use Rattle.field_open.proofs.Stages.{refusal-one}
+use Rattle.field_open.proofs.Stages.{refusal-unique}
 use Rattle.base_answers.specs.Said.{Said, malformed}
 use Rattle.book_body.specs.Body.{Body, FieldSays, bodyOf, Finished}
 use Rattle.book_check.specs.Book.{Sound, Accepted, entry}
@@ -24,23 +24,23 @@ use Rattle.book_check.specs.declared.Answer.the-variants.{Yes, Refused}
 use Rattle.book_check.specs.declared.Request.{Request}
 use Rattle.book_check.specs.declared.Request.the-variants as asked
 
-pub field-one : (b : Body) (n m : ℕ) → FieldSays b n → FieldSays b m → n ≡ m
-field-one b = refusal-one (b .p) (b .G) (b .H)
+pub field-unique : (b : Body) (n m : ℕ) → FieldSays b n → FieldSays b m → n ≡ m
+field-unique b = refusal-unique (b .p) (b .G) (b .H)
 
-pub body-one : {b : List ℕ} {i : ℕ} {x y : Said} → BodyFault b i x → BodyFault b i y → x ≡ y
-body-one (rule f e) (rule g u) = e ∙ sym u
-body-one (rule f e) (field g n h o u) = absurd (f g)
-body-one (field f n h o e) (rule g u) = absurd (g f)
-body-one {b} {i} (field f n h o e) (field g m k q u) = e ∙ ap (malformed 4 i) (field-one (bodyOf b) n m o q) ∙ sym u
+pub body-unique : {b : List ℕ} {i : ℕ} {x y : Said} → BodyFault b i x → BodyFault b i y → x ≡ y
+body-unique (rule f e) (rule g u) = e ∙ sym u
+body-unique (rule f e) (field g n h o u) = absurd (f g)
+body-unique (field f n h o e) (rule g u) = absurd (g f)
+body-unique {b} {i} (field f n h o e) (field g m k q u) = e ∙ ap (malformed 4 i) (field-unique (bodyOf b) n m o q) ∙ sym u
 
 module _ (s : List ℕ) where
-  fault-one : {i : ℕ} {x y : Said} → Fault s i x → Fault s i y → x ≡ y
-  fault-one (body f) (body g) = body-one f g
-  fault-one (body (rule f e)) (twice g o j h w l u) = absurd (f g)
-  fault-one {i} (body (field f n h o e)) (twice g q j k w l u) = absurd (h (field-one (entry s i) n 0 o q))
-  fault-one (twice g o j h w l u) (body (rule f e)) = absurd (f g)
-  fault-one {i} (twice g q j k w l u) (body (field f n h o e)) = absurd (h (field-one (entry s i) n 0 o q))
-  fault-one {i} (twice g o j h w l e) (twice f q k v z m u) = e ∙ ap (malformed 5 i) (least (decLt j k) (decLt k j)) ∙ sym u
+  fault-unique : {i : ℕ} {x y : Said} → Fault s i x → Fault s i y → x ≡ y
+  fault-unique (body f) (body g) = body-unique f g
+  fault-unique (body (rule f e)) (twice g o j h w l u) = absurd (f g)
+  fault-unique {i} (body (field f n h o e)) (twice g q j k w l u) = absurd (h (field-unique (entry s i) n 0 o q))
+  fault-unique (twice g o j h w l u) (body (rule f e)) = absurd (f g)
+  fault-unique {i} (twice g q j k w l u) (body (field f n h o e)) = absurd (h (field-unique (entry s i) n 0 o q))
+  fault-unique {i} (twice g o j h w l e) (twice f q k v z m u) = e ∙ ap (malformed 5 i) (least (decLt j k) (decLt k j)) ∙ sym u
     where
       least : Dec (j < k) → Dec (k < j) → j ≡ k
       least (yes a) c = absurd (m j a w)
@@ -49,7 +49,7 @@ module _ (s : List ℕ) where
 
   sound-no-fault : {i : ℕ} {x : Said} → Sound s i → Fault s i x → ⊥
   sound-no-fault g (body (rule f e)) = f (g .body)
-  sound-no-fault {i} g (body (field f n h o e)) = h (field-one (entry s i) n 0 o (g .field))
+  sound-no-fault {i} g (body (field f n h o e)) = h (field-unique (entry s i) n 0 o (g .field))
   sound-no-fault g (twice f o j h w l e) = g .once j h w
 
   pub accepted-fine : {x : Said} → Accepted s → Tells s x → x ≡ record { number = 0; reason = 0; entry = 0; other = 0; result = 0 }
@@ -58,42 +58,42 @@ module _ (s : List ℕ) where
   accepted-fine a (at-entry m l i h g f) = absurd (sound-no-fault (a .good i h) f)
   accepted-fine a (fine b e) = e
 
-  pub tells-one : {x y : Said} → Tells s x → Tells s y → x ≡ y
-  tells-one (fine a e) t = e ∙ sym (accepted-fine a t)
-  tells-one (mark f e) (mark g u) = e ∙ sym u
-  tells-one (mark f e) (contents m g u) = absurd (f m)
-  tells-one (mark f e) (at-entry m l i h g u) = absurd (f m)
-  tells-one (mark f e) (fine a u) = absurd (f (a .marked))
-  tells-one (contents m f e) (mark g u) = absurd (g m)
-  tells-one (contents m f e) (contents n g u) = e ∙ sym u
-  tells-one (contents m f e) (at-entry n l i h g u) = absurd (f l)
-  tells-one (contents m f e) (fine a u) = absurd (f (a .listed))
-  tells-one (at-entry m l i h g f) (mark k u) = absurd (k m)
-  tells-one (at-entry m l i h g f) (contents n k u) = absurd (k l)
-  tells-one {x} {y} (at-entry m l i h g f) (at-entry n k j v w u) = same (decLt i j) (decLt j i)
+  pub tells-unique : {x y : Said} → Tells s x → Tells s y → x ≡ y
+  tells-unique (fine a e) t = e ∙ sym (accepted-fine a t)
+  tells-unique (mark f e) (mark g u) = e ∙ sym u
+  tells-unique (mark f e) (contents m g u) = absurd (f m)
+  tells-unique (mark f e) (at-entry m l i h g u) = absurd (f m)
+  tells-unique (mark f e) (fine a u) = absurd (f (a .marked))
+  tells-unique (contents m f e) (mark g u) = absurd (g m)
+  tells-unique (contents m f e) (contents n g u) = e ∙ sym u
+  tells-unique (contents m f e) (at-entry n l i h g u) = absurd (f l)
+  tells-unique (contents m f e) (fine a u) = absurd (f (a .listed))
+  tells-unique (at-entry m l i h g f) (mark k u) = absurd (k m)
+  tells-unique (at-entry m l i h g f) (contents n k u) = absurd (k l)
+  tells-unique {x} {y} (at-entry m l i h g f) (at-entry n k j v w u) = same (decLt i j) (decLt j i)
     where
       same : Dec (i < j) → Dec (j < i) → x ≡ y
       same (yes a) c = absurd (sound-no-fault (w i a) f)
       same (no a) (yes c) = absurd (sound-no-fault (g j c) u)
-      same (no a) (no c) = let e : j ≡ i = omega arith in fault-one f (subst (λ (z : ℕ). Fault s z y) e u)
-  tells-one (at-entry m l i h g f) (fine a u) = absurd (sound-no-fault (a .good i h) f)
+      same (no a) (no c) = let e : j ≡ i = omega arith in fault-unique f (subst (λ (z : ℕ). Fault s z y) e u)
+  tells-unique (at-entry m l i h g f) (fine a u) = absurd (sound-no-fault (a .good i h) f)
 
-  pub ask-one : {i : ℕ} {x y : Said} → AskTells s i x → AskTells s i y → x ≡ y
-  ask-one (book f t) (book g u) = tells-one t u
-  ask-one (book f t) (no-entry a h e) = absurd (f a)
-  ask-one (book f t) (there a h e) = absurd (f a)
-  ask-one (no-entry a h e) (book f t) = absurd (f a)
-  ask-one (no-entry a h e) (no-entry b k u) = e ∙ sym u
-  ask-one (no-entry a h e) (there b k u) = absurd (omega arith)
-  ask-one (there a h e) (book f t) = absurd (f a)
-  ask-one (there a h e) (no-entry b k u) = absurd (omega arith)
-  ask-one (there a h e) (there b k u) = e ∙ sym u
+  pub ask-unique : {i : ℕ} {x y : Said} → AskTells s i x → AskTells s i y → x ≡ y
+  ask-unique (book f t) (book g u) = tells-unique t u
+  ask-unique (book f t) (no-entry a h e) = absurd (f a)
+  ask-unique (book f t) (there a h e) = absurd (f a)
+  ask-unique (no-entry a h e) (book f t) = absurd (f a)
+  ask-unique (no-entry a h e) (no-entry b k u) = e ∙ sym u
+  ask-unique (no-entry a h e) (there b k u) = absurd (omega arith)
+  ask-unique (there a h e) (book f t) = absurd (f a)
+  ask-unique (there a h e) (no-entry b k u) = absurd (omega arith)
+  ask-unique (there a h e) (there b k u) = e ∙ sym u
 
-  pub part-one : {i : ℕ} {r q : List ℕ} → AskedPart s i r → AskedPart s i q → r ≡ q
-  part-one (found a h e) (found b k u) = e ∙ sym u
-  part-one (found a h e) (empty f u) = absurd (f a h)
-  part-one (empty f e) (found b k u) = absurd (f b k)
-  part-one (empty f e) (empty g u) = e ∙ sym u
+  pub part-unique : {i : ℕ} {r q : List ℕ} → AskedPart s i r → AskedPart s i q → r ≡ q
+  part-unique (found a h e) (found b k u) = e ∙ sym u
+  part-unique (found a h e) (empty f u) = absurd (f a h)
+  part-unique (empty f e) (found b k u) = absurd (f b k)
+  part-unique (empty f e) (empty g u) = e ∙ sym u
 
 -- ---- the code's answer out of the numbers
 unfoldable pub reason : ℕ → ℕ → ℕ → Reason
@@ -149,28 +149,28 @@ request-back (asked.Refused (BodyRule i)) = refl
 request-back (asked.Refused (Field i n)) = refl
 request-back (asked.Refused (Twice i j)) = refl
 
-pub reason-one : (a b : Reason) → reasonSays a ≡ reasonSays b → a ≡ b
-reason-one a b e = sym (reason-back a) ∙ ap reasonOf e ∙ reason-back b
+pub reason-unique : (a b : Reason) → reasonSays a ≡ reasonSays b → a ≡ b
+reason-unique a b e = sym (reason-back a) ∙ ap reasonOf e ∙ reason-back b
 
-pub answer-one : (a b : Answer) → answerSays a ≡ answerSays b → a ≡ b
-answer-one a b e = sym (answer-back a) ∙ ap answerOf e ∙ answer-back b
+pub answer-unique : (a b : Answer) → answerSays a ≡ answerSays b → a ≡ b
+answer-unique a b e = sym (answer-back a) ∙ ap answerOf e ∙ answer-back b
 
-pub request-one : (a b : Request) → requestSays a ≡ requestSays b → a ≡ b
-request-one a b e = sym (request-back a) ∙ ap requestOf e ∙ request-back b
+pub request-unique : (a b : Request) → requestSays a ≡ requestSays b → a ≡ b
+request-unique a b e = sym (request-back a) ∙ ap requestOf e ∙ request-back b
 
 -- ---- whole answers
 pub finished-no : {b : List ℕ} {i : ℕ} {x : Said} → Finished b → BodyFault b i x → ⊥
 finished-no f (rule g e) = g (f .formed)
-finished-no {b} f (field g n h o e) = h (field-one (bodyOf b) n 0 o (f .field))
+finished-no {b} f (field g n h o e) = h (field-unique (bodyOf b) n 0 o (f .field))
 
-pub judge-one : (b : List ℕ) (i : ℕ) (r q : Seen) → JudgeTells b i r → JudgeTells b i q → r ≡ q
-judge-one b i Good Good t u = refl
-judge-one b i Good (Bad why) t u = absurd (finished-no (record { formed = t .0; field = t .1 }) u)
-judge-one b i (Bad why) Good t u = absurd (finished-no (record { formed = u .0; field = u .1 }) t)
-judge-one b i (Bad why) (Bad wer) t u = ap Bad (reason-one why wer (body-one t u))
+pub judge-unique : (b : List ℕ) (i : ℕ) (r q : Seen) → JudgeTells b i r → JudgeTells b i q → r ≡ q
+judge-unique b i Good Good t u = refl
+judge-unique b i Good (Bad why) t u = absurd (finished-no (record { formed = t .0; field = t .1 }) u)
+judge-unique b i (Bad why) Good t u = absurd (finished-no (record { formed = u .0; field = u .1 }) t)
+judge-unique b i (Bad why) (Bad wer) t u = ap Bad (reason-unique why wer (body-unique t u))
 
-pub earliest-one : {s : List ℕ} {b : Body} {i j k : ℕ} → Earliest s b i j → Earliest s b i k → j ≡ k
-earliest-one {s} {b} {i} {j} {k} t u = least (decLt j k) (decLt k j)
+pub earliest-unique : {s : List ℕ} {b : Body} {i j k : ℕ} → Earliest s b i j → Earliest s b i k → j ≡ k
+earliest-unique {s} {b} {i} {j} {k} t u = least (decLt j k) (decLt k j)
   where
     least : Dec (j < k) → Dec (k < j) → j ≡ k
     least (yes a) c = let h : k ≤ i = u .within in absurd (u .none j a (t .found (omega arith)))

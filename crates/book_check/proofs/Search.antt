@@ -13,7 +13,7 @@ use Rattle.book_body.specs.Body.{Body, FieldSays, OneField, listAt, bodyOf}
 use Rattle.book_field.specs.Code.{pairOf, Sold}
 use Rattle.book_field.proofs.Compare.{own-sold, own-field, field-own}
 use Rattle.book_check.specs.Book.{part, entry}
-use Rattle.book_check.specs.Code.{EarlierIn, SearchIn, Earliest}
+use Rattle.book_check.specs.Code.{EarlierAsks, FirstOfAsks, Earliest}
 
 pub record Search (s : List ℕ) (b : Body) (i r j : ℕ) : Type 0 where
   pub within : r ≤ i
@@ -42,12 +42,12 @@ module _ {s : List ℕ} {b : Body} {i : ℕ} where
   end w h = record { within = w .within; none = λ k u. w .none k (omega arith) u; found = w .found }
 
 -- bodies that are compared have accepted fields
-pub sold-here : {s : List ℕ} {p : ℕ} {G H o : List ℕ} {i j : ℕ} → SearchIn s p G H i → j < i → o ≡ part s j → Sold p G H o
+pub sold-here : {s : List ℕ} {p : ℕ} {G H o : List ℕ} {i j : ℕ} → FirstOfAsks s p G H i → j < i → o ≡ part s j → Sold p G H o
 sold-here {j = j} w h e = record { first = w .own; second = subst (λ (z : List ℕ). FieldSays (bodyOf z) 0) (sym e) (w .each j h) }
 
 -- ---- a body's own p, G, H, read once, in place of the body
 module _ (s b : List ℕ) {p : ℕ} {g h : List ℕ} (e : p ≡ u2 b 0) (eg : g ≡ listAt b 0) (eh : h ≡ listAt b 1) where
-  pub search-own : {i : ℕ} → EarlierIn s b i → SearchIn s p g h i
+  pub search-own : {i : ℕ} → EarlierAsks s b i → FirstOfAsks s p g h i
   search-own w = record { marked = w .marked; listed = w .listed; within = w .within; own = own-sold b e eg eh (w .own); each = w .each }
 
   pub earliest-own : {i r : ℕ} → Earliest s (pairOf p g h) i r → Earliest s (bodyOf b) i r

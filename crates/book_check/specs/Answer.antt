@@ -6,7 +6,7 @@
 --   Tells s x         the check of s says x: mark; contents; the first entry with a fault; or the book is fine
 --   AskTells s i x    asking for entry i of s says x: 13 for the book first, then 14 if the entry is not there
 --   AskedPart s i r   r is the part that is handed out: the one that the entry names, or the empty one
--- That the bytes settle each of them is in proofs/One.antt: tells-one, ask-one, part-one.
+-- That the bytes settle each of them is in proofs/One.antt: tells-unique, ask-unique, part-unique.
 use mathlib.Core.Path.{_≡_}
 use mathlib.Core.Logic.{_≢_}
 use mathlib.Core.List.{List, []}

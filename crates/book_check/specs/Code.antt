@@ -1,8 +1,8 @@
 -- What the code's own functions promise each other.
---   EntryIn s i        it is ready, and the entries before it are sound
---   EarlierIn s b i    mark and contents are right, there are i entries or more, and the fields of the body b and of the entries before
+--   EntryOfAsks s i        it is ready, and the entries before it are sound
+--   EarlierAsks s b i    mark and contents are right, there are i entries or more, and the fields of the body b and of the entries before
 --                      i are accepted: bodies whose field is not are not compared
---   SearchIn s p G H i the same for a field p, G, H in place of the body
+--   FirstOfAsks s p G H i the same for a field p, G, H in place of the body
 --   Earliest s b i j   j is the first entry before i that is of one field with the body b, or i
 --   JudgeTells b i r   the bytes b of a body, as entry i: good, or the first of the body's reasons
 --   EntryTells s i r   entry i: sound, or its first fault
@@ -16,18 +16,18 @@ use Rattle.book_check.specs.Answer.{reasonSays, BodyFault, Fault}
 use Rattle.book_check.specs.declared.Seen.{Seen}
 use Rattle.book_check.specs.declared.Seen.the-variants.{Good, Bad}
 
-pub record EntryIn (s : List ℕ) (i : ℕ) : Type 0 where
+pub record EntryOfAsks (s : List ℕ) (i : ℕ) : Type 0 where
   pub ready : Ready s i
   pub before : (j : ℕ) → j < i → Sound s j
 
-pub record EarlierIn (s b : List ℕ) (i : ℕ) : Type 0 where
+pub record EarlierAsks (s b : List ℕ) (i : ℕ) : Type 0 where
   pub marked : Marked s
   pub listed : Listed s
   pub within : i ≤ count s
   pub own : FieldSays (bodyOf b) 0
   pub each : (j : ℕ) → j < i → FieldSays (entry s j) 0
 
-pub record SearchIn (s : List ℕ) (p : ℕ) (G H : List ℕ) (i : ℕ) : Type 0 where
+pub record FirstOfAsks (s : List ℕ) (p : ℕ) (G H : List ℕ) (i : ℕ) : Type 0 where
   pub marked : Marked s
   pub listed : Listed s
   pub within : i ≤ count s

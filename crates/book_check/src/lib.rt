@@ -2,7 +2,7 @@
 ghost use Rattle.book_body.specs.Body.{bodyOf};
 ghost use Rattle.book_field.specs.Code.{pairOf};
 ghost use Rattle.book_check.specs.Answer.{answerSays, requestSays, Tells, AskTells, AskedPart};
-ghost use Rattle.book_check.specs.Code.{EntryIn, EarlierIn, SearchIn, Earliest, JudgeTells, EntryTells};
+ghost use Rattle.book_check.specs.Code.{EntryOfAsks, EarlierAsks, FirstOfAsks, Earliest, JudgeTells, EntryTells};
 
 // What is wrong with a book: the first found.
 pub enum Reason {
@@ -34,13 +34,13 @@ pub enum Request {
 
 // The first of the entries before i that is of the field p, G, H, or i.
 fn first_of(s: &[u8], p: u64, g: &[u64], h: &[u64], i: usize) -> usize
-    requires { ⌜ SearchIn (now s) p (now g) (now h) i ⌝ }
+    requires { ⌜ FirstOfAsks (now s) p (now g) (now h) i ⌝ }
     ensures { λ r. ⌜ Earliest (now (s .entry)) (pairOf p (now (g .entry)) (now (h .entry))) i r ⌝ }
 {
     let mut r = i;
     let mut j: usize = 0;
     while j < r {
-        let o = book_contents::part_of(s, j);
+        let o = book_contents::entry_bytes(s, j);
         let same = book_field::of_field(p, g, h, o);
         if same {
             r = j;
@@ -52,7 +52,7 @@ fn first_of(s: &[u8], p: u64, g: &[u64], h: &[u64], i: usize) -> usize
 
 // The first of the entries before i that is of one field with the body b, or i. The body's own lists, which are short, are read once.
 pub fn earlier(s: &[u8], b: &[u8], i: usize) -> usize
-    requires { ⌜ EarlierIn (now s) (now b) i ⌝ }
+    requires { ⌜ EarlierAsks (now s) (now b) i ⌝ }
     ensures { λ r. ⌜ Earliest (now (s .entry)) (bodyOf (now (b .entry))) i r ⌝ }
 {
     let p = book_bytes::two(b, 0);
@@ -80,10 +80,10 @@ pub fn judge(b: &[u8], i: usize) -> Seen
 
 // One entry of the book, after sound ones.
 fn entry_of(s: &[u8], i: usize) -> Seen
-    requires { ⌜ EntryIn (now s) i ⌝ }
+    requires { ⌜ EntryOfAsks (now s) i ⌝ }
     ensures { λ r. ⌜ EntryTells (now (s .entry)) i r ⌝ }
 {
-    let b = book_contents::part_of(s, i);
+    let b = book_contents::entry_bytes(s, i);
     let own = judge(b, i);
     match own {
         Seen::Good => {
@@ -149,7 +149,7 @@ pub fn ask(s: &[u8], i: usize) -> &[u8]
 {
     let a = ask_answer(s, i);
     match a {
-        Request::There => book_contents::part_of(s, i),
+        Request::There => book_contents::entry_bytes(s, i),
         Request::Refused(_) => &s[..0],
         Request::NoEntry => &s[..0],
     }

@@ -60,7 +60,7 @@ pub fn bodies(s: &[u8]) -> usize
 }
 
 // The part that entry i names.
-pub fn part_of(s: &[u8], i: usize) -> &[u8]
+pub fn entry_bytes(s: &[u8], i: usize) -> &[u8]
     requires { ⌜ Ready (now s) i ⌝ }
     ensures { λ r. ⌜ now r ≡ part (now (s .entry)) i ⌝ }
 {

@@ -1,7 +1,7 @@
 -- What asking for an entry of a book by its place tells.
 --   Place           where the part that an entry names starts, and its length; 0 and 0 with a refusal
 --   AskSays         the place, and the five numbers of the answer
--- In proofs/Once.antt: two outcomes that meet one of them are equal (place-one, ask-says-one).
+-- In proofs/Once.antt: two outcomes that meet one of them are equal (place-unique, ask-says-unique).
 use mathlib.Core.Path.{_≡_}
 use mathlib.Core.List.{List}
 use Prim.Native.Nat.{ℕ, _<_}

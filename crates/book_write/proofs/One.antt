@@ -1,11 +1,11 @@
 -- The outcome of writing a body is settled by the body and the slice.
---   write-one   what is said, and the slice
---   wrote-one   the answer itself, and the slice
+--   write-unique   what is said, and the slice
+--   wrote-unique   the answer itself, and the slice
 use mathlib.Core.Path.{_≡_, refl, sym, ap, _∙_}
 use mathlib.Core.List.{List}
 use Prim.Native.Nat.{ℕ, _≤_}
 use native.Mathlib.Omega.{arith}
-use Rattle.field_open.proofs.Stages.{refusal-one}
+use Rattle.field_open.proofs.Stages.{refusal-unique}
 use Rattle.base_answers.specs.Said.{Said, refused}
 use Rattle.book_body.specs.Body.{Body, FieldSays}
 use Rattle.book_write.specs.Write.{wroteSays, WriteTells, Numbered, field, rule, short, done}
@@ -20,25 +20,25 @@ result-of = ap (λ (z : Said). z .result)
 
 module _ (b : Body) (d : List ℕ) where
   one-field : (n m : ℕ) → FieldSays b n → FieldSays b m → n ≡ m
-  one-field = refusal-one (b .p) (b .G) (b .H)
+  one-field = refusal-unique (b .p) (b .G) (b .H)
 
-  pub write-one : {x y : Said} {e f : List ℕ} → WriteTells b d x e → WriteTells b d y f → (x ≡ y) × (e ≡ f)
-  write-one (field n h o p q) (field m k u v w) = (p ∙ ap refused (one-field n m o u) ∙ sym v, q ∙ sym w)
-  write-one (field n h o p q) (rule u k v w) = absurd (h (one-field n 0 o u))
-  write-one (field n h o p q) (short u k l v w) = absurd (h (one-field n 0 o u))
-  write-one (field n h o p q) (done u k l v w) = absurd (h (one-field n 0 o u))
-  write-one (rule o h p q) (field m k u v w) = absurd (k (one-field m 0 u o))
-  write-one (rule o h p q) (rule u k v w) = (p ∙ sym v, q ∙ sym w)
-  write-one (rule o h p q) (short u k l v w) = absurd (h k)
-  write-one (rule o h p q) (done u k l v w) = absurd (h k)
-  write-one (short o h i p q) (field m k u v w) = absurd (k (one-field m 0 u o))
-  write-one (short o h i p q) (rule u k v w) = absurd (k h)
-  write-one (short o h i p q) (short u k l v w) = (p ∙ sym v, q ∙ sym w)
-  write-one (short o h i p q) (done u k l v w) = absurd (omega arith)
-  write-one (done o h i p q) (field m k u v w) = absurd (k (one-field m 0 u o))
-  write-one (done o h i p q) (rule u k v w) = absurd (k h)
-  write-one (done o h i p q) (short u k l v w) = absurd (omega arith)
-  write-one (done o h i p q) (done u k l v w) = (p ∙ sym v, q ∙ sym w)
+  pub write-unique : {x y : Said} {e f : List ℕ} → WriteTells b d x e → WriteTells b d y f → (x ≡ y) × (e ≡ f)
+  write-unique (field n h o p q) (field m k u v w) = (p ∙ ap refused (one-field n m o u) ∙ sym v, q ∙ sym w)
+  write-unique (field n h o p q) (rule u k v w) = absurd (h (one-field n 0 o u))
+  write-unique (field n h o p q) (short u k l v w) = absurd (h (one-field n 0 o u))
+  write-unique (field n h o p q) (done u k l v w) = absurd (h (one-field n 0 o u))
+  write-unique (rule o h p q) (field m k u v w) = absurd (k (one-field m 0 u o))
+  write-unique (rule o h p q) (rule u k v w) = (p ∙ sym v, q ∙ sym w)
+  write-unique (rule o h p q) (short u k l v w) = absurd (h k)
+  write-unique (rule o h p q) (done u k l v w) = absurd (h k)
+  write-unique (short o h i p q) (field m k u v w) = absurd (k (one-field m 0 u o))
+  write-unique (short o h i p q) (rule u k v w) = absurd (k h)
+  write-unique (short o h i p q) (short u k l v w) = (p ∙ sym v, q ∙ sym w)
+  write-unique (short o h i p q) (done u k l v w) = absurd (omega arith)
+  write-unique (done o h i p q) (field m k u v w) = absurd (k (one-field m 0 u o))
+  write-unique (done o h i p q) (rule u k v w) = absurd (k h)
+  write-unique (done o h i p q) (short u k l v w) = absurd (omega arith)
+  write-unique (done o h i p q) (done u k l v w) = (p ∙ sym v, q ∙ sym w)
 
   -- answers that say the same are equal, for a field's number is neither 0 nor 11
   same-answer : (r q : Wrote) → wroteSays r ≡ wroteSays q → Numbered r → Numbered q → r ≡ q
@@ -59,5 +59,5 @@ module _ (b : Body) (d : List ℕ) where
   same-answer Short RuleBroken e h k = let u = number-of e in absurd (omega arith)
   same-answer Short Short e h k = refl
 
-  pub wrote-one : (r q : Wrote) {e f : List ℕ} → WriteTells b d (wroteSays r) e × Numbered r → WriteTells b d (wroteSays q) f × Numbered q → (r ≡ q) × (e ≡ f)
-  wrote-one r q t u = let w = write-one (t .0) (u .0) in (same-answer r q (w .0) (t .1) (u .1), w .1)
+  pub wrote-unique : (r q : Wrote) {e f : List ℕ} → WriteTells b d (wroteSays r) e × Numbered r → WriteTells b d (wroteSays q) f × Numbered q → (r ≡ q) × (e ≡ f)
+  wrote-unique r q t u = let w = write-unique (t .0) (u .0) in (same-answer r q (w .0) (t .1) (u .1), w .1)

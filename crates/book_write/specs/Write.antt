@@ -4,7 +4,7 @@
 --   WriteTells b d x d'       writing b into the slice d, which is d' then, says x: refusals 1 to 8; 13 (body rule, entry 0); 11 when
 --                             the slice is shorter; else the length, with the body at the front and the rest of the slice as it was
 --   Numbered r                a refusal of the field in r is one of the field's numbers, 1 to 8
--- That x and d', and the answer itself, are settled by b and d is `write-one` and `wrote-one`, in proofs/One.antt.
+-- That x and d', and the answer itself, are settled by b and d is `write-unique` and `wrote-unique`, in proofs/One.antt.
 use mathlib.Core.Path.{_≡_}
 use mathlib.Core.Logic.{_≢_}
 use mathlib.Core.List.{List, _++_}

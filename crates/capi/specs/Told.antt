@@ -12,18 +12,18 @@ use mathlib.Core.Logic.{_≢_}
 use mathlib.Core.Bool.{Bool, true, false}
 use mathlib.Core.List.{List}
 use Prim.Native.Nat.{ℕ}
-use Rattle.door_basis.specs.declared.Ordered.{Ordered}
+use Rattle.door_basis.specs.declared.OrderAnswer.{OrderAnswer}
 use Rattle.door_basis.specs.Answer.{Orders}
-use Rattle.door_step.specs.declared.Stepped.{Stepped}
+use Rattle.door_step.specs.declared.StepAnswer.{StepAnswer}
 use Rattle.door_step.specs.Answer.{Answers}
-use Rattle.walk_chain.specs.declared.Walked.{Walked}
+use Rattle.walk_chain.specs.declared.WalkAnswer.{WalkAnswer}
 use Rattle.walk_chain.specs.Walk.{Walks}
 use Rattle.capi_walk.specs.Puts.{Puts}
-use Rattle.door_walk.specs.declared.Told.{Told}
+use Rattle.door_walk.specs.declared.PeriodAnswer.{PeriodAnswer}
 use Rattle.door_walk.specs.Order.{FromOrder}
-use Rattle.door_unit.specs.declared.Made.{Made}
+use Rattle.door_unit.specs.declared.UnitAnswer.{UnitAnswer}
 use Rattle.door_unit.specs.Unit.{Makes}
-use Rattle.door_compare.specs.declared.Compared.{Compared}
+use Rattle.door_compare.specs.declared.CompareAnswer.{CompareAnswer}
 use Rattle.door_compare.specs.Answer.{Compares}
 
 pub record Left (n : ℕ) (before after x : List ℕ) : Type 0 where
@@ -31,32 +31,32 @@ pub record Left (n : ℕ) (before after x : List ℕ) : Type 0 where
   pub kept : n ≢ 0 → after ≡ before
 
 pub record OrderTells (p : ℕ) (G H before : List ℕ) (n : ℕ) (after : List ℕ) : Type 0 where
-  pub o : Ordered
+  pub o : OrderAnswer
   pub orders : Orders p G H o
   pub number : n ≡ o .refusal
   pub rows : Left n before after (o .basis)
 
 pub record StepTells (p : ℕ) (G H before : List ℕ) (n degree : ℕ) (after : List ℕ) : Type 0 where
-  pub s : Stepped
+  pub s : StepAnswer
   pub answers : Answers p G H before s
   pub number : n ≡ s .refusal
   pub degree-is : degree ≡ s .degree
   pub rows : Left n before after (s .basis)
 
 pub record WalkTells (p : ℕ) (G H : List ℕ) (budget : ℕ) (before : List ℕ) (n steps sum : ℕ) (after : List ℕ) : Type 0 where
-  pub o : Walked
+  pub o : WalkAnswer
   pub walks : Walks p G H budget before o
   pub puts : Puts o before n steps sum after
 
 pub record FromOrderTells (p : ℕ) (G H : List ℕ) (budget n period regulator : ℕ) : Type 0 where
-  pub o : Told
+  pub o : PeriodAnswer
   pub from : FromOrder p G H budget o
   pub number : n ≡ o .refusal
   pub period-is : period ≡ o .period .0
   pub regulator-is : regulator ≡ o .regulator .0
 
 pub record UnitTells (p : ℕ) (G H : List ℕ) (budget : ℕ) (rows scratch : List ℕ) (n period regulator : ℕ) (rows′ scratch′ : List ℕ) : Type 0 where
-  pub m : Made
+  pub m : UnitAnswer
   pub makes : Makes p G H budget rows scratch m rows′ scratch′
   pub number : n ≡ m .refusal
   pub period-is : period ≡ m .period .0
@@ -67,7 +67,7 @@ asNumber true = 1
 asNumber false = 0
 
 pub record OneFieldTells (p : ℕ) (G H G′ H′ : List ℕ) (n same : ℕ) : Type 0 where
-  pub a : Compared
+  pub a : CompareAnswer
   pub compares : Compares p G H G′ H′ a
   pub number : n ≡ a .refusal
   pub same-is : same ≡ asNumber (a .same)

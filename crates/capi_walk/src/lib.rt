@@ -2,7 +2,7 @@
 ghost use Rattle.capi_walk.specs.Puts.{Puts};
 
 // The refusal of a walk; its last record into the lent one, also where the budget was spent (10); its steps and degree sum.
-pub fn put(o: walk_chain::Walked, rows: &mut [u16; 119], steps: &mut u64, sum: &mut u64) -> u32
+pub fn put(o: walk_chain::WalkAnswer, rows: &mut [u16; 119], steps: &mut u64, sum: &mut u64) -> u32
     ensures { λ n. ⌜ Puts o (now (rows .entry)) n (now (steps .exit)) (now (sum .exit)) (now (rows .exit)) ⌝ }
 {
     let n = o.refusal;

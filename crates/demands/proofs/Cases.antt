@@ -15,19 +15,19 @@ use Rattle.math_ideals.specs.Next.{Start}
 use Rattle.math_chain.specs.Unit.{UnitOf}
 use Rattle.basis_record.specs.Record.{setting}
 use Rattle.basis_field.specs.First.{IsFirst}
-use Rattle.walk_chain.specs.declared.Walked.{Walked}
+use Rattle.walk_chain.specs.declared.WalkAnswer.{WalkAnswer}
 use Rattle.walk_chain.specs.Walk as walk
-use Rattle.door_walk.specs.declared.Told.{Told}
+use Rattle.door_walk.specs.declared.PeriodAnswer.{PeriodAnswer}
 use Rattle.door_walk.specs.Order as walks
-use Rattle.door_unit.specs.declared.Made.{Made}
+use Rattle.door_unit.specs.declared.UnitAnswer.{UnitAnswer}
 use Rattle.door_unit.specs.Unit as unit
 use Rattle.door_unit.proofs.Once.{refused-number}
 use Rattle.unit_make.specs.Rows.{six}
 
 -- ---- the walk
-module _ (p n : ℕ) (G H B : List ℕ) (w : Walked) (h : walk.Walks p G H n B w) where
+module _ (p n : ℕ) (G H B : List ℕ) (w : WalkAnswer) (h : walk.Walks p G H n B w) where
   walk-number : {k : ℕ} → w ≡ walk.refused k → w .refusal ≡ k
-  walk-number e = ap (λ (x : Walked). x .refusal) e
+  walk-number e = ap (λ (x : WalkAnswer). x .refusal) e
 
   pub walk-closed : w .refusal ≡ 0 → walk.Closed p G H n B w
   walk-closed z = door-out (λ k f l e. let q = walk-number e in absurd (f (sym q ∙ z))) (λ A. case) h
@@ -48,9 +48,9 @@ module _ (p n : ℕ) (G H B : List ℕ) (w : Walked) (h : walk.Walks p G H n B w
       case (walk.spent l r s) = s
 
 -- ---- the walk from the order
-module _ (p n : ℕ) (G H : List ℕ) (o : Told) (h : walks.FromOrder p G H n o) where
+module _ (p n : ℕ) (G H : List ℕ) (o : PeriodAnswer) (h : walks.FromOrder p G H n o) where
   told-number : {k : ℕ} → o ≡ walks.refusal k → o .refusal ≡ k
-  told-number e = ap (λ (x : Told). x .refusal) e
+  told-number e = ap (λ (x : PeriodAnswer). x .refusal) e
 
   abbrev Closed : Type 0
   Closed = (B : List ℕ) × IsFirst p G H B × walks.Periodic p G H n B o
@@ -78,7 +78,7 @@ module _ (p n : ℕ) (G H : List ℕ) (o : Told) (h : walks.FromOrder p G H n o)
   told-accepted z = door-out (λ k f l e. let q = told-number e in absurd (f (sym q ∙ z))) (λ A _. A) h
 
 -- ---- the unit
-module _ (p n : ℕ) (G H rows scratch rows′ scratch′ : List ℕ) (m : Made) (h : unit.Makes p G H n rows scratch m rows′ scratch′) where
+module _ (p n : ℕ) (G H rows scratch rows′ scratch′ : List ℕ) (m : UnitAnswer) (h : unit.Makes p G H n rows scratch m rows′ scratch′) where
   abbrev Done : Type 0
   Done = (c l d : ℕ) × unit.Finds p G H l d × unit.Success p G H l d c scratch m rows′ scratch′
 
@@ -116,7 +116,7 @@ module _ (p n : ℕ) (G H rows scratch rows′ scratch′ : List ℕ) (m : Made)
   unit-accepted z = door-out (λ k f l e. let q = refused-number e in absurd (f (sym q ∙ z))) (λ A _. A) h
 
 -- the rows are the unit of the chain, with the period and the regulator told
-pub success-unit : (p : ℕ) (G H rows : List ℕ) (m : Made) {l d c : ℕ} {scratch scratch′ : List ℕ} → unit.Success p G H l d c scratch m rows scratch′ →
+pub success-unit : (p : ℕ) (G H rows : List ℕ) (m : UnitAnswer) {l d c : ℕ} {scratch scratch′ : List ℕ} → unit.Success p G H l d c scratch m rows scratch′ →
     (A : Accepted p G H) (B₀ : Basis (setting A)) → Start (setting A) B₀ →
     UnitOf (setting A) B₀ (m .period .0) (m .regulator .0 + m .regulator .0) (six A c 0 rows) (six A c (c + c + c) rows)
 success-unit p G H rows m {l} {d} {c} r A B₀ st =

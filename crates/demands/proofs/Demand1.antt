@@ -4,39 +4,39 @@ use mathlib.Core.Logic.{_≢_}
 use mathlib.Core.List.{List}
 use Prim.Native.Nat.{ℕ, _≤_}
 use native.Mathlib.Omega.{arith}
-use Rattle.field_open.proofs.Stages.{refusal-one, numbered}
+use Rattle.field_open.proofs.Stages.{refusal-unique, numbered}
 use Rattle.field_open.proofs.Door.{door-out}
-use Rattle.field_open.proofs.Opening.{opens-one}
-use Rattle.field_series.proofs.Answer.{answer-one, answer-kept}
-use Rattle.door_basis.proofs.Answer.{orders-one, checks-one}
-use Rattle.door_step.proofs.Answers.{answers-one}
-use Rattle.walk_chain.proofs.Walk.{walks-one}
-use Rattle.door_walk.proofs.Order.{from-order-one}
-use Rattle.door_unit.specs.declared.Made.{Made}
+use Rattle.field_open.proofs.Opening.{opens-unique}
+use Rattle.field_series.proofs.Answer.{answer-unique, answer-kept}
+use Rattle.door_basis.proofs.Answer.{orders-unique, checks-unique}
+use Rattle.door_step.proofs.Answers.{answers-unique}
+use Rattle.walk_chain.proofs.Walk.{walks-unique}
+use Rattle.door_walk.proofs.Order.{from-order-unique}
+use Rattle.door_unit.specs.declared.UnitAnswer.{UnitAnswer}
 use Rattle.door_unit.specs.Unit as unit
-use Rattle.door_unit.proofs.Once.{makes-one}
+use Rattle.door_unit.proofs.Once.{makes-unique}
 use Rattle.door_compare.specs.Answer as pairs
 use Rattle.door_compare.proofs.Doors.{doors-out}
-use Rattle.door_compare.proofs.Once.{compares-one}
+use Rattle.door_compare.proofs.Once.{compares-unique}
 use Rattle.door_transfer.specs.Transfer as transfer
-use Rattle.door_transfer.proofs.Once.{transfers-one}
+use Rattle.door_transfer.proofs.Once.{transfers-unique}
 use Rattle.base_answers.specs.Said.{Said}
 use Rattle.book_body.specs.Body.{Body}
 use Rattle.book_body.specs.Code as code
-use Rattle.book_body.proofs.One.{list-one}
+use Rattle.book_body.proofs.One.{list-unique}
 use Rattle.book_write.specs.Write as write
-use Rattle.book_write.proofs.One.{write-one}
-use Rattle.book_check.proofs.One.{tells-one, ask-one, part-one}
+use Rattle.book_write.proofs.One.{write-unique}
+use Rattle.book_check.proofs.One.{tells-unique, ask-unique, part-unique}
 use Rattle.book_add.specs.Add as add
-use Rattle.book_add.proofs.One.{add-one}
-use Rattle.book_attest.proofs.One.{attest-one}
+use Rattle.book_add.proofs.One.{add-unique}
+use Rattle.book_attest.proofs.One.{attest-unique}
 use Rattle.demands.specs.Fixed.{Demand1}
 
 number-of : {x y : Said} → x ≡ y → x .number ≡ y .number
 number-of e = ap (λ (x : Said). x .number) e
 
 -- ---- what a refusal leaves
-module _ (p n : ℕ) (G H rows scratch rows′ scratch′ : List ℕ) (m : Made) (f : m .refusal ≢ 0) where
+module _ (p n : ℕ) (G H rows scratch rows′ scratch′ : List ℕ) (m : UnitAnswer) (f : m .refusal ≢ 0) where
   abbrev Untouched : Type 0
   Untouched = (rows′ ≡ rows) × (scratch′ ≡ scratch)
 
@@ -88,27 +88,27 @@ demand-1 = record {
   list-kept = list-kept;
   write-kept = write-kept;
   add-kept = add-kept;
-  refusal-fixed = refusal-one;
-  open-fixed = opens-one;
-  series-fixed = λ h k. answer-one _ _ _ _ h k;
-  order-fixed = orders-one;
-  check-fixed = λ p G H B n n′ h k. checks-one n n′ h k;
-  step-fixed = answers-one;
-  walk-fixed = λ v w h k. walks-one _ _ _ _ _ v w h k;
-  from-order-fixed = λ v w h k. from-order-one _ _ _ _ v w h k;
+  refusal-fixed = refusal-unique;
+  open-fixed = opens-unique;
+  series-fixed = λ h k. answer-unique _ _ _ _ h k;
+  order-fixed = orders-unique;
+  check-fixed = λ p G H B n n′ h k. checks-unique n n′ h k;
+  step-fixed = answers-unique;
+  walk-fixed = λ v w h k. walks-unique _ _ _ _ _ v w h k;
+  from-order-fixed = λ v w h k. from-order-unique _ _ _ _ v w h k;
   unit-fixed = λ m m′ h k.
-      let s = makes-one _ _ _ _ _ _ m m′ _ _ _ _ h k in (
+      let s = makes-unique _ _ _ _ _ _ m m′ _ _ _ _ h k in (
         (λ i. record { refusal = s .number i; period = record { 0 = s .period i }; regulator = record { 0 = s .regulator i } }),
         s .rows-same,
         s .scratch-same,
       );
-  compare-fixed = λ a b h k. compares-one h k;
-  transfer-fixed = λ h k. transfers-one _ _ _ _ _ _ _ _ _ _ h k;
-  check-book-fixed = λ h k. tells-one _ h k;
-  ask-fixed = λ h k. ask-one _ h k;
-  part-fixed = λ h k. part-one _ h k;
-  attest-fixed = λ h k. attest-one _ _ _ _ h k;
-  list-fixed = list-one;
-  write-fixed = λ h k. write-one _ _ h k;
-  add-fixed = λ h k. add-one _ _ _ h k;
+  compare-fixed = λ a b h k. compares-unique h k;
+  transfer-fixed = λ h k. transfers-unique _ _ _ _ _ _ _ _ _ _ h k;
+  check-book-fixed = λ h k. tells-unique _ h k;
+  ask-fixed = λ h k. ask-unique _ h k;
+  part-fixed = λ h k. part-unique _ h k;
+  attest-fixed = λ h k. attest-unique _ _ _ _ h k;
+  list-fixed = list-unique;
+  write-fixed = λ h k. write-unique _ _ h k;
+  add-fixed = λ h k. add-unique _ _ _ h k;
 }

@@ -16,13 +16,13 @@ use Rattle.math_chain.proofs.Closing.{start-unique, closing-start}
 use Rattle.basis_record.specs.Record.{setting, basisOf, IsRecord}
 use Rattle.basis_record.proofs.Unique.{record-unique}
 use Rattle.door_basis.proofs.Answer.{orders-first}
-use Rattle.door_step.specs.declared.Stepped.{Stepped}
+use Rattle.door_step.specs.declared.StepAnswer.{StepAnswer}
 use Rattle.door_step.specs.Answer as stepped
-use Rattle.walk_chain.specs.declared.Walked.{Walked}
+use Rattle.walk_chain.specs.declared.WalkAnswer.{WalkAnswer}
 use Rattle.walk_chain.specs.Walk as walk
-use Rattle.door_walk.specs.declared.Told.{Told}
+use Rattle.door_walk.specs.declared.PeriodAnswer.{PeriodAnswer}
 use Rattle.door_walk.specs.Order as walks
-use Rattle.door_unit.specs.declared.Made.{Made}
+use Rattle.door_unit.specs.declared.UnitAnswer.{UnitAnswer}
 use Rattle.door_unit.specs.Unit as unit
 use Rattle.unit_make.specs.Rows.{six}
 use Rattle.book_check.proofs.Value.{book-back, book-obeys}
@@ -31,19 +31,19 @@ use Rattle.demands.specs.Meaning.{BackFirst, Demand2}
 use Rattle.demands.proofs.Cases.{walk-closed, walk-spent, told-closed, unit-made, success-unit}
 
 -- ---- the step
-module _ (p : ℕ) (G H B : List ℕ) (s : Stepped) (z : s .refusal ≡ 0) where
+module _ (p : ℕ) (G H B : List ℕ) (s : StepAnswer) (z : s .refusal ≡ 0) where
   abbrev Stepping : Type 0
   Stepping = IsRecord p G H (s .basis) × ((A : Accepted p G H) → Next (setting A) (basisOf A B) (basisOf A (s .basis)))
 
   step-goes : stepped.Goes p G H B s → Stepping
-  step-goes (stepped.no-record f e) = let n = ap (λ (x : Stepped). x .refusal) e in absurd (omega arith)
+  step-goes (stepped.no-record f e) = let n = ap (λ (x : StepAnswer). x .refusal) e in absurd (omega arith)
   step-goes (stepped.taken r n t) = (t .is-record, t .next)
 
   step-basis : stepped.Answers p G H B s → Stepping
-  step-basis = door-out (λ k f l e. let n = ap (λ (x : Stepped). x .refusal) e in absurd (f (sym n ∙ z))) (λ A. step-goes)
+  step-basis = door-out (λ k f l e. let n = ap (λ (x : StepAnswer). x .refusal) e in absurd (f (sym n ∙ z))) (λ A. step-goes)
 
 -- ---- the walk
-module _ (p n : ℕ) (G H B : List ℕ) (w : Walked) (h : walk.Walks p G H n B w) where
+module _ (p n : ℕ) (G H B : List ℕ) (w : WalkAnswer) (h : walk.Walks p G H n B w) where
   abbrev Reached : Type 0
   Reached = walk.Reaches p G H B (w .steps) (w .sum) (w .basis)
 
@@ -60,7 +60,7 @@ back-first S B₀ st l d B c = record {
   first = λ m e B′ lo hi ch s. c .none m e B′ lo hi ch (s .U-one);
 }
 
-period-back : (p n : ℕ) (G H : List ℕ) (o : Told) → walks.FromOrder p G H n o → o .refusal ≡ 0 → (A : Accepted p G H) (B₀ : Basis (setting A)) → Start (setting A) B₀ →
+period-back : (p n : ℕ) (G H : List ℕ) (o : PeriodAnswer) → walks.FromOrder p G H n o → o .refusal ≡ 0 → (A : Accepted p G H) (B₀ : Basis (setting A)) → Start (setting A) B₀ →
     BackFirst (setting A) B₀ (o .period .0) (o .regulator .0 + o .regulator .0)
 period-back p n G H o h z A B₀ st =
     let S = setting A in
@@ -69,7 +69,7 @@ period-back p n G H o h z A B₀ st =
     back-first S B₀ st _ _ _ (subst (λ X. Closing S X (o .period .0) (o .regulator .0 + o .regulator .0) (basisOf A (c .last))) e (c .closes .closing A))
 
 -- ---- the unit
-module _ (p n : ℕ) (G H rows scratch rows′ scratch′ : List ℕ) (m : Made) where
+module _ (p n : ℕ) (G H rows scratch rows′ scratch′ : List ℕ) (m : UnitAnswer) where
   abbrev Unit-is : Type 0
   Unit-is = (c : ℕ) × ((A : Accepted p G H) (B₀ : Basis (setting A)) → Start (setting A) B₀ → UnitOf (setting A) B₀ (m .period .0) (m .regulator .0 + m .regulator .0) (six A c 0 rows′) (six A c (c + c + c) rows′))
 

@@ -8,7 +8,7 @@ use lib.ListN.{length, take}
 use Rattle.field_open.specs.Refusal.{Accepted}
 use Rattle.field_open.proofs.Accept.{accepted-none}
 use Rattle.pair_agree.specs.OneField.{OneField}
-use Rattle.door_compare.specs.declared.Compared.{Compared}
+use Rattle.door_compare.specs.declared.CompareAnswer.{CompareAnswer}
 use Rattle.door_compare.specs.Answer as pairs
 use Rattle.pair_agree.proofs.Relation as relation
 use Rattle.door_compare.proofs.Doors.{doors-through}
@@ -22,14 +22,14 @@ use Rattle.book_check.specs.Book as book
 use Rattle.book_check.specs.Answer as says
 use Rattle.book_check.proofs.Facts.{fault-thirteen}
 use Rattle.book_add.specs.Add as add
-use Rattle.book_add.proofs.One.{add-one}
+use Rattle.book_add.proofs.One.{add-unique}
 use Rattle.demands.specs.SameField.{SameField}
 
 yes-of : {A : Type 0} (r : Bool) → Decides r A → A → r ≡ true
 yes-of true d a = refl
 yes-of false d a = absurd (d .no! refl a)
 
-compared : {p : ℕ} {G H G′ H′ : List ℕ} → Accepted p G H → Accepted p G′ H′ → (a : Compared) → pairs.Compares p G H G′ H′ a →
+compared : {p : ℕ} {G H G′ H′ : List ℕ} → Accepted p G H → Accepted p G′ H′ → (a : CompareAnswer) → pairs.Compares p G H G′ H′ a →
     OneField p G H G′ H′ → (a .refusal ≡ 0) × (a .same ≡ true)
 compared A A′ a h o = let (e, d) = doors-through (record { first = A; second = A′ }) h in (e, yes-of (a .same) d o)
 
@@ -52,5 +52,5 @@ same-field = record {
   alike = answers.alike;
   back = transfers-back;
   twice = twice;
-  known = λ d b d′ n x t l a f j h o. add-one d n b t (add.known l a f j h o refl refl);
+  known = λ d b d′ n x t l a f j h o. add-unique d n b t (add.known l a f j h o refl refl);
 }

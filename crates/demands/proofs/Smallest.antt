@@ -10,23 +10,23 @@ use Rattle.math_chain.proofs.Unit.{unit-unique}
 use Rattle.math_fundamental.proofs.Complete.{completeness}
 use Rattle.math_fundamental.proofs.Units.{unit-closes, none-below, none-within}
 use Rattle.math_fundamental.proofs.Fundamental.{unit-fundamental, unit-smallest, closing-least}
-use Rattle.math_fundamental.proofs.Agree.{least-one, smallest-one, constant-norm}
+use Rattle.math_fundamental.proofs.Agree.{least-unique, smallest-unique, constant-norm}
 use Rattle.basis_record.specs.Record.{setting, basisOf}
 use Rattle.pair_theory.proofs.Least.{least-agree}
 use Rattle.basis_field.specs.First.{IsFirst}
 use Rattle.walk_chain.specs.Walk as walk
-use Rattle.walk_chain.proofs.Walk.{closes-one}
-use Rattle.door_walk.specs.declared.Told.{Told}
+use Rattle.walk_chain.proofs.Walk.{closes-unique}
+use Rattle.door_walk.specs.declared.PeriodAnswer.{PeriodAnswer}
 use Rattle.door_walk.specs.Order as walks
-use Rattle.basis_field.proofs.First.{first-one}
-use Rattle.door_unit.specs.declared.Made.{Made}
+use Rattle.basis_field.proofs.First.{first-unique}
+use Rattle.door_unit.specs.declared.UnitAnswer.{UnitAnswer}
 use Rattle.door_unit.specs.Unit.{Makes, Success}
 use Rattle.unit_make.specs.Rows.{six}
 use Rattle.demands.specs.Smallest.{SmallestRows, SmallestUnit}
 use Rattle.demands.proofs.Cases.{walk-closed, walk-spent, told-closed, told-spent, told-accepted, unit-made, unit-spent, unit-narrow, unit-accepted, success-unit}
 
 -- ---- what the functions answer
-unit-rows : (p n : ℕ) (G H rows scratch rows′ scratch′ : List ℕ) (m : Made) → Makes p G H n rows scratch m rows′ scratch′ → m .refusal ≡ 0 → SmallestRows p G H m rows′
+unit-rows : (p n : ℕ) (G H rows scratch rows′ scratch′ : List ℕ) (m : UnitAnswer) → Makes p G H n rows scratch m rows′ scratch′ → m .refusal ≡ 0 → SmallestRows p G H m rows′
 unit-rows p n G H rows scratch rows′ scratch′ m h z =
     let (c, l, d, f, r) = unit-made p n G H rows scratch rows′ scratch′ m h z in
     record {
@@ -37,18 +37,18 @@ unit-rows p n G H rows scratch rows′ scratch′ m h z =
     }
 
 -- ---- two walks that close
-told-agree : (p n n′ : ℕ) (G H : List ℕ) (o o′ : Told) → walks.FromOrder p G H n o → o .refusal ≡ 0 → walks.FromOrder p G H n′ o′ → o′ .refusal ≡ 0 → o ≡ o′
+told-agree : (p n n′ : ℕ) (G H : List ℕ) (o o′ : PeriodAnswer) → walks.FromOrder p G H n o → o .refusal ≡ 0 → walks.FromOrder p G H n′ o′ → o′ .refusal ≡ 0 → o ≡ o′
 told-agree p n n′ G H o o′ h z h′ z′ =
     let A = told-accepted p n G H o h z in
     let (B, f, c) = told-closed p n G H o h z in
     let (B′, f′, c′) = told-closed p n′ G H o′ h′ z′ in
     let same : walk.Closes p G H B (o′ .period .0) (o′ .regulator .0 + o′ .regulator .0) (c′ .last)
-    = subst (λ b. walk.Closes p G H b (o′ .period .0) (o′ .regulator .0 + o′ .regulator .0) (c′ .last)) (first-one A B′ B f′ f) (c′ .closes) in
-    let (x, y, e) = closes-one p G H A B (f .is-record) (c .closes) same in
+    = subst (λ b. walk.Closes p G H b (o′ .period .0) (o′ .regulator .0 + o′ .regulator .0) (c′ .last)) (first-unique A B′ B f′ f) (c′ .closes) in
+    let (x, y, e) = closes-unique p G H A B (f .is-record) (c .closes) same in
     let r : o .regulator .0 ≡ o′ .regulator .0 = omega (arith, y) in
     λ i. record { refusal = (z ∙ sym z′) i; period = record { 0 = x i }; regulator = record { 0 = r i } }
 
-module _ (p n n′ : ℕ) (G H rows scratch r s rows′ scratch′ r′ s′ : List ℕ) (m m′ : Made) where
+module _ (p n n′ : ℕ) (G H rows scratch r s rows′ scratch′ r′ s′ : List ℕ) (m m′ : UnitAnswer) where
   -- the rows hold one unit, whatever their lengths
   made-agree : {c l d c′ l′ d′ : ℕ} → Success p G H l d c scratch m r s → Success p G H l′ d′ c′ scratch′ m′ r′ s′ → Accepted p G H →
       (m ≡ m′) × ((A : Accepted p G H) → (six A c 0 r ≡ six A c′ 0 r′) × (six A c (c + c + c) r ≡ six A c′ (c′ + c′ + c′) r′))
@@ -88,8 +88,8 @@ smallest-unit = record {
       let e′ = t .whole in
       (d, closing-least (setting A) st (f A B₀ st .1), omega arith);
   closes = λ A B₀ st η inv h l. unit-closes (setting A) B₀ st η inv h l;
-  least-one = λ A. least-one (setting A);
-  smallest-one = λ A a b. smallest-one (setting A) a b;
+  least-unique = λ A. least-unique (setting A);
+  smallest-unique = λ A a b. smallest-unique (setting A) a b;
   constant-norm = λ A B₀ u x c h. constant-norm (setting A) (unit-fundamental (setting A) u .least) x c h;
   one-field = least-agree;
   walks-agree = λ o o′ h z h′ z′. told-agree _ _ _ _ _ o o′ h z h′ z′;

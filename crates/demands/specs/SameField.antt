@@ -15,7 +15,7 @@ use Rattle.math_fp.specs.Fp.{Prime}
 use Rattle.math_rows.specs.Made.{reading}
 use Rattle.field_open.specs.Refusal.{Accepted}
 use Rattle.pair_agree.specs.OneField.{OneField, Coefficients}
-use Rattle.door_compare.specs.declared.Compared.{Compared}
+use Rattle.door_compare.specs.declared.CompareAnswer.{CompareAnswer}
 use Rattle.door_compare.specs.Answer.{Compares}
 use Rattle.basis_record.specs.Setting.{roots}
 use Rattle.pair_theory.specs.Shared.{Shared}
@@ -33,7 +33,7 @@ pub record SameField : Type 0 where
   pub symmetric : {p : ℕ} {G H G′ H′ : List ℕ} → OneField p G H G′ H′ → OneField p G′ H′ G H
   pub transitive : (p : ℕ) → Prime p → {G H G′ H′ G″ H″ : List ℕ} → Coefficients p G′ H′ →
       OneField p G H G′ H′ → OneField p G′ H′ G″ H″ → OneField p G H G″ H″
-  pub compared : {p : ℕ} {G H G′ H′ : List ℕ} → Accepted p G H → Accepted p G′ H′ → (a : Compared) → Compares p G H G′ H′ a →
+  pub compared : {p : ℕ} {G H G′ H′ : List ℕ} → Accepted p G H → Accepted p G′ H′ → (a : CompareAnswer) → Compares p G H G′ H′ a →
       OneField p G H G′ H′ → (a .refusal ≡ 0) × (a .same ≡ true)
   -- in the theory's words
   pub shared : {p : ℕ} {G H G′ H′ : List ℕ} (A : Accepted p G H) (A′ : Accepted p G′ H′) → OneField p G H G′ H′ →

@@ -24,15 +24,15 @@ use Rattle.math_fundamental.specs.Smallest.{NoneBetween, LeastDegree, Smallest,
 use Rattle.basis_record.specs.Record.{setting}
 use Rattle.pair_agree.specs.OneField.{OneField}
 use Rattle.basis_field.specs.First.{IsFirst}
-use Rattle.walk_chain.specs.declared.Walked.{Walked}
+use Rattle.walk_chain.specs.declared.WalkAnswer.{WalkAnswer}
 use Rattle.walk_chain.specs.Walk.{Walks}
-use Rattle.door_walk.specs.declared.Told.{Told}
+use Rattle.door_walk.specs.declared.PeriodAnswer.{PeriodAnswer}
 use Rattle.door_walk.specs.Order.{FromOrder}
-use Rattle.door_unit.specs.declared.Made.{Made}
+use Rattle.door_unit.specs.declared.UnitAnswer.{UnitAnswer}
 use Rattle.door_unit.specs.Unit.{Makes}
 use Rattle.unit_make.specs.Rows.{six}
 
-pub record SmallestRows (p : ℕ) (G H : List ℕ) (m : Made) (rows : List ℕ) : Type 0 where
+pub record SmallestRows (p : ℕ) (G H : List ℕ) (m : UnitAnswer) (rows : List ℕ) : Type 0 where
   -- six rows of c numbers: E0, E1, E2, F0, F1, F2
   pub c : ℕ
   pub long : length rows ≡ 6 * c
@@ -55,34 +55,34 @@ pub record SmallestUnit : Type 0 where
   pub complete : {p : ℕ} {G H : List ℕ} (A : Accepted p G H) → Completeness (setting A)
   -- the rows that `unit` returns are the smallest unit of positive degree with E0 monic, and its inverse
   pub unit-rows :
-      {p n : ℕ} {G H rows scratch rows′ scratch′ : List ℕ} (m : Made) →
+      {p n : ℕ} {G H rows scratch rows′ scratch′ : List ℕ} (m : UnitAnswer) →
       Makes p G H n rows scratch m rows′ scratch′ → m .refusal ≡ 0 →
       SmallestRows p G H m rows′
   -- the regulator that `from_order` returns is half the least positive degree of a unit
   pub regulator :
-      {p n : ℕ} {G H : List ℕ} (o : Told) →
+      {p n : ℕ} {G H : List ℕ} (o : PeriodAnswer) →
       FromOrder p G H n o → o .refusal ≡ 0 →
       (A : Accepted p G H) → LeastDegree (setting A) (o .regulator .0 + o .regulator .0)
   -- the degree sum that `walk` returns from the order's record, when it closes, is that degree
   pub walk-sum :
-      {p n : ℕ} {G H B : List ℕ} (w : Walked) → IsFirst p G H B →
+      {p n : ℕ} {G H B : List ℕ} (w : WalkAnswer) → IsFirst p G H B →
       Walks p G H n B w → w .refusal ≡ 0 →
       (A : Accepted p G H) → LeastDegree (setting A) (w .sum)
   -- refusal 10: no unit has a degree from 1 to the budget, or from 1 to the degree sum that a walk hands out; refusal 11: none has one below c
   pub regulator-open :
-      {p n : ℕ} {G H : List ℕ} (o : Told) →
+      {p n : ℕ} {G H : List ℕ} (o : PeriodAnswer) →
       FromOrder p G H n o → o .refusal ≡ 10 →
       (A : Accepted p G H) → NoneBetween (setting A) (suc n)
   pub walk-open :
-      {p n : ℕ} {G H B : List ℕ} (w : Walked) → IsFirst p G H B →
+      {p n : ℕ} {G H B : List ℕ} (w : WalkAnswer) → IsFirst p G H B →
       Walks p G H n B w → w .refusal ≡ 10 →
       (A : Accepted p G H) → NoneBetween (setting A) (suc (w .sum))
   pub unit-open :
-      {p n : ℕ} {G H rows scratch rows′ scratch′ : List ℕ} (m : Made) →
+      {p n : ℕ} {G H rows scratch rows′ scratch′ : List ℕ} (m : UnitAnswer) →
       Makes p G H n rows scratch m rows′ scratch′ → m .refusal ≡ 10 →
       (A : Accepted p G H) → NoneBetween (setting A) (suc n)
   pub unit-narrow :
-      {p n : ℕ} {G H rows scratch rows′ scratch′ : List ℕ} (m : Made) →
+      {p n : ℕ} {G H rows scratch rows′ scratch′ : List ℕ} (m : UnitAnswer) →
       Makes p G H n rows scratch m rows′ scratch′ → m .refusal ≡ 11 →
       (c : ℕ) → length rows ≡ 6 * c →
       (A : Accepted p G H) → (d : ℕ) × LeastDegree (setting A) d × (c ≤ d)
@@ -92,11 +92,11 @@ pub record SmallestUnit : Type 0 where
       {n : ℕ} (η : O (setting A) .El) → Invertible (setting A) η → Has (setting A .𝓥) (ev (setting A) η) n → 1 ≤ n →
       (l d : ℕ) × (B : Basis (setting A)) × Closing (setting A) B₀ l d B × (d ≤ n)
   -- the least positive degree is one, and so is the smallest unit
-  pub least-one :
+  pub least-unique :
       {p : ℕ} {G H : List ℕ} (A : Accepted p G H) (c d : ℕ) →
       LeastDegree (setting A) c → LeastDegree (setting A) d →
       c ≡ d
-  pub smallest-one :
+  pub smallest-unique :
       {p : ℕ} {G H : List ℕ} (A : Accepted p G H) {c d : ℕ} {E E′ : O (setting A) .El} →
       Smallest (setting A) E c → Smallest (setting A) E′ d →
       (c ≡ d) × (E ≡ E′)
@@ -113,12 +113,12 @@ pub record SmallestUnit : Type 0 where
       c ≡ d
   -- two walks that close agree, whatever their budgets, and so do two units, whatever their room
   pub walks-agree :
-      {p n n′ : ℕ} {G H : List ℕ} (o o′ : Told) →
+      {p n n′ : ℕ} {G H : List ℕ} (o o′ : PeriodAnswer) →
       FromOrder p G H n o → o .refusal ≡ 0 →
       FromOrder p G H n′ o′ → o′ .refusal ≡ 0 →
       o ≡ o′
   pub units-agree :
-      {p n n′ : ℕ} {G H rows scratch r s rows′ scratch′ r′ s′ : List ℕ} (m m′ : Made) →
+      {p n n′ : ℕ} {G H rows scratch r s rows′ scratch′ r′ s′ : List ℕ} (m m′ : UnitAnswer) →
       Makes p G H n rows scratch m r s → m .refusal ≡ 0 →
       Makes p G H n′ rows′ scratch′ m′ r′ s′ → m′ .refusal ≡ 0 →
       (c c′ : ℕ) → length r ≡ 6 * c → length r′ ≡ 6 * c′ →

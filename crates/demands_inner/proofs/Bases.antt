@@ -1,6 +1,6 @@
 -- Crate basis.
---   load-one, stored-one           a row taken out of the record, and put into it
---   reduced-basis-one, order-one   the whole record of a reduction
+--   load-unique, stored-unique           a row taken out of the record, and put into it
+--   reduced-basis-unique, order-unique   the whole record of a reduction
 use mathlib.Core.Path.{_≡_, refl, sym, ap, ap₂, _∙_, subst}
 use mathlib.Core.Logic.{_≢_, _⊎_, inl, inr}
 use mathlib.Core.List.{List, [], _∷_}
@@ -32,23 +32,23 @@ use Rattle.basis_record.proofs.Unique.{part-below}
 use Rattle.basis_parts.specs.Frame.{Frame, Meaning, rd, rowμ, X, Y, Ltμ}
 use Rattle.basis_reduce.specs.Clear.{Pair}
 use Rattle.basis_record.specs.Store.{Stored, Loaded}
-use Rattle.basis_scale.specs.First.{nothing, unit, units, OrderIn}
-use Rattle.basis_scale.specs.Based.{BasisIn, BasedAt, Based, Z, at, Mpt, Npt}
+use Rattle.basis_scale.specs.First.{nothing, unit, units, OrderAsks}
+use Rattle.basis_scale.specs.Based.{BasisAsks, BasedAt, Based, Z, at, Mpt, Npt}
 use Rattle.demands_inner.proofs.Rows.{by-row}
 use Rattle.demands_inner.specs.UpTo.{Scaled}
-use Rattle.demands_inner.proofs.Pairs.{times-X, times-Y, pairs-one}
+use Rattle.demands_inner.proofs.Pairs.{times-X, times-Y, pairs-unique}
 
 -- 65,537 is a prime above every number of a record
 big : Prime 65537
 big = prime 65537 255 tt
 
-pub load-one : {B : List ℕ} {i : ℕ} {r s : List ℕ} → ((k : ℕ) → getD B k 0 < 65536) → Loaded B i r → Loaded B i s → r ≡ s
-load-one {B} below h k =
+pub load-unique : {B : List ℕ} {i : ℕ} {r s : List ℕ} → ((k : ℕ) → getD B k 0 < 65536) → Loaded B i r → Loaded B i s → r ≡ s
+load-unique {B} below h k =
     let l : (j : ℕ) → getD B j 0 < 65537 = (λ j. let u : getD B j 0 < 65536 = below j in omega arith) in
     by-row (reading 65537 big) (h .is-row 65537 l) (k .is-row 65537 l) (h .law 65537 big) (k .law 65537 big)
 
-pub stored-one : {B : List ℕ} {i : ℕ} {a B′ B″ : List ℕ} → Stored B i a B′ → Stored B i a B″ → B′ ≡ B″
-stored-one {B} {i} {a} {B′} {B″} h k = ext-getD 0 B′ B″ (h .size ∙ sym (k .size)) (λ j _. at-place j (decLt j (17 * i)) (decLt j (17 * i + 17)))
+pub stored-unique : {B : List ℕ} {i : ℕ} {a B′ B″ : List ℕ} → Stored B i a B′ → Stored B i a B″ → B′ ≡ B″
+stored-unique {B} {i} {a} {B′} {B″} h k = ext-getD 0 B′ B″ (h .size ∙ sym (k .size)) (λ j _. at-place j (decLt j (17 * i)) (decLt j (17 * i + 17)))
   where
     at-place : (j : ℕ) → Dec (j < 17 * i) → Dec (j < 17 * i + 17) → getD B′ j 0 ≡ getD B″ j 0
     at-place j (yes l) d = h .there j (inl l) ∙ sym (k .there j (inl l))
@@ -137,7 +137,7 @@ module _ {F : Frame} {q : Pair} {d x1 y1 B B′ : List ℕ} (μ : Meaning F) (h 
   U-has = (K .ops .𝟏, 𝓥 .one≢zero, h .numbers .U-lead)
 
   scaled : Scaled (rd μ) (Mpt μ B) (Npt μ B) (Mpt μ B′) (Npt μ B′)
-  scaled = pairs-one (rd μ) (μ .r) (μ .w) (moved-then (rd μ) (moved-back (rd μ) (h .moved)) (h′ .moved))
+  scaled = pairs-unique (rd μ) (μ .r) (μ .w) (moved-then (rd μ) (moved-back (rd μ) (h .moved)) (h′ .moved))
       (_, μ .two, h .numbers .X-M) (h .numbers .X-N) (h .numbers .Y-M) (K .ops .𝟏, 𝓥 .one≢zero, h .numbers .Y-N) (h .numbers .u≤y)
       (_, μ .two, h′ .numbers .X-M) (h′ .numbers .X-N) (lt-up 𝓥 (h .numbers .u) (h′ .numbers .Y-M) (let e : h .numbers .u ≡ h′ .numbers .u = u-same in omega arith))
       (K .ops .𝟏, 𝓥 .one≢zero, h′ .numbers .Y-N) (let e : h .numbers .u ≡ h′ .numbers .u = u-same in let l : h′ .numbers .u ≤ h′ .numbers .y = h′ .numbers .u≤y in omega arith)
@@ -146,7 +146,7 @@ module _ {F : Frame} {q : Pair} {d x1 y1 B B′ : List ℕ} (μ : Meaning F) (h 
   kept : (c v : K .El) (z z′ : L .El) (m n : ℕ) → c ≢ K .ops .𝟎 → v ≢ K .ops .𝟎 → 𝓥 .Lead z m 0 v → 𝓥 .Lead z′ n 0 v → z′ ≡ const c ⊗ z → const c ≡ 𝟏
   kept c v z z′ m n hc hv l l′ e =
       ap const (k-cancel 𝓥 v c (K .ops .𝟏) hv
-      (K .laws .mul-comm v c ∙ leads-unique 𝓥 (m, 0, k-domain 𝓥 c v hc hv, lead-eq 𝓥 (lead-scale (rd μ) c l) (sym e) refl) (n, 0, hv, l′) ∙ sym (K .laws .mul-one v)))
+      (K .laws .mul-comm v c ∙ leads-unique 𝓥 (m, 0, k-domain 𝓥 c v hc hv, lead-eq 𝓥 (lead-scale (rd μ) c l) (sym e) refl) (n, 0, hv, l′) ∙ sym (K .laws .mul-unique v)))
       ∙ rd μ .const-one
 
   a-one : const (scaled .a) ≡ 𝟏
@@ -199,11 +199,11 @@ module _ {F : Frame} {q : Pair} {d x1 y1 B B′ : List ℕ} (μ : Meaning F) (h 
   seven (suc (suc (suc (suc (suc (suc zero)))))) l = U-same
   seven (suc (suc (suc (suc (suc (suc (suc i))))))) l = absurd (omega arith)
 
-based-one : {F : Frame} {q : Pair} {d x1 y1 B B′ : List ℕ} (μ : Meaning F) → Based F q d x1 y1 B → Based F q d x1 y1 B′ → B ≡ B′
-based-one {B = B} {B′ = B′} μ h h′ = by-parts (rd μ) B B′ (h .size) (h′ .size) (h .each) (h′ .each) (seven μ (h .meant μ) (h′ .meant μ))
+based-unique : {F : Frame} {q : Pair} {d x1 y1 B B′ : List ℕ} (μ : Meaning F) → Based F q d x1 y1 B → Based F q d x1 y1 B′ → B ≡ B′
+based-unique {B = B} {B′ = B′} μ h h′ = by-parts (rd μ) B B′ (h .size) (h′ .size) (h .each) (h′ .each) (seven μ (h .meant μ) (h′ .meant μ))
 
-pub reduced-basis-one : {F : Frame} {q : Pair} {top : ℕ} {d x1 y1 B B′ : List ℕ} → BasisIn F q top d x1 y1 → Based F q d x1 y1 B → Based F q d x1 y1 B′ → B ≡ B′
-reduced-basis-one g h h′ = based-one (g .clear .some) h h′
+pub reduced-basis-unique : {F : Frame} {q : Pair} {top : ℕ} {d x1 y1 B B′ : List ℕ} → BasisAsks F q top d x1 y1 → Based F q d x1 y1 B → Based F q d x1 y1 B′ → B ≡ B′
+reduced-basis-unique g h h′ = based-unique (g .clear .some) h h′
 
-pub order-one : {F : Frame} {top : ℕ} {B B′ : List ℕ} → OrderIn F top → Based F units unit nothing nothing B → Based F units unit nothing nothing B′ → B ≡ B′
-order-one g h h′ = based-one (g .some) h h′
+pub order-unique : {F : Frame} {top : ℕ} {B B′ : List ℕ} → OrderAsks F top → Based F units unit nothing nothing B → Based F units unit nothing nothing B′ → B ≡ B′
+order-unique g h h′ = based-unique (g .some) h h′

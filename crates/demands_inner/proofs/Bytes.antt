@@ -7,18 +7,18 @@ use Rattle.book_body.specs.Body.{FieldSays, bodyOf}
 use Rattle.book_check.specs.Answer.{answerSays, requestSays, Tells, AskTells}
 use Rattle.book_check.specs.declared.Answer.{Answer}
 use Rattle.book_check.specs.declared.Request.{Request}
-use Rattle.book_check.proofs.One.{field-one, answer-one, request-one, tells-one, ask-one}
+use Rattle.book_check.proofs.One.{field-unique, answer-unique, request-unique, tells-unique, ask-unique}
 
 -- ---- book_body
-pub field-refusal-one : (s : List ℕ) (n m : ℕ) → FieldSays (bodyOf s) n → FieldSays (bodyOf s) m → n ≡ m
-field-refusal-one s = field-one (bodyOf s)
+pub field-refusal-unique : (s : List ℕ) (n m : ℕ) → FieldSays (bodyOf s) n → FieldSays (bodyOf s) m → n ≡ m
+field-refusal-unique s = field-unique (bodyOf s)
 
-pub period-of-one : (s : List ℕ) (a b : Period) → a .0 ≡ bodyOf s .period → b .0 ≡ bodyOf s .period → a ≡ b
-period-of-one s a b e f = λ i. record { 0 = (e ∙ sym f) i }
+pub period-of-unique : (s : List ℕ) (a b : Period) → a .0 ≡ bodyOf s .period → b .0 ≡ bodyOf s .period → a ≡ b
+period-of-unique s a b e f = λ i. record { 0 = (e ∙ sym f) i }
 
 -- ---- book: the answers themselves, not only what they say in document 01's numbers
-pub check-one : {s : List ℕ} (a b : Answer) → Tells s (answerSays a) → Tells s (answerSays b) → a ≡ b
-check-one {s} a b h k = answer-one a b (tells-one s h k)
+pub check-unique : {s : List ℕ} (a b : Answer) → Tells s (answerSays a) → Tells s (answerSays b) → a ≡ b
+check-unique {s} a b h k = answer-unique a b (tells-unique s h k)
 
-pub ask-answer-one : {s : List ℕ} {i : ℕ} (a b : Request) → AskTells s i (requestSays a) → AskTells s i (requestSays b) → a ≡ b
-ask-answer-one {s} a b h k = request-one a b (ask-one s h k)
+pub ask-answer-unique : {s : List ℕ} {i : ℕ} (a b : Request) → AskTells s i (requestSays a) → AskTells s i (requestSays b) → a ≡ b
+ask-answer-unique {s} a b h k = request-unique a b (ask-unique s h k)

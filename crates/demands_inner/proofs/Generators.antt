@@ -1,5 +1,5 @@
 -- Crate step_divide.
---   divided-one       the generators: x, y and the degree cut are settled, the pairs and their denominator up to one constant
+--   divided-unique       the generators: x, y and the degree cut are settled, the pairs and their denominator up to one constant
 --   divided-lengths   and the lengths of x, y and of the denominator
 use mathlib.Core.Path.{_≡_, sym, ap, _∙_, subst}
 use mathlib.Core.List.{List, [], _∷_}
@@ -24,11 +24,11 @@ use Rattle.math_chain.specs.Parts.{Parts, Cut, x0, x2, y0, y2, base}
 use Rattle.math_chain.proofs.Parts.{parts-unique, cut-greatest}
 use Rattle.basis_record.specs.Record.{setting}
 use Rattle.basis_record.specs.Seven.{Seven, rowsOf}
-use Rattle.step_divide.specs.Generated.{Generators, GeneratorsIn, AreGenerators, Divided}
+use Rattle.step_divide.specs.Generated.{Generators, GeneratorsAsks, AreGenerators, Divided}
 use Rattle.step_divide.specs.declared.Cuts.{Cuts}
 use Rattle.demands_inner.specs.UpTo.{Alike}
 use Rattle.demands_inner.proofs.Rows.{by-row}
-use Rattle.demands_inner.proofs.Poly.{size-one}
+use Rattle.demands_inner.proofs.Poly.{size-unique}
 
 -- ---- what is cut from the four coordinates is settled up to a constant
 record Same (S : Setting) (B B′ : Basis S) (m n : ℕ) : Type 0 where
@@ -117,8 +117,8 @@ module _ (S : Setting) (B : Basis S) (i : Ideal S B) (k l : Parts S B) (c : Cut 
 carried : (R : CRing) (v : R .El) {z z′ y y′ : R .El} → z ≡ y → z′ ≡ y′ → y ≡ R .ops .mul v y′ → z ≡ R .ops .mul v z′
 carried R v e e′ f = e ∙ f ∙ ap (λ r. R .ops .mul v r) (sym e′)
 
-pub divided-one : {p cap : ℕ} {g h gh : List ℕ} {ie : ℕ} {b : Seven} (o o′ : Generators) (i : GeneratorsIn p cap g h gh ie b) → AreGenerators p g h gh b o → AreGenerators p g h gh b o′ → Alike (i .σ) o o′
-divided-one {p} {b = b} o o′ i s t =
+pub divided-unique : {p cap : ℕ} {g h gh : List ℕ} {ie : ℕ} {b : Seven} (o o′ : Generators) (i : GeneratorsAsks p cap g h gh ie b) → AreGenerators p g h gh b o → AreGenerators p g h gh b o′ → Alike (i .σ) o o′
+divided-unique {p} {b = b} o o′ i s t =
     let σ = i .σ in
     let S = setting σ in
     let B = rowsOf σ b in
@@ -140,15 +140,15 @@ divided-one {p} {b = b} o o′ i s t =
     }
 
 -- a constant multiple is no longer
-no-longer : {p cap : ℕ} {g h gh : List ℕ} {ie : ℕ} {b : Seven} (i : GeneratorsIn p cap g h gh ie b) {o o′ : Generators} {m n : ℕ} → Alike (i .σ) o o′ → Row p (o .u) → Size (o .u) m → Size (o′ .u) n → m ≤ n
+no-longer : {p cap : ℕ} {g h gh : List ℕ} {ie : ℕ} {b : Seven} (i : GeneratorsAsks p cap g h gh ie b) {o o′ : Generators} {m n : ℕ} → Alike (i .σ) o o′ → Row p (o .u) → Size (o .u) m → Size (o′ .u) n → m ≤ n
 no-longer {p} i {n = n} a r s t =
     let ρ = reading p (i .σ .prime) in
     size-le ρ n r s (lt-eq (ρ .𝓥) (lt-scale (ρ .𝓥) (unit-const (ρ .𝓥) (a .v) (a .v-unit)) (size-lt ρ t)) (sym (ap (λ z. z .0) (a .u))))
 
-pub divided-lengths : {p cap : ℕ} {g h gh : List ℕ} {ie : ℕ} {b : Seven} {o o′ : Generators} {c c′ : Cuts} → GeneratorsIn p cap g h gh ie b → Divided p g h gh b o c → Divided p g h gh b o′ c′
+pub divided-lengths : {p cap : ℕ} {g h gh : List ℕ} {ie : ℕ} {b : Seven} {o o′ : Generators} {c c′ : Cuts} → GeneratorsAsks p cap g h gh ie b → Divided p g h gh b o c → Divided p g h gh b o′ c′
     → (c .x ≡ c′ .x) × (c .y ≡ c′ .y) × (c .d ≡ c′ .d) × (c .m0 ≡ c′ .m0) × (c .u ≡ c′ .u)
 divided-lengths {p} {o = o} {o′ = o′} {c = c} {c′ = c′} i s t =
-    let a = divided-one o o′ i (s .are) (t .are) in
+    let a = divided-unique o o′ i (s .are) (t .are) in
     let l : c .d ≤ c′ .d = no-longer i a (s .are .hu) (s .size-u) (t .size-u) in
-    let m : c′ .d ≤ c .d = no-longer i (divided-one o′ o i (t .are) (s .are)) (t .are .hu) (t .size-u) (s .size-u) in
-    (size-one (subst (λ z. Size z (c .x)) (a .x) (s .size-x)) (t .size-x), size-one (subst (λ z. Size z (c .y)) (a .y) (s .size-y)) (t .size-y), omega arith, size-one (s .was-m0) (t .was-m0), size-one (s .was-u) (t .was-u))
+    let m : c′ .d ≤ c .d = no-longer i (divided-unique o′ o i (t .are) (s .are)) (t .are .hu) (t .size-u) (s .size-u) in
+    (size-unique (subst (λ z. Size z (c .x)) (a .x) (s .size-x)) (t .size-x), size-unique (subst (λ z. Size z (c .y)) (a .y) (s .size-y)) (t .size-y), omega arith, size-unique (s .was-m0) (t .was-m0), size-unique (s .was-u) (t .was-u))

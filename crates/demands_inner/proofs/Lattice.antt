@@ -1,8 +1,8 @@
 -- Crates basis_lattice and poly_content.
---   lengths-of-one     the lengths of seven rows, and e
---   coordinates-one    the coordinates of an element that has some, and their lengths
---   member-one         an element lies in the lattice or does not
---   taken-off-one      four polynomials without their common factor: settled up to one constant
+--   lengths-of-unique     the lengths of seven rows, and e
+--   coordinates-unique    the coordinates of an element that has some, and their lengths
+--   member-unique         an element lies in the lattice or does not
+--   taken-off-unique      four polynomials without their common factor: decides-unique up to one constant
 use mathlib.Core.Path.{_≡_, sym, ap, _∙_, subst}
 use mathlib.Core.Bool.{Bool}
 use mathlib.Core.List.{List, [], _∷_}
@@ -20,25 +20,25 @@ use Rattle.math_rows.specs.Made.{reading}
 use Rattle.math_rows.specs.Row.{Size}
 use Rattle.poly_rows.specs.Polynomial.{polynomial}
 use Rattle.poly_content.specs.Common.{Four, Without}
-use Rattle.base_answers.proofs.Tests.{settled}
+use Rattle.base_answers.proofs.Tests.{decides-unique}
 use Rattle.basis_record.specs.Seven.{Seven, Three}
-use Rattle.basis_lattice.specs.Coordinates.{Found, CoordsIn, Coordinates}
+use Rattle.basis_lattice.specs.Coordinates.{Found, CoordinatesAsks, Coordinates}
 use Rattle.basis_lattice.specs.Lattice.{Member, MemberAt}
 use Rattle.basis_lattice.specs.declared.Lengths.{Lengths}
 use Rattle.basis_lattice.specs.declared.Spans.{Spans}
 use Rattle.demands_inner.proofs.Rows.{by-row}
-use Rattle.demands_inner.proofs.Poly.{size-one}
-use Rattle.demands_inner.proofs.Sized.{both, det-in-one}
+use Rattle.demands_inner.proofs.Poly.{size-unique}
+use Rattle.demands_inner.proofs.Sized.{both, det-in-unique}
 
-pub lengths-of-one : {p : ℕ} (pr : Prime p) {b : Seven} {e e′ : List ℕ} {l l′ : Lengths} → Found p b e l → Found p b e′ l′ → (e ≡ e′) × (l ≡ l′)
-lengths-of-one pr f g =
-    let (x, y) = det-in-one pr (f .det) (g .det) in
-    let same : (i : ℕ) → _ = λ i. size-one (f .sizes i) (g .sizes i) in
+pub lengths-of-unique : {p : ℕ} (pr : Prime p) {b : Seven} {e e′ : List ℕ} {l l′ : Lengths} → Found p b e l → Found p b e′ l′ → (e ≡ e′) × (l ≡ l′)
+lengths-of-unique pr f g =
+    let (x, y) = det-in-unique pr (f .det) (g .det) in
+    let same : (i : ℕ) → _ = λ i. size-unique (f .sizes i) (g .sizes i) in
     (x, λ i. record { m0 = same 0 i; m1 = same 1 i; m2 = same 2 i; n0 = same 3 i; n1 = same 4 i; n2 = same 5 i; u = same 6 i; e = y i })
 
-pub coordinates-one : {M : Modulus} {va : List ℕ} {na : ℕ} {vb : List ℕ} {nb : ℕ} {vc : List ℕ} {nc : ℕ} {b : Seven} {l : Lengths} {e : List ℕ} {ie : ℕ} {z t t′ : Three} {o o′ : Spans}
-    → CoordsIn M va na vb nb vc nc b l e ie z → Coordinates (M .p) va vb vc b e t o → Coordinates (M .p) va vb vc b e t′ o′ → (t ≡ t′) × (o ≡ o′)
-coordinates-one {M} i h k =
+pub coordinates-unique : {M : Modulus} {va : List ℕ} {na : ℕ} {vb : List ℕ} {nb : ℕ} {vc : List ℕ} {nc : ℕ} {b : Seven} {l : Lengths} {e : List ℕ} {ie : ℕ} {z t t′ : Three} {o o′ : Spans}
+    → CoordinatesAsks M va na vb nb vc nc b l e ie z → Coordinates (M .p) va vb vc b e t o → Coordinates (M .p) va vb vc b e t′ o′ → (t ≡ t′) × (o ≡ o′)
+coordinates-unique {M} i h k =
     let ρ = reading (M .p) (i .prime) in
     let (ha, hb, hc) = h .law (i .prime) (i .α) (i .β) (i .γ) (i .some) in
     let (ka, kb, kc) = k .law (i .prime) (i .α) (i .β) (i .γ) (i .some) in
@@ -47,8 +47,8 @@ coordinates-one {M} i h k =
     let (c, lc) = both (by-row ρ (h .spans .hc) (k .spans .hc) hc kc) (h .spans .sc) (k .spans .sc) in
     ((λ i. record { a = a i; b = b i; c = c i }), (λ i. record { a = la i; b = lb i; c = lc i }))
 
-pub member-one : {p : ℕ} (pr : Prime p) {va vb vc : List ℕ} {b : Seven} {e : List ℕ} (o o′ : Bool) → Member p va vb vc b e o → Member p va vb vc b e o′ → o ≡ o′
-member-one pr {va} {vb} {vc} {b} {e} o o′ h k = settled o o′ (MemberAt pr va vb vc b e) (h pr) (k pr)
+pub member-unique : {p : ℕ} (pr : Prime p) {va vb vc : List ℕ} {b : Seven} {e : List ℕ} (o o′ : Bool) → Member p va vb vc b e o → Member p va vb vc b e o′ → o ≡ o′
+member-unique pr {va} {vb} {vc} {b} {e} o o′ h k = decides-unique o o′ (MemberAt pr va vb vc b e) (h pr) (k pr)
 
 -- ---- without the common factor
 pub record Multiples {p : ℕ} (pr : Prime p) (o o′ : Four) : Type 0 where
@@ -73,10 +73,10 @@ module _ {p : ℕ} (pr : Prime p) {x0 x2 y0 y2 : List ℕ} where
       let (h′, unit) = w .alone h e₁ e₂ e₃ e₄ in
       let (q, e) = comb-divides 𝓥 (w′ .g) (w .g) four h comb
       ((P (o′ .a0), sym (w .x0-eq) ∙ w′ .x0-eq), ((P (o′ .a2), sym (w .x2-eq) ∙ w′ .x2-eq), ((P (o′ .b0), sym (w .y0-eq) ∙ w′ .y0-eq), ((P (o′ .b2), sym (w .y2-eq) ∙ w′ .y2-eq), tt)))) in
-      (R .ops .mul q h′, sym (R .laws .mul-one (w .g)) ∙ ap (λ t. R .ops .mul (w .g) t) unit ∙ sym (R .laws .mul-assoc (w .g) h h′) ∙ ap (λ t. R .ops .mul t h′) e ∙ R .laws .mul-assoc (w′ .g) q h′)
+      (R .ops .mul q h′, sym (R .laws .mul-unique (w .g)) ∙ ap (λ t. R .ops .mul (w .g) t) unit ∙ sym (R .laws .mul-assoc (w .g) h h′) ∙ ap (λ t. R .ops .mul t h′) e ∙ R .laws .mul-assoc (w′ .g) q h′)
 
-  pub taken-off-one : (o o′ : Four) → Without p pr x0 x2 y0 y2 o → Without p pr x0 x2 y0 y2 o′ → Multiples pr o o′
-  taken-off-one o o′ w w′ =
+  pub taken-off-unique : (o o′ : Four) → Without p pr x0 x2 y0 y2 o → Without p pr x0 x2 y0 y2 o′ → Multiples pr o o′
+  taken-off-unique o o′ w w′ =
       let 𝓥 = reading p pr .𝓥 in
       let R = polys 𝓥 in
       let (v, e) = greatest o′ o w′ w in

@@ -1,5 +1,5 @@
--- Crates long, six and six_invert: the final contents of the lent slices. `size` of long: `size-one` in Poly.
---   cut-one   the numbers of a row inside a slice are settled by its polynomial
+-- Crates long, six and six_invert: the final contents of the lent slices. `size` of long: `size-unique` in Poly.
+--   cut-unique   the numbers of a row inside a slice are settled by its polynomial
 use mathlib.Core.Path.{_≡_, sym, ap, _∙_, subst}
 use mathlib.Core.List.{List}
 use Prim.Native.Nat.{ℕ, _+_, _*_, _-_, _%_, _<_, _≤_}
@@ -8,7 +8,7 @@ use native.Mathlib.Decide.{decLt}
 use lib.ListN.{length, getD}
 use lib.Seq.{ext-getD}
 use Rattle.math_fp.specs.Fp.{Prime}
-use Rattle.math_fp.proofs.Value.{inverse-only}
+use Rattle.math_fp.proofs.Value.{inverse-mod-unique}
 use Rattle.math_triple.specs.Tri.{normT}
 use Rattle.math_valued.proofs.Degree.{has-inv}
 use Rattle.math_rows.specs.Reading.{Reading}
@@ -17,26 +17,26 @@ use Rattle.math_rows.specs.Row.{row}
 use Rattle.math_rows.proofs.Tab.{length-tab, at-tab, past-tab}
 use Rattle.math_rows.proofs.Unique.{list-unique}
 use Rattle.poly_long.specs.Long.{Quotient, Mixed, Times, Scaled}
-use Rattle.unit_rows.specs.Six.{cut, Turn, MonicIn, MonicMade}
-use Rattle.unit_inverse.specs.Inverse.{element, InvertIn, Inverted}
+use Rattle.unit_rows.specs.Six.{cut, Turn, MonicAsks, MonicMade}
+use Rattle.unit_inverse.specs.Inverse.{element, InvertAsks, Inverted}
 use Rattle.demands_inner.specs.Turnable.{at, Turnable}
-use Rattle.demands_inner.proofs.Rows.{by-list, low-one}
+use Rattle.demands_inner.proofs.Rows.{by-list, low-unique}
 
 -- ---- long
 -- where there is a quotient that fits; else the contract says only that the numbers are below p
-pub quotient-one : {p : ℕ} (pr : Prime p) {a x b y c z u q q′ q″ : List ℕ} (l : List ℕ) → length l ≡ length q → ((i : ℕ) → getD l i 0 < p)
+pub quotient-unique : {p : ℕ} (pr : Prime p) {a x b y c z u q q′ q″ : List ℕ} (l : List ℕ) → length l ≡ length q → ((i : ℕ) → getD l i 0 < p)
     → (let ρ = reading p pr in let o = ρ .𝓥 .L .ops in o .mul (row ρ u) (row ρ l) ≡ o .add (o .add (o .mul (row ρ a) (row ρ x)) (o .mul (row ρ b) (row ρ y))) (o .mul (row ρ c) (row ρ z)))
     → Quotient p a x b y c z u q q′ → Quotient p a x b y c z u q q″ → q′ ≡ q″
-quotient-one pr l n g e h k = h .law pr l n g e ∙ sym (k .law pr l n g e)
+quotient-unique pr l n g e h k = h .law pr l n g e ∙ sym (k .law pr l n g e)
 
-pub mix-one : {p : ℕ} (pr : Prime p) {g x h y d d′ d″ : List ℕ} → Mixed p g x h y d d′ → Mixed p g x h y d d″ → d′ ≡ d″
-mix-one {p} pr {d′ = d′} {d″ = d″} h k = list-unique (reading p pr) d′ d″ (h .size ∙ sym (k .size)) (h .each) (k .each) (low-one (reading p pr) (h .law pr) (k .law pr))
+pub mix-unique : {p : ℕ} (pr : Prime p) {g x h y d d′ d″ : List ℕ} → Mixed p g x h y d d′ → Mixed p g x h y d d″ → d′ ≡ d″
+mix-unique {p} pr {d′ = d′} {d″ = d″} h k = list-unique (reading p pr) d′ d″ (h .size ∙ sym (k .size)) (h .each) (k .each) (low-unique (reading p pr) (h .law pr) (k .law pr))
 
-pub times-one : {p : ℕ} (pr : Prime p) {x y d r s : List ℕ} → Times p x y d r → Times p x y d s → r ≡ s
-times-one {p} pr h k = by-list (reading p pr) (h .size) (k .size) (h .each) (k .each) (h .law pr) (k .law pr)
+pub times-unique : {p : ℕ} (pr : Prime p) {x y d r s : List ℕ} → Times p x y d r → Times p x y d s → r ≡ s
+times-unique {p} pr h k = by-list (reading p pr) (h .size) (k .size) (h .each) (k .each) (h .law pr) (k .law pr)
 
-pub scale-one : {p s : ℕ} {d d′ d″ : List ℕ} → Scaled p s d d′ → Scaled p s d d″ → d′ ≡ d″
-scale-one {p} {s} {d} {d′} {d″} h k =
+pub scale-unique : {p s : ℕ} {d d′ d″ : List ℕ} → Scaled p s d d′ → Scaled p s d d″ → d′ ≡ d″
+scale-unique {p} {s} {d} {d′} {d″} h k =
     ext-getD 0 d′ d″ (h .size ∙ sym (k .size)) (λ i l. let m : i < length d = subst (λ n. i < n) (h .size) l in h .at i m ∙ sym (k .at i m))
 
 -- ---- rows inside a slice
@@ -47,9 +47,9 @@ cut-below {p} at c l pos h i = go (decLt i c)
     go (yes m) = subst (λ x. x < p) (sym (at-tab c (λ j. getD l (at + j) 0) i m)) (h i m)
     go (no m) = subst (λ x. x < p) (sym (past-tab c (λ j. getD l (at + j) 0) i (omega arith))) pos
 
-pub cut-one : {p : ℕ} (ρ : Reading p) (at c : ℕ) (l l′ : List ℕ) → ((i : ℕ) → i < c → getD l (at + i) 0 < p) → ((i : ℕ) → i < c → getD l′ (at + i) 0 < p)
+pub cut-unique : {p : ℕ} (ρ : Reading p) (at c : ℕ) (l l′ : List ℕ) → ((i : ℕ) → i < c → getD l (at + i) 0 < p) → ((i : ℕ) → i < c → getD l′ (at + i) 0 < p)
     → row ρ (cut at c l) ≡ row ρ (cut at c l′) → (k : ℕ) → at ≤ k → k < at + c → getD l k 0 ≡ getD l′ k 0
-cut-one ρ at c l l′ g h e k lo hi =
+cut-unique ρ at c l l′ g h e k lo hi =
     let j : ℕ = k - at in
     let m : j < c = omega arith in
     let s : at + j ≡ k = omega arith in
@@ -63,15 +63,15 @@ three : {p : ℕ} (ρ : Reading p) (a b d c : ℕ) (l l′ : List ℕ) → b ≡
 three ρ a b d c l l′ e f g h x y z k lo hi = go (decLt k b) (decLt k d)
   where
     go : Dec (k < b) → Dec (k < d) → getD l k 0 ≡ getD l′ k 0
-    go (yes m) n = cut-one ρ a c l l′ (λ i o. g (a + i) (omega arith)) (λ i o. h (a + i) (omega arith)) x k lo (omega arith)
-    go (no m) (yes n) = cut-one ρ b c l l′ (λ i o. g (b + i) (omega arith)) (λ i o. h (b + i) (omega arith)) y k (omega arith) (omega arith)
-    go (no m) (no n) = cut-one ρ d c l l′ (λ i o. g (d + i) (omega arith)) (λ i o. h (d + i) (omega arith)) z k (omega arith) hi
+    go (yes m) n = cut-unique ρ a c l l′ (λ i o. g (a + i) (omega arith)) (λ i o. h (a + i) (omega arith)) x k lo (omega arith)
+    go (no m) (yes n) = cut-unique ρ b c l l′ (λ i o. g (b + i) (omega arith)) (λ i o. h (b + i) (omega arith)) y k (omega arith) (omega arith)
+    go (no m) (no n) = cut-unique ρ d c l l′ (λ i o. g (d + i) (omega arith)) (λ i o. h (d + i) (omega arith)) z k (omega arith) hi
 
 -- ---- six
 module _ {p : ℕ} (pr : Prime p) where
-  pub turn-one : {c n : ℕ} {g h gh b rows s rows′ s′ rows″ s″ : List ℕ} → Turnable pr c n g h gh b rows
+  pub turn-unique : {c n : ℕ} {g h gh b rows s rows′ s′ rows″ s″ : List ℕ} → Turnable pr c n g h gh b rows
       → Turn p c n g h gh b rows s rows′ s′ → Turn p c n g h gh b rows s rows″ s″ → (rows′ ≡ rows″) × (s′ ≡ s″)
-  turn-one {c} {rows′ = rows′} {rows″ = rows″} t u v = (ext-getD 0 rows′ rows″ (u .size ∙ sym (v .size)) (λ i _. go i (decLt i (c + c + c))), u .blank ∙ sym (v .blank))
+  turn-unique {c} {rows′ = rows′} {rows″ = rows″} t u v = (ext-getD 0 rows′ rows″ (u .size ∙ sym (v .size)) (λ i _. go i (decLt i (c + c + c))), u .blank ∙ sym (v .blank))
     where
       one : (at pr 0 c rows′ ≡ at pr 0 c rows″) × (at pr c c rows′ ≡ at pr c c rows″) × (at pr (c + c) c rows′ ≡ at pr (c + c) c rows″)
       one =
@@ -83,11 +83,11 @@ module _ {p : ℕ} (pr : Prime p) where
       go i (yes l) = three (reading p pr) 0 c (c + c) c rows′ rows″ (omega arith) (omega arith) (u .each) (v .each) (one .0) (one .1) (one .2) i (omega arith) l
       go i (no l) = u .rest i (omega arith) ∙ sym (v .rest i (omega arith))
 
-pub monic-one : {p c n : ℕ} {rows rows′ rows″ : List ℕ} → MonicIn p c n rows → MonicMade p c n rows rows′ → MonicMade p c n rows rows″ → rows′ ≡ rows″
-monic-one {p} {c} {n} {rows} {rows′} {rows″} g h k = ext-getD 0 rows′ rows″ (h .size ∙ sym (k .size)) (λ i _. go i (decLt i (c + c + c)))
+pub monic-unique : {p c n : ℕ} {rows rows′ rows″ : List ℕ} → MonicAsks p c n rows → MonicMade p c n rows rows′ → MonicMade p c n rows rows″ → rows′ ≡ rows″
+monic-unique {p} {c} {n} {rows} {rows′} {rows″} g h k = ext-getD 0 rows′ rows″ (h .size ∙ sym (k .size)) (λ i _. go i (decLt i (c + c + c)))
   where
     same : h .by ≡ k .by
-    same = inverse-only p (g .prime) (getD rows (n - 1) 0) (g .top-below) (h .by) (k .by) (h .by-below) (k .by-below) (h .one) (k .one)
+    same = inverse-mod-unique p (g .prime) (getD rows (n - 1) 0) (g .top-below) (h .by) (k .by) (h .by-below) (k .by-below) (h .one) (k .one)
 
     go : (i : ℕ) → Dec (i < c + c + c) → getD rows′ i 0 ≡ getD rows″ i 0
     go i (yes l) = h .at i l ∙ ap (λ m. (getD rows i 0 * m) % p) same ∙ sym (k .at i l)
@@ -95,9 +95,9 @@ monic-one {p} {c} {n} {rows} {rows′} {rows″} g h k = ext-getD 0 rows′ rows
 
 -- ---- six_invert
 -- the norm is a constant that is not 0: it has an inverse
-pub invert-one : {p c k : ℕ} {g h gh ngh rows s rows′ s′ rows″ s″ : List ℕ} → InvertIn p c k g h gh ngh rows s
+pub invert-unique : {p c k : ℕ} {g h gh ngh rows s rows′ s′ rows″ s″ : List ℕ} → InvertAsks p c k g h gh ngh rows s
     → Inverted p c g h rows s rows′ s′ → Inverted p c g h rows s rows″ s″ → (rows′ ≡ rows″) × (s′ ≡ s″)
-invert-one {p} {c} {g = G} {h = H} {rows = rows} {rows′ = rows′} {rows″ = rows″} i u v =
+invert-unique {p} {c} {g = G} {h = H} {rows = rows} {rows′ = rows′} {rows″ = rows″} i u v =
     let pr = i .prime in
     let ρ = reading p pr in
     let (κ, nz, e) = i .constant pr in

@@ -1,6 +1,6 @@
 -- Two pairs with one span, both with deg Y(m) < u ≤ deg Y(n) and deg X(n) < deg X(m), differ by a constant at each element.
 --   rises       a combination α m + β n with β not 0 and a small Y has a larger X than m
---   pairs-one   m′ = a m and n′ = d n for constants a, d that are not 0
+--   pairs-unique   m′ = a m and n′ = d n for constants a, d that are not 0
 use mathlib.Core.Path.{_≡_, sym, ap, _∙_}
 use mathlib.Core.Logic.{_⊎_, inl, inr}
 use mathlib.Core.List.{[], _∷_}
@@ -155,8 +155,8 @@ module _ {p : ℕ} (ρ : Reading p) where
       right : (z w v : L .El) → v ≡ h .γ .0 * z + h .δ .0 * w → v ≡ const (units .1 .0) * w
       right z w v e = solve-by L (var 0) (var 5 :* var 2) (hyp one (var 0) (var 4 :* var 1 :+ var 3 :* var 2) ∷ hyp (var 1) (var 4) zer ∷ hyp (var 2) (var 3) (var 5) ∷ []) tt (v ∷ z ∷ w ∷ h .δ .0 ∷ h .γ .0 ∷ const (units .1 .0) ∷ []) (e, (γ-none, (δ-is, tt)))
 
-      pub pairs-one : Scaled ρ m n m′ n′
-      pairs-one = record {
+      pub pairs-unique : Scaled ρ m n m′ n′
+      pairs-unique = record {
         a = units .0 .0;
         d = units .1 .0;
         a-unit = units .0 .1;

@@ -1,4 +1,4 @@
--- Crates prime and poly. The laws of poly speak of a prime modulus: so do the theorems. `size-one` is also for long.
+-- Crates prime and poly. The laws of poly speak of a prime modulus: so do the theorems. `size-unique` is also for long.
 use mathlib.Core.Path.{_≡_, refl, sym, ap, _∙_}
 use mathlib.Core.Logic.{_⊎_, inl, inr}
 use mathlib.Core.Bool.{Bool, true, false}
@@ -22,48 +22,48 @@ use Rattle.math_rows.proofs.Floors.{sized}
 use Rattle.math_rows.proofs.Quotient.{division-unique}
 use Rattle.math_rows.proofs.Unique.{row-unique}
 use Rattle.num_prime.specs.Table.{PrimeTest}
-use Rattle.poly_rows.specs.Leaf.{Opposite, ScaleOut, Crossed, CrossOut, Product, Listed}
+use Rattle.poly_rows.specs.Leaf.{Opposite, ScaleInGives, Crossed, CrossInGives, Product, Listed}
 use Rattle.num_mod.specs.Prepared.{Added}
-use Rattle.poly_rows.specs.Division.{DivIn, Quotient}
+use Rattle.poly_rows.specs.Division.{DivisionAsks, Quotient}
 use Rattle.poly_rows.specs.Polynomial.{polynomial}
 use Rattle.poly_factors.specs.Factors.{Over, OverBoth, Common, SquareTest, CoprimeTest}
 use Rattle.poly_rows.proofs.Leaf as leaf
 use Rattle.poly_rows.proofs.Division.{div-pos}
 use Rattle.demands_inner.proofs.Rows.{by-row}
 
-pub is-prime-one : {p : ℕ} (r s : Bool) → PrimeTest p r → PrimeTest p s → r ≡ s
-is-prime-one true true h k = refl
-is-prime-one false false h k = refl
-is-prime-one true false h k = let (a, b) = h .yes! refl in absurd (k .no! refl a b)
-is-prime-one false true h k = let (a, b) = k .yes! refl in absurd (h .no! refl a b)
+pub is-prime-unique : {p : ℕ} (r s : Bool) → PrimeTest p r → PrimeTest p s → r ≡ s
+is-prime-unique true true h k = refl
+is-prime-unique false false h k = refl
+is-prime-unique true false h k = let (a, b) = h .yes! refl in absurd (k .no! refl a b)
+is-prime-unique false true h k = let (a, b) = k .yes! refl in absurd (h .no! refl a b)
 
 -- ---- for every modulus: size, size_from, from_list
-pub size-one : {l : List ℕ} {n m : ℕ} → Size l n → Size l m → n ≡ m
-size-one h k = leaf.size-one h k
+pub size-unique : {l : List ℕ} {n m : ℕ} → Size l n → Size l m → n ≡ m
+size-unique h k = leaf.size-unique h k
 
-pub from-list-one : {l r s : List ℕ} → Listed l r → Listed l s → r ≡ s
-from-list-one {l} {r} {s} h k = ext-getD 0 r s (h .size ∙ sym (k .size)) (λ i _. h .each i ∙ sym (k .each i))
+pub from-list-unique : {l r s : List ℕ} → Listed l r → Listed l s → r ≡ s
+from-list-unique {l} {r} {s} h k = ext-getD 0 r s (h .size ∙ sym (k .size)) (λ i _. h .each i ∙ sym (k .each i))
 
 -- one class mod p
-pub add-product-one : {p s x y r r′ : ℕ} → Added p s x y r → Added p s x y r′ → r % p ≡ r′ % p
-add-product-one h k = h .law ∙ sym (k .law)
+pub add-product-unique : {p s x y r r′ : ℕ} → Added p s x y r → Added p s x y r′ → r % p ≡ r′ % p
+add-product-unique h k = h .law ∙ sym (k .law)
 
 -- ---- for a prime
 module _ {p : ℕ} (pr : Prime p) where
-  pub minus-one : {x r s : List ℕ} → Opposite p x r → Opposite p x s → r ≡ s
-  minus-one h k = by-row (reading p pr) (h .is-row) (k .is-row) (h .law pr) (k .law pr)
+  pub minus-unique : {x r s : List ℕ} → Opposite p x r → Opposite p x s → r ≡ s
+  minus-unique h k = by-row (reading p pr) (h .is-row) (k .is-row) (h .law pr) (k .law pr)
 
-  cross-one : {a : ℕ} {x : List ℕ} {c k : ℕ} {y r s : List ℕ} → Crossed p a x c k y r → Crossed p a x c k y s → r ≡ s
-  cross-one h k = by-row (reading p pr) (h .is-row) (k .is-row) (h .law pr) (k .law pr)
+  cross-unique : {a : ℕ} {x : List ℕ} {c k : ℕ} {y r s : List ℕ} → Crossed p a x c k y r → Crossed p a x c k y s → r ≡ s
+  cross-unique h k = by-row (reading p pr) (h .is-row) (k .is-row) (h .law pr) (k .law pr)
 
-  pub scale-in-one : {c : ℕ} {x : List ℕ} {n : ℕ} {r s : List ℕ} → ScaleOut p c x n r → ScaleOut p c x n s → r ≡ s
-  scale-in-one h k = by-row (reading p pr) (h .short .is-row) (k .short .is-row) (h .scaled .law pr) (k .scaled .law pr)
+  pub scale-in-unique : {c : ℕ} {x : List ℕ} {n : ℕ} {r s : List ℕ} → ScaleInGives p c x n r → ScaleInGives p c x n s → r ≡ s
+  scale-in-unique h k = by-row (reading p pr) (h .short .is-row) (k .short .is-row) (h .scaled .law pr) (k .scaled .law pr)
 
-  pub cross-in-one : {a : ℕ} {x : List ℕ} {c k : ℕ} {y : List ℕ} {n : ℕ} {r s : List ℕ} → CrossOut p a x c k y n r → CrossOut p a x c k y n s → r ≡ s
-  cross-in-one h k = cross-one (h .crossed) (k .crossed)
+  pub cross-in-unique : {a : ℕ} {x : List ℕ} {c k : ℕ} {y : List ℕ} {n : ℕ} {r s : List ℕ} → CrossInGives p a x c k y n r → CrossInGives p a x c k y n s → r ≡ s
+  cross-in-unique h k = cross-unique (h .crossed) (k .crossed)
 
-  pub mul-one : {x y r s : List ℕ} → Product p x y r → Product p x y s → r ≡ s
-  mul-one h k = by-row (reading p pr) (h .is-row) (k .is-row) (h .law pr) (k .law pr)
+  pub mul-unique : {x y r s : List ℕ} → Product p x y r → Product p x y s → r ≡ s
+  mul-unique h k = by-row (reading p pr) (h .is-row) (k .is-row) (h .law pr) (k .law pr)
 
   -- what is left over, a − q b, is below b
   abbrev left : List ℕ → List ℕ → List ℕ → reading p pr .𝓥 .L .El
@@ -72,8 +72,8 @@ module _ {p : ℕ} (pr : Prime p) where
   back : (a b v : List ℕ) → row (reading p pr) a ≡ reading p pr .𝓥 .L .ops .add (reading p pr .𝓥 .L .ops .mul (row (reading p pr) v) (row (reading p pr) b)) (left a b v)
   back a b v = let ρ = reading p pr in solve (ρ .𝓥 .L) (var 0) (var 1 :+ (var 0 :+ minus (var 1))) tt (row ρ a ∷ ρ .𝓥 .L .ops .mul (row ρ v) (row ρ b) ∷ [])
 
-  pub quotient-one : {a b q q′ : List ℕ} {il : ℕ} → DivIn p a b il → Quotient p a b q → Quotient p a b q′ → q ≡ q′
-  quotient-one {a} {b} {q} {q′} {il} h g f =
+  pub quotient-unique : {a b q q′ : List ℕ} {il : ℕ} → DivisionAsks p a b il → Quotient p a b q → Quotient p a b q′ → q ≡ q′
+  quotient-unique {a} {b} {q} {q′} {il} h g f =
       let ρ = reading p pr in
       let (m, s) = sized b in
       let d = size-has-at ρ m (h .hb) s (div-pos p a b il m h s) in
@@ -81,17 +81,17 @@ module _ {p : ℕ} (pr : Prime p) where
       row-unique ρ (g .is-row) (f .is-row) x
 
 -- ---- tests
-pub squarefree-one : {p : ℕ} {x : List ℕ} (r s : Bool) → Over p x → SquareTest p x r → SquareTest p x s → r ≡ s
-squarefree-one true true g h k = refl
-squarefree-one false false g h k = refl
-squarefree-one {p} {x} true false g h k = absurd (free-no-square (reading p (g .prime) .𝓥) (polynomial p (g .prime) x) (h (g .prime)) (k (g .prime)))
-squarefree-one {p} {x} false true g h k = absurd (free-no-square (reading p (g .prime) .𝓥) (polynomial p (g .prime) x) (k (g .prime)) (h (g .prime)))
+pub squarefree-unique : {p : ℕ} {x : List ℕ} (r s : Bool) → Over p x → SquareTest p x r → SquareTest p x s → r ≡ s
+squarefree-unique true true g h k = refl
+squarefree-unique false false g h k = refl
+squarefree-unique {p} {x} true false g h k = absurd (free-no-square (reading p (g .prime) .𝓥) (polynomial p (g .prime) x) (h (g .prime)) (k (g .prime)))
+squarefree-unique {p} {x} false true g h k = absurd (free-no-square (reading p (g .prime) .𝓥) (polynomial p (g .prime) x) (k (g .prime)) (h (g .prime)))
 
-pub coprime-one : {p : ℕ} {x y : List ℕ} (r s : Bool) → OverBoth p x y → CoprimeTest p x y r → CoprimeTest p x y s → r ≡ s
-coprime-one true true g h k = refl
-coprime-one false false g h k = refl
-coprime-one {p} {x} {y} true false g h k = absurd (apart-no-common (reading p (g .prime) .𝓥) (polynomial p (g .prime) x) (polynomial p (g .prime) y) (h (g .prime)) (k (g .prime)))
-coprime-one {p} {x} {y} false true g h k = absurd (apart-no-common (reading p (g .prime) .𝓥) (polynomial p (g .prime) x) (polynomial p (g .prime) y) (k (g .prime)) (h (g .prime)))
+pub coprime-unique : {p : ℕ} {x y : List ℕ} (r s : Bool) → OverBoth p x y → CoprimeTest p x y r → CoprimeTest p x y s → r ≡ s
+coprime-unique true true g h k = refl
+coprime-unique false false g h k = refl
+coprime-unique {p} {x} {y} true false g h k = absurd (apart-no-common (reading p (g .prime) .𝓥) (polynomial p (g .prime) x) (polynomial p (g .prime) y) (h (g .prime)) (k (g .prime)))
+coprime-unique {p} {x} {y} false true g h k = absurd (apart-no-common (reading p (g .prime) .𝓥) (polynomial p (g .prime) x) (polynomial p (g .prime) y) (k (g .prime)) (h (g .prime)))
 
 -- ---- a greatest common divisor is settled up to a constant
 module _ (𝓥 : Valued) where
@@ -99,7 +99,7 @@ module _ (𝓥 : Valued) where
   divisors g h (a, e) (b, f) = go (view 𝓥 g) (view 𝓥 h)
     where
       go : (g .0 ≡ 𝓥 .L .ops .𝟎) ⊎ ((n : ℕ) × Has 𝓥 (g .0) n) → (h .0 ≡ 𝓥 .L .ops .𝟎) ⊎ ((n : ℕ) × Has 𝓥 (h .0) n) → (v : Poly 𝓥) × IsUnit 𝓥 v × (h ≡ polys 𝓥 .ops .mul g v)
-      go (inl z) y = (polys 𝓥 .ops .𝟏, (polys 𝓥 .ops .𝟏, sym (polys 𝓥 .laws .mul-one (polys 𝓥 .ops .𝟏))), P-path 𝓥 {a = h} {b = g} (zero-divides 𝓥 g h z (a, e) ∙ sym z) ∙ sym (polys 𝓥 .laws .mul-one g))
+      go (inl z) y = (polys 𝓥 .ops .𝟏, (polys 𝓥 .ops .𝟏, sym (polys 𝓥 .laws .mul-unique (polys 𝓥 .ops .𝟏))), P-path 𝓥 {a = h} {b = g} (zero-divides 𝓥 g h z (a, e) ∙ sym z) ∙ sym (polys 𝓥 .laws .mul-unique g))
       go (inr (m, x)) (inl z) = absurd (not-zero 𝓥 x (zero-divides 𝓥 h g z (b, f)))
       go (inr (m, x)) (inr (n, y)) =
           let (i, s, p) = factor 𝓥 g a h x y e in
@@ -107,9 +107,9 @@ module _ (𝓥 : Valued) where
           let z : i ≡ 0 = omega (arith, p, q) in
           (a, const-unit 𝓥 a (has-move 𝓥 0 0 s (ap (λ k. k + 0) z)), e)
 
-pub gcd-one : {p : ℕ} {x y r s : List ℕ} (g : OverBoth p x y) → Common p x y r → Common p x y s
+pub gcd-unique : {p : ℕ} {x y r s : List ℕ} (g : OverBoth p x y) → Common p x y r → Common p x y s
     → (v : Poly (reading p (g .prime) .𝓥)) × IsUnit (reading p (g .prime) .𝓥) v × (polynomial p (g .prime) s ≡ polys (reading p (g .prime) .𝓥) .ops .mul (polynomial p (g .prime) r) v)
-gcd-one {p} {x} {y} {r} {s} g h k =
+gcd-unique {p} {x} {y} {r} {s} g h k =
     let 𝓥 = reading p (g .prime) .𝓥 in
     let c = h .law (g .prime) in
     let d = k .law (g .prime) in

@@ -1,8 +1,8 @@
 -- What settles a row and a long list: said once for all the contracts that speak of polynomials.
 --   by-row      a row is settled by its polynomial
 --   by-list     a list of numbers below p is settled by its length and its polynomial
---   floor-one   a series has one polynomial part
---   low-one     the n lowest coefficients of a polynomial are settled
+--   floor-unique   a series has one polynomial part
+--   low-unique     the n lowest coefficients of a polynomial are settled
 use mathlib.Core.Path.{_≡_, sym, ap, _∙_}
 use mathlib.Core.List.{List, [], _∷_}
 use Prim.Native.Nat.{ℕ, _<_, _+_}
@@ -39,14 +39,14 @@ module _ {p : ℕ} (ρ : Reading p) where
   gone : (x y : L .El) → IsPoly x → IsPoly y → Lt 𝓥 (x ⊕ ⊖ y) 0 → x ≡ y
   gone x y hx hy l = rg.eq-of-sub L x y (𝓥 .poly-small (x ⊕ ⊖ y) (𝓥 .closed .add _ _ hx (𝓥 .closed .neg _ hy)) l)
 
-  pub floor-one : {z : L .El} (a b : List ℕ) → Floor ρ z a → Floor ρ z b → row ρ a ≡ row ρ b
-  floor-one {z} a b h k =
+  pub floor-unique : {z : L .El} (a b : List ℕ) → Floor ρ z a → Floor ρ z b → row ρ a ≡ row ρ b
+  floor-unique {z} a b h k =
       gone (row ρ a) (row ρ b) (row-poly ρ a) (row-poly ρ b)
       (lt-eq 𝓥 (lt-add 𝓥 k (lt-neg 𝓥 h)) (solve L (var 0 :+ minus (var 2) :+ minus (var 0 :+ minus (var 1))) (var 1 :+ minus (var 2)) tt (z ∷ row ρ a ∷ row ρ b ∷ [])))
 
   -- a − b = t^n (e′ − e), of degree below n
-  pub low-one : {n : ℕ} {z : L .El} {a b : List ℕ} → Low ρ n z a → Low ρ n z b → row ρ a ≡ row ρ b
-  low-one {n} {z} {a} {b} h k = rg.eq-of-sub L (row ρ a) (row ρ b) (gap ∙ ap (λ x. tpow ρ n ⊗ x) none ∙ rg.mul-zero L (tpow ρ n))
+  pub low-unique : {n : ℕ} {z : L .El} {a b : List ℕ} → Low ρ n z a → Low ρ n z b → row ρ a ≡ row ρ b
+  low-unique {n} {z} {a} {b} h k = rg.eq-of-sub L (row ρ a) (row ρ b) (gap ∙ ap (λ x. tpow ρ n ⊗ x) none ∙ rg.mul-zero L (tpow ρ n))
     where
       gap : row ρ a ⊕ ⊖ row ρ b ≡ tpow ρ n ⊗ (k .rest ⊕ ⊖ h .rest)
       gap = solve-by L (var 1 :+ minus (var 2)) (var 5 :* (var 4 :+ minus (var 3))) (hyp (minus one) (var 0) (var 1 :+ var 5 :* var 3) ∷ hyp one (var 0) (var 2 :+ var 5 :* var 4) ∷ []) tt

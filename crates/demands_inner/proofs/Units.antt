@@ -1,18 +1,18 @@
 -- Crates field_fill and unit_make: what they ask settles what they fill.
---   grow-one   the two series
---   make-one   the six rows of the unit, and the scratch
+--   grow-unique   the two series
+--   make-unique   the six rows of the unit, and the scratch
 use mathlib.Core.Path.{_≡_, sym, _∙_}
 use mathlib.Core.List.{List}
 use Prim.Native.Nat.{ℕ}
-use Rattle.field_roots.proofs.Only.{series-of-only}
-use Rattle.field_series.specs.declared.Cubic.{Cubic}
+use Rattle.field_roots.proofs.Only.{series-of-unique}
+use Rattle.field_series.specs.declared.OpenedField.{OpenedField}
 use Rattle.field_fill.specs.Fill.{Room, Grown}
-use Rattle.unit_make.specs.Making.{MakeIn, Making}
-use Rattle.unit_make.proofs.Rows.{rows-one}
+use Rattle.unit_make.specs.Making.{MakeAsks, Making}
+use Rattle.unit_make.proofs.Rows.{rows-unique}
 
-pub grow-one : {p : ℕ} {G H r w : List ℕ} (r₁ w₁ r₂ w₂ : List ℕ) → Room p G H r w → Grown p G H r r₁ w₁ → Grown p G H r r₂ w₂ → (r₁ ≡ r₂) × (w₁ ≡ w₂)
-grow-one r₁ w₁ r₂ w₂ t a b = series-of-only r₁ w₁ r₂ w₂ (t .accepted) (a .series) (b .series) (a .size ∙ sym (b .size))
+pub grow-unique : {p : ℕ} {G H r w : List ℕ} (r₁ w₁ r₂ w₂ : List ℕ) → Room p G H r w → Grown p G H r r₁ w₁ → Grown p G H r r₂ w₂ → (r₁ ≡ r₂) × (w₁ ≡ w₂)
+grow-unique r₁ w₁ r₂ w₂ t a b = series-of-unique r₁ w₁ r₂ w₂ (t .accepted) (a .series) (b .series) (a .size ∙ sym (b .size))
 
-pub make-one : {f : Cubic} {B : List ℕ} {l d c : ℕ} {rows s : List ℕ} (r₁ s₁ r₂ s₂ : List ℕ) → MakeIn f B l d c rows s
+pub make-unique : {f : OpenedField} {B : List ℕ} {l d c : ℕ} {rows s : List ℕ} (r₁ s₁ r₂ s₂ : List ℕ) → MakeAsks f B l d c rows s
     → Making f B l d c rows s r₁ s₁ → Making f B l d c rows s r₂ s₂ → (r₁ ≡ r₂) × (s₁ ≡ s₂)
-make-one {c = c} r₁ s₁ r₂ s₂ t a b = (rows-one (t .task .known .kept .accepted) c r₁ r₂ (a .goes t) (b .goes t), a .blank ∙ sym (b .blank))
+make-unique {c = c} r₁ s₁ r₂ s₂ t a b = (rows-unique (t .task .known .kept .accepted) c r₁ r₂ (a .goes t) (b .goes t), a .blank ∙ sym (b .blank))

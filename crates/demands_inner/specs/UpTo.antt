@@ -1,7 +1,7 @@
 -- What is settled only up to constants that are not 0: the reduction before it is scaled, and generators.
 --   Scaled ρ m n m′ n′   m′ = a m and n′ = d n
 --   Alike σ o o′         x, y and the degree of what was cut are those of o′; the pairs and the denominator are v times those of o′
--- The theorems are `reduced-one` (proofs/Reduction.antt) and `divided-one` (proofs/Generators.antt).
+-- The theorems are `reduced-unique` (proofs/Reduction.antt) and `divided-unique` (proofs/Generators.antt).
 use mathlib.Core.Path.{_≡_}
 use mathlib.Core.Logic.{_≢_}
 use mathlib.Core.List.{List}

@@ -2,7 +2,7 @@
 --   refused n          the answer beside the refusal n: zeros
 --   Orders p G H o     the whole answer: refusals 1 to 8, then the record of the order
 --   Checks p G H B n   the number: refusals 1 to 8, then 9 where B is no record of the field, else 0
--- In proofs/Answer.antt: `orders-one` and `checks-one`, two answers that meet it are equal.
+-- In proofs/Answer.antt: `orders-unique` and `checks-unique`, two answers that meet it are equal.
 use mathlib.Core.Path.{_≡_}
 use mathlib.Core.List.{List}
 use Prim.Native.Nat.{ℕ}
@@ -10,12 +10,12 @@ use Rattle.base_answers.specs.Limits.{blank}
 use Rattle.field_open.specs.Door.{Door}
 use Rattle.basis_record.specs.Record.{IsRecord}
 use Rattle.basis_field.specs.First.{IsFirst}
-use Rattle.door_basis.specs.declared.Ordered.{Ordered}
+use Rattle.door_basis.specs.declared.OrderAnswer.{OrderAnswer}
 
-abbrev pub refused : ℕ → Ordered
+abbrev pub refused : ℕ → OrderAnswer
 refused n = record { refusal = n; basis = blank }
 
-abbrev pub Orders : ℕ → List ℕ → List ℕ → Ordered → Type 0
+abbrev pub Orders : ℕ → List ℕ → List ℕ → OrderAnswer → Type 0
 Orders p G H o = Door p G H (λ n. o ≡ refused n) ((o .refusal ≡ 0) × IsFirst p G H (o .basis))
 
 module _ (p : ℕ) (G H B : List ℕ) (n : ℕ) where

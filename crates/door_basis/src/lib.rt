@@ -2,26 +2,26 @@
 ghost use Rattle.door_basis.specs.Answer.{Orders, Checks};
 
 // The number of the refusal beside the basis; with a refusal the rows are zeros.
-pub struct Ordered {
+pub struct OrderAnswer {
     pub refusal: u32,
     pub basis: [u16; 119],
 }
 
 // The basis of the order of the field p, G, H.
-pub fn order(p: u64, g: &[u64], h: &[u64]) -> Ordered
+pub fn order(p: u64, g: &[u64], h: &[u64]) -> OrderAnswer
     ensures { λ o. ⌜ Orders p (now (g .entry)) (now (h .entry)) o ⌝ }
 {
     let e = field_series::open_with_series(p, g, h);
     let n = e.refusal;
     if n != 0 {
         let z: [u16; 119] = [0; 119];
-        return Ordered {
+        return OrderAnswer {
             refusal: n,
             basis: z,
         };
     }
     let b = basis_field::order_basis(e.cubic);
-    Ordered {
+    OrderAnswer {
         refusal: 0,
         basis: b,
     }

@@ -11,7 +11,7 @@ use mathlib.Core.List.{List}
 use Prim.Native.Nat.{ℕ, _≤_}
 use Rattle.field_open.specs.Refusal.{Refusal, Accepted}
 use Rattle.field_open.specs.Door.{Door}
-use Rattle.field_open.proofs.Stages.{refusal-one}
+use Rattle.field_open.proofs.Stages.{refusal-unique}
 use Rattle.field_open.proofs.Accept.{accepted-none}
 use Rattle.field_open.proofs.Door.{door-goes, door-out, door-unique, door-map}
 use Rattle.pair_agree.specs.Answer.{Both}
@@ -32,7 +32,7 @@ module _ {p : ℕ} {G H G′ H′ : List ℕ} {R : ℕ → Type 0} {K : Type 0} 
   doors-through t d = let e = through (t .first) d in through (t .second) e
     where
       through : {F I : List ℕ} {L : Type 0} → Accepted p F I → Door p F I R L → L
-      through {F} {I} A x = x .goes (refusal-one p F I (x .no) 0 (x .first) (accepted-none p F I A))
+      through {F} {I} A x = x .goes (refusal-unique p F I (x .no) 0 (x .first) (accepted-none p F I A))
 
   pub doors-unique : {S : ℕ → Type 0} {L C : Type 0} → ((n : ℕ) → R n → S n → C) → (Both p G H G′ H′ → K → L → C)
       → Doors p G H G′ H′ R K → Doors p G H G′ H′ S L → C

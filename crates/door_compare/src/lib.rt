@@ -2,7 +2,7 @@
 ghost use Rattle.door_compare.specs.Answer.{Refusals, Compares};
 
 // The refusal's number (0: none), and whether the pairs are of one field.
-pub struct Compared {
+pub struct CompareAnswer {
     pub refusal: u32,
     pub same: bool,
 }
@@ -19,18 +19,18 @@ pub fn refusal(p: u64, g: &[u64], h: &[u64], g2: &[u64], h2: &[u64]) -> u32
 }
 
 // Compares any two pairs: a refusal, or whether they are of one field.
-pub fn compare(p: u64, g: &[u64], h: &[u64], g2: &[u64], h2: &[u64]) -> Compared
+pub fn compare(p: u64, g: &[u64], h: &[u64], g2: &[u64], h2: &[u64]) -> CompareAnswer
     ensures { λ a. ⌜ Compares p (now (g .entry)) (now (h .entry)) (now (g2 .entry)) (now (h2 .entry)) a ⌝ }
 {
     let n = refusal(p, g, h, g2, h2);
     if n != 0 {
-        return Compared {
+        return CompareAnswer {
             refusal: n,
             same: false,
         };
     }
     let b = pair_agree::one_field(p, g, h, g2, h2);
-    Compared {
+    CompareAnswer {
         refusal: 0,
         same: b,
     }

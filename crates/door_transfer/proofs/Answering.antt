@@ -17,7 +17,7 @@ use Rattle.pair_agree.specs.declared.Pairing.the-variants.{Straight, Swapped, A
 use Rattle.pair_agree.proofs.Outcomes.{apart-none}
 use Rattle.door_compare.proofs.Doors.{doors-goes, both-of}
 use Rattle.door_transfer.specs.Transfer.{Lent, Transfers, unfit, carried}
-use Rattle.door_transfer.specs.Code.{CarryIn, Carried, CarriedSwapped, Unfit}
+use Rattle.door_transfer.specs.Code.{CarryAsks, Carried, CarriedSwapped, Unfit}
 
 module _ {p : ℕ} {G H G′ H′ : List ℕ} (rows : List ℕ) {n : ℕ} (e : n ≡ 0) (r : Refusals p G H G′ H′ n) where
   both : Both p G H G′ H′
@@ -37,7 +37,7 @@ module _ {p : ℕ} {G H G′ H′ : List ℕ} (rows : List ℕ) {n : ℕ} (e : n
     lent : Lent (length rows / 6) rows
     lent = let (a, l) = rule in record { room = omega arith; whole = omega arith }
 
-    pub carry-asks : CarryIn p G H G′ H′ (length rows / 6) rows
+    pub carry-asks : CarryAsks p G H G′ H′ (length rows / 6) rows
     carry-asks = let t = both in record {
       modulus = record { prime = t .first .prime; kind = t .first .kind; small = omega (arith, t .first .high) };
       first = record { degG = t .first .degG; degH = t .first .degH; listG = t .first .listG; listH = t .first .listH };

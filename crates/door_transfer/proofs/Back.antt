@@ -25,7 +25,7 @@ use Rattle.door_compare.proofs.Doors.{doors-out, doors-through}
 use Rattle.door_transfer.specs.Transfer.{Lent, Goes, unfit, carried, Transfers}
 use Rattle.pair_agree.proofs.Laws.{law-swap, law-back}
 use Rattle.door_transfer.proofs.Rows.{Three, six-ext, one-of}
-use Rattle.door_transfer.proofs.Once.{lent-one}
+use Rattle.door_transfer.proofs.Once.{lent-unique}
 
 module _ (p : ℕ) (pr : Prime p) where
   abbrev ρ : Reading p
@@ -86,4 +86,4 @@ transfers-back p G H G′ H′ rows rows′ rows″ n h a b =
     back s (carried c t k m w) (unfit u e) = absurd (u c (record { room = t .room; whole = m ∙ t .whole }) (one-sym (one-of w)))
     back s (carried c t k m w) (carried c′ t′ k′ m′ w′) =
         let lent : Lent c rows′ = record { room = t .room; whole = m ∙ t .whole } in
-        (k′, there-and-back s c rows rows′ rows″ (t .whole) (m′ ∙ m) h w (subst (λ q. RowsCarry p G′ H′ G H q rows′ rows″) (lent-one t′ lent) w′))
+        (k′, there-and-back s c rows rows′ rows″ (t .whole) (m′ ∙ m) h w (subst (λ q. RowsCarry p G′ H′ G H q rows′ rows″) (lent-unique t′ lent) w′))

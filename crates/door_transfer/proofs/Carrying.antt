@@ -13,21 +13,21 @@ use Rattle.field_open.specs.Refusal.{Degree}
 use Rattle.pair_agree.specs.OneField.{leading}
 use Rattle.pair_agree.specs.Rows.{Law, Crossed}
 use Rattle.pair_agree.proofs.Lists.{leading-below, leading-some}
-use Rattle.door_transfer.specs.Code.{Kind, Lead, Exchanged, MultiplyIn, Multiplied, CarryIn, Carried, CarriedSwapped}
+use Rattle.door_transfer.specs.Code.{Kind, Lead, Exchanged, MultipliedAsks, Multiplied, CarryAsks, Carried, CarriedSwapped}
 use Rattle.door_transfer.proofs.Exchanging.{first-at, second-at}
 
 pub lead : (p : ℕ) → Kind p → {l : List ℕ} {n : ℕ} → Degree p l n → Lead p (leading l)
 lead p k {l} d = record { some = let f : leading l ≢ 0 = leading-some p (k .prime) d in omega arith; below = leading-below p (k .prime) d }
 
-module _ (p : ℕ) (G H G′ H′ : List ℕ) (c : ℕ) (l : List ℕ) (h : CarryIn p G H G′ H′ c l) where
-  pub multiply-asks : (x y : ℕ) → x < p → y < p → MultiplyIn p x y c l
+module _ (p : ℕ) (G H G′ H′ : List ℕ) (c : ℕ) (l : List ℕ) (h : CarryAsks p G H G′ H′ c l) where
+  pub multiply-asks : (x y : ℕ) → x < p → y < p → MultipliedAsks p x y c l
   multiply-asks x y u v = record { modulus = record { big = h .modulus .prime .big; small = h .modulus .small }; x-below = u; y-below = v; whole = h .whole }
 
   module _ (x y : ℕ) (w : Law p x y (leading G) (leading H) (leading G′) (leading H′)) where
     pub carried-made : (l′ : List ℕ) → Multiplied p x y c l l′ → Carried p G H G′ H′ c l l′
     carried-made l′ m = record { size = m .size; x = x; y = y; law = w; E = m .E; F = m .F }
 
-  pub swapped-asks : (l′ : List ℕ) → length l′ ≡ length l → CarryIn p H G G′ H′ c l′
+  pub swapped-asks : (l′ : List ℕ) → length l′ ≡ length l → CarryAsks p H G G′ H′ c l′
   swapped-asks l′ e = record {
     modulus = h .modulus;
     first = record { degG = h .first .degH; degH = h .first .degG; listG = h .first .listH; listH = h .first .listG };

@@ -13,9 +13,9 @@ use Rattle.base_lists.specs.Pieces.{between}
 use Rattle.base_lists.proofs.Pieces.{between-length}
 use Rattle.base_lists.proofs.Puts.{Around, put-back}
 use Rattle.pair_agree.specs.Rows.{Straight}
-use Rattle.door_transfer.specs.Code.{PartIn, Part, Multiplied}
+use Rattle.door_transfer.specs.Code.{PartAsks, Part, Multiplied}
 
-module _ (p k at c : ℕ) (l : List ℕ) (h : PartIn p k at c l) where
+module _ (p k at c : ℕ) (l : List ℕ) (h : PartAsks p k at c l) where
   long : length (between at (at + c) l) ≡ c
   long = between-length at (at + c) l (omega arith) (h .inside) ∙ (let o : at + c - at ≡ c = omega arith in o)
 

@@ -1,7 +1,7 @@
 -- Six rows of c numbers in one list.
 --   Three, six-ext   three rows that are the same in two lists; six of them, and the lists are equal
 --   one-of           rows carry over only between pairs of one field
---   rows-one         the rows and the pairs settle the rows carried over
+--   rows-unique         the rows and the pairs settle the rows carried over
 --   carried-below    numbers that were multiplied are below p
 --   carried-each     rows of numbers below p become rows of numbers below p
 use mathlib.Core.Path.{_≡_, sym, ap, _∙_, subst}
@@ -21,7 +21,7 @@ use Rattle.pair_agree.specs.Rows.{Stays, Times, Straight, Crossed, RowsCarry, s
 use Rattle.pair_agree.specs.Answer.{Both}
 use Rattle.pair_agree.proofs.Lists.{leading-not}
 use Rattle.pair_agree.proofs.Relation.{not-both}
-use Rattle.pair_agree.proofs.Laws.{law-one}
+use Rattle.pair_agree.proofs.Laws.{law-unique}
 
 abbrev pub Three : ℕ → List ℕ → ℕ → List ℕ → Type 0
 Three c l at l′ = Stays c l at l′ × Stays c l (at + c) l′ × Stays c l (at + c + c) l′
@@ -35,15 +35,15 @@ pub one-of : {p c : ℕ} {G H G′ H′ l l′ : List ℕ} → RowsCarry p G H G
 one-of (straight a b x y w s t) = inl (a, b)
 one-of (crossed a b x y w s t) = inr (a, b)
 
-times-one : (p c k k′ : ℕ) (l l′ l″ : List ℕ) (a b : ℕ) → k ≡ k′ → Times p c k l a l′ b → Times p c k′ l a l″ b → Stays c l″ b l′
-times-one p c k k′ l l′ l″ a b e s t i u = s i u ∙ ap (λ z. (z * getD l (a + i) 0) % p) e ∙ sym (t i u)
+times-unique : (p c k k′ : ℕ) (l l′ l″ : List ℕ) (a b : ℕ) → k ≡ k′ → Times p c k l a l′ b → Times p c k′ l a l″ b → Stays c l″ b l′
+times-unique p c k k′ l l′ l″ a b e s t i u = s i u ∙ ap (λ z. (z * getD l (a + i) 0) % p) e ∙ sym (t i u)
 
 module _ (p c x y x′ y′ : ℕ) (l l′ l″ : List ℕ) (at : ℕ) (e : (x ≡ x′) × (y ≡ y′)) where
-  straight-one : Straight p c x y l at l′ → Straight p c x′ y′ l at l″ → Three c l″ at l′
-  straight-one s t = (λ i u. s .A i u ∙ sym (t .A i u), times-one p c x x′ l l′ l″ _ _ (e .0) (s .B) (t .B), times-one p c y y′ l l′ l″ _ _ (e .1) (s .C) (t .C))
+  straight-unique : Straight p c x y l at l′ → Straight p c x′ y′ l at l″ → Three c l″ at l′
+  straight-unique s t = (λ i u. s .A i u ∙ sym (t .A i u), times-unique p c x x′ l l′ l″ _ _ (e .0) (s .B) (t .B), times-unique p c y y′ l l′ l″ _ _ (e .1) (s .C) (t .C))
 
-  crossed-one : Crossed p c x y l at l′ → Crossed p c x′ y′ l at l″ → Three c l″ at l′
-  crossed-one s t = (λ i u. s .A i u ∙ sym (t .A i u), times-one p c x x′ l l′ l″ _ _ (e .0) (s .B) (t .B), times-one p c y y′ l l′ l″ _ _ (e .1) (s .C) (t .C))
+  crossed-unique : Crossed p c x y l at l′ → Crossed p c x′ y′ l at l″ → Three c l″ at l′
+  crossed-unique s t = (λ i u. s .A i u ∙ sym (t .A i u), times-unique p c x x′ l l′ l″ _ _ (e .0) (s .B) (t .B), times-unique p c y y′ l l′ l″ _ _ (e .1) (s .C) (t .C))
 
 module _ {p : ℕ} {G H G′ H′ : List ℕ} (t : Both p G H G′ H′) where
   abbrev P₁ : Accepted p G H
@@ -52,15 +52,15 @@ module _ {p : ℕ} {G H G′ H′ : List ℕ} (t : Both p G H G′ H′) where
   abbrev P₂ : Accepted p G′ H′
   P₂ = t .second
 
-  pub rows-one : (c : ℕ) (l l′ l″ : List ℕ) → length l ≡ 6 * c → length l′ ≡ length l → length l″ ≡ length l → RowsCarry p G H G′ H′ c l l′ → RowsCarry p G H G′ H′ c l l″ → l′ ≡ l″
-  rows-one c l l′ l″ w e f (straight a b x y k s r) (straight a′ b′ x′ y′ k′ s′ r′) =
-      let q = law-one p (P₁ .prime) (P₁ .kind) (leading-not p (P₁ .prime) (P₂ .listG)) (leading-not p (P₁ .prime) (P₂ .listH)) (leading-not p (P₁ .prime) (P₁ .listH)) k k′ in
-      six-ext c l″ l′ (f ∙ w) (e ∙ sym f) (straight-one p c x y x′ y′ l l′ l″ 0 q s s′) (straight-one p c x y x′ y′ l l′ l″ (c + c + c) q r r′)
-  rows-one c l l′ l″ w e f (crossed a b x y k s r) (crossed a′ b′ x′ y′ k′ s′ r′) =
-      let q = law-one p (P₁ .prime) (P₁ .kind) (leading-not p (P₁ .prime) (P₂ .listG)) (leading-not p (P₁ .prime) (P₂ .listH)) (leading-not p (P₁ .prime) (P₁ .listG)) k k′ in
-      six-ext c l″ l′ (f ∙ w) (e ∙ sym f) (crossed-one p c x y x′ y′ l l′ l″ 0 q s s′) (crossed-one p c x y x′ y′ l l′ l″ (c + c + c) q r r′)
-  rows-one c l l′ l″ w e f (straight a b x y k s r) (crossed a′ b′ x′ y′ k′ s′ r′) = absurd (not-both (P₁ .listG) P₂ a a′)
-  rows-one c l l′ l″ w e f (crossed a b x y k s r) (straight a′ b′ x′ y′ k′ s′ r′) = absurd (not-both (P₁ .listG) P₂ a′ a)
+  pub rows-unique : (c : ℕ) (l l′ l″ : List ℕ) → length l ≡ 6 * c → length l′ ≡ length l → length l″ ≡ length l → RowsCarry p G H G′ H′ c l l′ → RowsCarry p G H G′ H′ c l l″ → l′ ≡ l″
+  rows-unique c l l′ l″ w e f (straight a b x y k s r) (straight a′ b′ x′ y′ k′ s′ r′) =
+      let q = law-unique p (P₁ .prime) (P₁ .kind) (leading-not p (P₁ .prime) (P₂ .listG)) (leading-not p (P₁ .prime) (P₂ .listH)) (leading-not p (P₁ .prime) (P₁ .listH)) k k′ in
+      six-ext c l″ l′ (f ∙ w) (e ∙ sym f) (straight-unique p c x y x′ y′ l l′ l″ 0 q s s′) (straight-unique p c x y x′ y′ l l′ l″ (c + c + c) q r r′)
+  rows-unique c l l′ l″ w e f (crossed a b x y k s r) (crossed a′ b′ x′ y′ k′ s′ r′) =
+      let q = law-unique p (P₁ .prime) (P₁ .kind) (leading-not p (P₁ .prime) (P₂ .listG)) (leading-not p (P₁ .prime) (P₂ .listH)) (leading-not p (P₁ .prime) (P₁ .listG)) k k′ in
+      six-ext c l″ l′ (f ∙ w) (e ∙ sym f) (crossed-unique p c x y x′ y′ l l′ l″ 0 q s s′) (crossed-unique p c x y x′ y′ l l′ l″ (c + c + c) q r r′)
+  rows-unique c l l′ l″ w e f (straight a b x y k s r) (crossed a′ b′ x′ y′ k′ s′ r′) = absurd (not-both (P₁ .listG) P₂ a a′)
+  rows-unique c l l′ l″ w e f (crossed a b x y k s r) (straight a′ b′ x′ y′ k′ s′ r′) = absurd (not-both (P₁ .listG) P₂ a′ a)
 
 -- ---- the numbers are below p
 module _ (p : ℕ) (pos : 0 < p) (c : ℕ) (l l′ : List ℕ) where

@@ -28,14 +28,14 @@ pub record Lead (p a : ℕ) : Type 0 where
   pub some : 0 < a
   pub below : a < p
 
-pub record FactorsIn (p g h g′ h′ : ℕ) : Type 0 where
+pub record FactorsAsks (p g h g′ h′ : ℕ) : Type 0 where
   pub modulus : Kind p
   pub g-lead : Lead p g
   pub h-lead : Lead p h
   pub g′-lead : Lead p g′
   pub h′-lead : Lead p h′
 
-pub record ExchangeIn (a b c : ℕ) (l : List ℕ) : Type 0 where
+pub record ExchangeAsks (a b c : ℕ) (l : List ℕ) : Type 0 where
   pub apart : a + c ≤ b
   pub inside : b + c ≤ length l
 
@@ -47,7 +47,7 @@ pub record Exchanged (a b c : ℕ) (l l′ : List ℕ) : Type 0 where
   pub between : (i : ℕ) → a + c ≤ i → i < b → getD l′ i 0 ≡ getD l i 0
   pub after : (i : ℕ) → b + c ≤ i → getD l′ i 0 ≡ getD l i 0
 
-pub record PartIn (p k at c : ℕ) (l : List ℕ) : Type 0 where
+pub record PartAsks (p k at c : ℕ) (l : List ℕ) : Type 0 where
   pub modulus : Storable p
   pub below : k < p
   pub inside : at + c ≤ length l
@@ -58,7 +58,7 @@ pub record Part (p k at c : ℕ) (l l′ : List ℕ) : Type 0 where
   pub times : Times p c k l at l′ at
   pub after : (i : ℕ) → at + c ≤ i → getD l′ i 0 ≡ getD l i 0
 
-pub record MultiplyIn (p x y c : ℕ) (l : List ℕ) : Type 0 where
+pub record MultipliedAsks (p x y c : ℕ) (l : List ℕ) : Type 0 where
   pub modulus : Storable p
   pub x-below : x < p
   pub y-below : y < p
@@ -69,7 +69,7 @@ pub record Multiplied (p x y c : ℕ) (l l′ : List ℕ) : Type 0 where
   pub E : Straight p c x y l 0 l′
   pub F : Straight p c x y l (c + c + c) l′
 
-pub record CarryIn (p : ℕ) (G H G′ H′ : List ℕ) (c : ℕ) (l : List ℕ) : Type 0 where
+pub record CarryAsks (p : ℕ) (G H G′ H′ : List ℕ) (c : ℕ) (l : List ℕ) : Type 0 where
   pub modulus : Kind p
   pub first : Coefficients p G H
   pub second : Coefficients p G′ H′

@@ -5,8 +5,8 @@
 --                                        over; a refusal leaves the slice as it was
 -- How rows carry over is `RowsCarry` of crate pair_agree. The rows may hold any numbers: that the rows of the one pair's unit become
 -- those of the other's is a theorem about `RowsCarry` alone.
--- In proofs/: Once (`transfers-one`: one outcome for each input), Back (`there-and-back`, `transfers-back`: rows carried over and back are the
--- rows), Rows (`rows-one`: the pairs settle the rows; `carried-below`, `carried-each`: numbers below p).
+-- In proofs/: Once (`transfers-unique`: one outcome for each input), Back (`there-and-back`, `transfers-back`: rows carried over and back are the
+-- rows), Rows (`rows-unique`: the pairs settle the rows; `carried-below`, `carried-each`: numbers below p).
 use mathlib.Core.Path.{_≡_}
 use mathlib.Core.List.{List}
 use Prim.Native.Nat.{ℕ, _*_, _≤_}

@@ -7,7 +7,7 @@ use pair_agree::Pairing;
 use poly_long::scale;
 ghost use Rattle.pair_agree.specs.Rows.{Law};
 ghost use Rattle.door_transfer.specs.Transfer.{Transfers};
-ghost use Rattle.door_transfer.specs.Code.{FactorsIn, ExchangeIn, Exchanged, PartIn, Part, MultiplyIn, Multiplied, CarryIn, Carried, CarriedSwapped, Unfit};
+ghost use Rattle.door_transfer.specs.Code.{FactorsAsks, ExchangeAsks, Exchanged, PartAsks, Part, MultipliedAsks, Multiplied, CarryAsks, Carried, CarriedSwapped, Unfit};
 
 // What the rows E1 and F1 are multiplied by, and E2 and F2.
 struct Multipliers {
@@ -17,7 +17,7 @@ struct Multipliers {
 
 // The factors, from the leading coefficients: x is the cube root of g h^2 / (g2 h2^2), y is x^2 h2 / h.
 fn factors(p: u64, g: u64, h: u64, g2: u64, h2: u64) -> Multipliers
-    requires { ⌜ FactorsIn p g h g2 h2 ⌝ }
+    requires { ⌜ FactorsAsks p g h g2 h2 ⌝ }
     ensures { λ f. ⌜ Law p (f .x) (f .y) g h g2 h2 ⌝ }
 {
     let a = mul(p, g, mul(p, h, h));
@@ -29,7 +29,7 @@ fn factors(p: u64, g: u64, h: u64, g2: u64, h2: u64) -> Multipliers
 
 // The c numbers from place a on and the c numbers from place b on change places.
 fn exchange(rows: &mut [u16], a: usize, b: usize, c: usize)
-    requires { ⌜ ExchangeIn a b c (now rows) ⌝ }
+    requires { ⌜ ExchangeAsks a b c (now rows) ⌝ }
     ensures { λ _. ⌜ Exchanged a b c (now (rows .entry)) (now (rows .exit)) ⌝ }
 {
     let mut i: usize = 0;
@@ -44,7 +44,7 @@ fn exchange(rows: &mut [u16], a: usize, b: usize, c: usize)
 
 // The c numbers from place at on times k.
 fn part(p: u64, k: u64, at: usize, c: usize, rows: &mut [u16])
-    requires { ⌜ PartIn p k at c (now rows) ⌝ }
+    requires { ⌜ PartAsks p k at c (now rows) ⌝ }
     ensures { λ _. ⌜ Part p k at c (now (rows .entry)) (now (rows .exit)) ⌝ }
 {
     let to = at + c;
@@ -53,7 +53,7 @@ fn part(p: u64, k: u64, at: usize, c: usize, rows: &mut [u16])
 
 // E1 and F1 times x, E2 and F2 times y.
 fn multiplied(p: u64, x: u64, y: u64, c: usize, rows: &mut [u16])
-    requires { ⌜ MultiplyIn p x y c (now rows) ⌝ }
+    requires { ⌜ MultipliedAsks p x y c (now rows) ⌝ }
     ensures { λ _. ⌜ Multiplied p x y c (now (rows .entry)) (now (rows .exit)) ⌝ }
 {
     let c2 = c + c;
@@ -67,7 +67,7 @@ fn multiplied(p: u64, x: u64, y: u64, c: usize, rows: &mut [u16])
 
 // The six rows of the pair g, h for the pair g2, h2, which agrees with it in this order.
 fn carry(p: u64, g: &[u64], h: &[u64], g2: &[u64], h2: &[u64], c: usize, rows: &mut [u16])
-    requires { ⌜ CarryIn p (now g) (now h) (now g2) (now h2) c (now rows) ⌝ }
+    requires { ⌜ CarryAsks p (now g) (now h) (now g2) (now h2) c (now rows) ⌝ }
     ensures { λ _. ⌜ Carried p (now (g .entry)) (now (h .entry)) (now (g2 .entry)) (now (h2 .entry)) c (now (rows .entry)) (now (rows .exit)) ⌝ }
 {
     let a = g[g.len() - 1];
@@ -80,7 +80,7 @@ fn carry(p: u64, g: &[u64], h: &[u64], g2: &[u64], h2: &[u64], c: usize, rows: &
 
 // The same where they agree in the other order: E1 and E2 change places first, and so do F1 and F2.
 fn carry_swapped(p: u64, g: &[u64], h: &[u64], g2: &[u64], h2: &[u64], c: usize, rows: &mut [u16])
-    requires { ⌜ CarryIn p (now g) (now h) (now g2) (now h2) c (now rows) ⌝ }
+    requires { ⌜ CarryAsks p (now g) (now h) (now g2) (now h2) c (now rows) ⌝ }
     ensures { λ _. ⌜ CarriedSwapped p (now (g .entry)) (now (h .entry)) (now (g2 .entry)) (now (h2 .entry)) c (now (rows .entry)) (now (rows .exit)) ⌝ }
 {
     let c2 = c + c;

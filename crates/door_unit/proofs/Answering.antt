@@ -17,17 +17,17 @@ use Rattle.math_chain.proofs.Closing.{start-unique}
 use Rattle.basis_record.specs.Record.{setting, basisOf}
 use Rattle.field_series.specs.Answer.{Expands}
 use Rattle.field_series.specs.Keeps.{Kept}
-use Rattle.field_series.specs.declared.Expanded.{Expanded}
+use Rattle.field_series.specs.declared.OpenedAnswer.{OpenedAnswer}
 use Rattle.field_series.proofs.Answer.{expands-number}
 use Rattle.basis_field.specs.First.{IsFirst, First}
 use Rattle.basis_field.proofs.Known.{prime-of, kept-of, field-of, known-of}
-use Rattle.walk_chain.specs.declared.Walked.{Walked}
+use Rattle.walk_chain.specs.declared.WalkAnswer.{WalkAnswer}
 use Rattle.walk_chain.specs.Walk.{Closes, StaysOpen, Closed, Spent}
-use Rattle.walk_chain.specs.InField.{WalkedIn, WalkedOut}
+use Rattle.walk_chain.specs.InField.{WalkInFieldAsks, WalkInFieldGives}
 use Rattle.walk_chain.proofs.Even.{sum-even}
 use Rattle.unit_make.specs.Rows.{Holds}
-use Rattle.unit_make.specs.Making.{MakeIn, Making}
-use Rattle.door_unit.specs.declared.Made.{Made}
+use Rattle.unit_make.specs.Making.{MakeAsks, Making}
+use Rattle.door_unit.specs.declared.UnitAnswer.{UnitAnswer}
 use Rattle.door_unit.specs.Unit.{refusal, Lent, Finds, Misses, Refused, Goes, bad, spent, narrow, made, Makes}
 use Rattle.door_unit.specs.Fit.{Rule}
 
@@ -51,23 +51,23 @@ module _ {p : ℕ} {G H B : List ℕ} (first : IsFirst p G H B) where
   misses-of : {n : ℕ} → StaysOpen p G H B n → Misses p G H n
   misses-of {n} o A B₀ st = subst (λ b. Open (setting A) b n) (start-unique (setting A) (basisOf A B) B₀ (first .start A) st) (o A)
 
-refused-is : {no : ℕ} {rows scratch : List ℕ} {m : Made} → m ≡ refusal no → Refused no rows scratch m rows scratch
+refused-is : {no : ℕ} {rows scratch : List ℕ} {m : UnitAnswer} → m ≡ refusal no → Refused no rows scratch m rows scratch
 refused-is e = record { answer = e; rows-same = refl; scratch-same = refl }
 
 -- ---- before the walk
-module _ {p : ℕ} {G H : List ℕ} {n : ℕ} {rows scratch : List ℕ} {e : Expanded} (opens : Expands p G H e) {m : Made} where
+module _ {p : ℕ} {G H : List ℕ} {n : ℕ} {rows scratch : List ℕ} {e : OpenedAnswer} (opens : Expands p G H e) {m : UnitAnswer} where
   pub makes-refused : e .refusal ≢ 0 → m ≡ refusal (e .refusal) → Makes p G H n rows scratch m rows scratch
   makes-refused f q = door-refused (expands-number opens) f (refused-is q)
 
   pub makes-bad : e .refusal ≡ 0 → (Rule (length rows) (length scratch) n → ⊥) → m ≡ refusal 14 → Makes p G H n rows scratch m rows scratch
   makes-bad z f q = door-goes (expands-number opens) z (bad (lent-not rows scratch n f) (refused-is q))
 
-pub record Ready (p : ℕ) (G H : List ℕ) (n : ℕ) (rows scratch : List ℕ) (e : Expanded) : Type 0 where
+pub record Ready (p : ℕ) (G H : List ℕ) (n : ℕ) (rows scratch : List ℕ) (e : OpenedAnswer) : Type 0 where
   pub opens : Expands p G H e
   pub zero : e .refusal ≡ 0
   pub rule : Rule (length rows) (length scratch) n
 
-module _ {p : ℕ} {G H : List ℕ} {n : ℕ} {rows scratch : List ℕ} {e : Expanded} (k : Ready p G H n rows scratch e)
+module _ {p : ℕ} {G H : List ℕ} {n : ℕ} {rows scratch : List ℕ} {e : OpenedAnswer} (k : Ready p G H n rows scratch e)
     {b : List ℕ} (first : First (e .cubic) b) where
   field-at : Accepted p G H
   field-at = field-of (k .opens) (k .zero)
@@ -91,18 +91,18 @@ module _ {p : ℕ} {G H : List ℕ} {n : ℕ} {rows scratch : List ℕ} {e : Exp
   lent-at : Lent (length rows / 6) rows scratch n
   lent-at = lent-of rows scratch n (k .rule)
 
-  makes-goes : {m : Made} {rows′ scratch′ : List ℕ} → Goes p G H n rows scratch m rows′ scratch′ → Makes p G H n rows scratch m rows′ scratch′
+  makes-goes : {m : UnitAnswer} {rows′ scratch′ : List ℕ} → Goes p G H n rows scratch m rows′ scratch′ → Makes p G H n rows scratch m rows′ scratch′
   makes-goes g = door-goes (expands-number (k .opens)) (k .zero) g
 
-  pub walked-at : WalkedIn (e .cubic) b n
+  pub walked-at : WalkInFieldAsks (e .cubic) b n
   walked-at = record { G = G; H = H; keeps = kept-at; is-record = first-q .is-record; within = k .rule .3 }
 
   -- ---- after the walk
-  module _ (w : Walked) (out : WalkedOut (e .cubic) b n w) where
+  module _ (w : WalkAnswer) (out : WalkInFieldGives (e .cubic) b n w) where
     ended : Closed q G H n b w ⊎ Spent q G H n b w
     ended = out G H kept-at (first-q .is-record)
 
-    pub makes-spent : {m : Made} → w .refusal ≢ 0 → m ≡ refusal 10 → Makes p G H n rows scratch m rows scratch
+    pub makes-spent : {m : UnitAnswer} → w .refusal ≢ 0 → m ≡ refusal 10 → Makes p G H n rows scratch m rows scratch
     makes-spent {m} f u = go ended
       where
         go : Closed q G H n b w ⊎ Spent q G H n b w → Makes p G H n rows scratch m rows scratch
@@ -123,11 +123,11 @@ module _ {p : ℕ} {G H : List ℕ} {n : ℕ} {rows scratch : List ℕ} {e : Exp
       finds-at : Finds p G H (w .steps) (w .sum)
       finds-at = finds-of first-at (closed-at .closes)
 
-      pub makes-narrow : {m : Made} → length rows / 6 ≤ w .sum → m ≡ refusal 11 → Makes p G H n rows scratch m rows scratch
+      pub makes-narrow : {m : UnitAnswer} → length rows / 6 ≤ w .sum → m ≡ refusal 11 → Makes p G H n rows scratch m rows scratch
       makes-narrow l u = makes-goes (narrow (length rows / 6) (w .steps) (w .sum) lent-at (closed-at .within) finds-at l (refused-is u))
 
       module _ (l : w .sum < length rows / 6) where
-        pub make-in : MakeIn (e .cubic) b (w .steps) (w .sum) (length rows / 6) rows scratch
+        pub make-in : MakeAsks (e .cubic) b (w .steps) (w .sum) (length rows / 6) rows scratch
         make-in = record {
           task = record {
             known = known-of (k .opens) (k .zero);

@@ -1,5 +1,5 @@
 -- One outcome for each input: the answer and what both slices hold.
---   makes-one        two outcomes that meet `Makes` are equal
+--   makes-unique        two outcomes that meet `Makes` are equal
 --   refused-number   the number beside a refusal
 use mathlib.Core.Path.{_≡_, sym, ap, _∙_, subst}
 use mathlib.Core.List.{List}
@@ -12,22 +12,22 @@ use Rattle.math_chain.proofs.Walk.{closing-unique}
 use Rattle.math_chain.proofs.Exists.{order-exists}
 use Rattle.basis_record.specs.Record.{setting}
 use Rattle.unit_make.specs.Rows.{Holds}
-use Rattle.unit_make.proofs.Rows.{rows-one}
-use Rattle.door_unit.specs.declared.Made.{Made}
+use Rattle.unit_make.proofs.Rows.{rows-unique}
+use Rattle.door_unit.specs.declared.UnitAnswer.{UnitAnswer}
 use Rattle.door_unit.specs.Unit.{Lent, Finds, Misses, Refused, Success, Goes, bad, spent, narrow, made, Makes}
 
-pub record Same (m m′ : Made) (rows rows′ scratch scratch′ : List ℕ) : Type 0 where
+pub record Same (m m′ : UnitAnswer) (rows rows′ scratch scratch′ : List ℕ) : Type 0 where
   pub number : m .refusal ≡ m′ .refusal
   pub period : m .period .0 ≡ m′ .period .0
   pub regulator : m .regulator .0 ≡ m′ .regulator .0
   pub rows-same : rows ≡ rows′
   pub scratch-same : scratch ≡ scratch′
 
-pub refused-number : {a : ℕ} {rows scratch r s : List ℕ} {m : Made} → Refused a rows scratch m r s → m .refusal ≡ a
+pub refused-number : {a : ℕ} {rows scratch r s : List ℕ} {m : UnitAnswer} → Refused a rows scratch m r s → m .refusal ≡ a
 refused-number x = ap (λ m. m .refusal) (x .answer)
 
-refused-one : {a : ℕ} {rows scratch : List ℕ} {m m′ : Made} {r r′ s s′ : List ℕ} → Refused a rows scratch m r s → Refused a rows scratch m′ r′ s′ → Same m m′ r r′ s s′
-refused-one {m = m} {m′} x y =
+refused-unique : {a : ℕ} {rows scratch : List ℕ} {m m′ : UnitAnswer} {r r′ s s′ : List ℕ} → Refused a rows scratch m r s → Refused a rows scratch m′ r′ s′ → Same m m′ r r′ s s′
+refused-unique {m = m} {m′} x y =
     let e : m ≡ m′ = x .answer ∙ sym (y .answer) in
     record {
       number = ap (λ z. z .refusal) e;
@@ -39,8 +39,8 @@ refused-one {m = m} {m′} x y =
 
 module _ {p : ℕ} {G H : List ℕ} (A : Accepted p G H) where
   -- from the order there is one closing
-  finds-one : {l l′ d d′ : ℕ} → Finds p G H l d → Finds p G H l′ d′ → (l ≡ l′) × (d ≡ d′)
-  finds-one f g =
+  finds-unique : {l l′ d d′ : ℕ} → Finds p G H l d → Finds p G H l′ d′ → (l ≡ l′) × (d ≡ d′)
+  finds-unique f g =
       let (B₀, st) = order-exists (setting A) in
       let (e, k, r) = closing-unique (setting A) B₀ (st .good) (f A B₀ st .1) (g A B₀ st .1) in
       (e, k)
@@ -52,37 +52,37 @@ module _ {p : ℕ} {G H : List ℕ} (A : Accepted p G H) where
       o A B₀ st _ _ B (k .some) l (k .chain) (k .closed)
 
   module _ (n : ℕ) (rows scratch : List ℕ) where
-    lent-one : {c c′ : ℕ} → Lent c rows scratch n → Lent c′ rows scratch n → c ≡ c′
-    lent-one {c} {c′} x y = let e : length rows ≡ 6 * c = x .whole in let f : length rows ≡ 6 * c′ = y .whole in omega arith
+    lent-unique : {c c′ : ℕ} → Lent c rows scratch n → Lent c′ rows scratch n → c ≡ c′
+    lent-unique {c} {c′} x y = let e : length rows ≡ 6 * c = x .whole in let f : length rows ≡ 6 * c′ = y .whole in omega arith
 
-    goes-one : (m m′ : Made) (r r′ s s′ : List ℕ) → Goes p G H n rows scratch m r s → Goes p G H n rows scratch m′ r′ s′ → Same m m′ r r′ s s′
-    goes-one m m′ r r′ s s′ (bad a x) (bad b y) = refused-one x y
-    goes-one m m′ r r′ s s′ (bad a x) (spent c t o y) = absurd (a c t)
-    goes-one m m′ r r′ s s′ (bad a x) (narrow c l d t u f k y) = absurd (a c t)
-    goes-one m m′ r r′ s s′ (bad a x) (made c l d t u f k y) = absurd (a c t)
-    goes-one m m′ r r′ s s′ (spent c t o x) (bad b y) = absurd (b c t)
-    goes-one m m′ r r′ s s′ (spent c t o x) (spent c′ t′ o′ y) = refused-one x y
-    goes-one m m′ r r′ s s′ (spent c t o x) (narrow c′ l d t′ u f k y) = absurd (not-both u f o)
-    goes-one m m′ r r′ s s′ (spent c t o x) (made c′ l d t′ u f k y) = absurd (not-both u f o)
-    goes-one m m′ r r′ s s′ (narrow c l d t u f k x) (bad b y) = absurd (b c t)
-    goes-one m m′ r r′ s s′ (narrow c l d t u f k x) (spent c′ t′ o y) = absurd (not-both u f o)
-    goes-one m m′ r r′ s s′ (narrow c l d t u f k x) (narrow c′ l′ d′ t′ u′ f′ k′ y) = refused-one x y
-    goes-one m m′ r r′ s s′ (narrow c l d t u f k x) (made c′ l′ d′ t′ u′ f′ k′ y) = let (a, b) = finds-one f f′ in let e : c ≡ c′ = lent-one t t′ in absurd (omega arith)
-    goes-one m m′ r r′ s s′ (made c l d t u f k x) (bad b y) = absurd (b c t)
-    goes-one m m′ r r′ s s′ (made c l d t u f k x) (spent c′ t′ o y) = absurd (not-both u f o)
-    goes-one m m′ r r′ s s′ (made c l d t u f k x) (narrow c′ l′ d′ t′ u′ f′ k′ y) = let (a, b) = finds-one f f′ in let e : c ≡ c′ = lent-one t t′ in absurd (omega arith)
-    goes-one m m′ r r′ s s′ (made c l d t u f k x) (made c′ l′ d′ t′ u′ f′ k′ y) =
-        let (a, b) = finds-one f f′ in
-        let e : c ≡ c′ = lent-one t t′ in
+    goes-unique : (m m′ : UnitAnswer) (r r′ s s′ : List ℕ) → Goes p G H n rows scratch m r s → Goes p G H n rows scratch m′ r′ s′ → Same m m′ r r′ s s′
+    goes-unique m m′ r r′ s s′ (bad a x) (bad b y) = refused-unique x y
+    goes-unique m m′ r r′ s s′ (bad a x) (spent c t o y) = absurd (a c t)
+    goes-unique m m′ r r′ s s′ (bad a x) (narrow c l d t u f k y) = absurd (a c t)
+    goes-unique m m′ r r′ s s′ (bad a x) (made c l d t u f k y) = absurd (a c t)
+    goes-unique m m′ r r′ s s′ (spent c t o x) (bad b y) = absurd (b c t)
+    goes-unique m m′ r r′ s s′ (spent c t o x) (spent c′ t′ o′ y) = refused-unique x y
+    goes-unique m m′ r r′ s s′ (spent c t o x) (narrow c′ l d t′ u f k y) = absurd (not-both u f o)
+    goes-unique m m′ r r′ s s′ (spent c t o x) (made c′ l d t′ u f k y) = absurd (not-both u f o)
+    goes-unique m m′ r r′ s s′ (narrow c l d t u f k x) (bad b y) = absurd (b c t)
+    goes-unique m m′ r r′ s s′ (narrow c l d t u f k x) (spent c′ t′ o y) = absurd (not-both u f o)
+    goes-unique m m′ r r′ s s′ (narrow c l d t u f k x) (narrow c′ l′ d′ t′ u′ f′ k′ y) = refused-unique x y
+    goes-unique m m′ r r′ s s′ (narrow c l d t u f k x) (made c′ l′ d′ t′ u′ f′ k′ y) = let (a, b) = finds-unique f f′ in let e : c ≡ c′ = lent-unique t t′ in absurd (omega arith)
+    goes-unique m m′ r r′ s s′ (made c l d t u f k x) (bad b y) = absurd (b c t)
+    goes-unique m m′ r r′ s s′ (made c l d t u f k x) (spent c′ t′ o y) = absurd (not-both u f o)
+    goes-unique m m′ r r′ s s′ (made c l d t u f k x) (narrow c′ l′ d′ t′ u′ f′ k′ y) = let (a, b) = finds-unique f f′ in let e : c ≡ c′ = lent-unique t t′ in absurd (omega arith)
+    goes-unique m m′ r r′ s s′ (made c l d t u f k x) (made c′ l′ d′ t′ u′ f′ k′ y) =
+        let (a, b) = finds-unique f f′ in
+        let e : c ≡ c′ = lent-unique t t′ in
         let v : m .regulator .0 + m .regulator .0 ≡ d = x .regulator in
         let w : m′ .regulator .0 + m′ .regulator .0 ≡ d′ = y .regulator in
         record {
           number = x .number ∙ sym (y .number);
           period = x .period ∙ a ∙ sym (y .period);
           regulator = omega arith;
-          rows-same = rows-one A c r r′ (x .rows-hold) (subst (λ q. Holds p G H l′ d′ q r′) (sym e) (y .rows-hold));
+          rows-same = rows-unique A c r r′ (x .rows-hold) (subst (λ q. Holds p G H l′ d′ q r′) (sym e) (y .rows-hold));
           scratch-same = x .scratch-blank ∙ sym (y .scratch-blank);
         }
 
-pub makes-one : (p : ℕ) (G H : List ℕ) (n : ℕ) (rows scratch : List ℕ) (m m′ : Made) (r r′ s s′ : List ℕ) → Makes p G H n rows scratch m r s → Makes p G H n rows scratch m′ r′ s′ → Same m m′ r r′ s s′
-makes-one p G H n rows scratch m m′ r r′ s s′ = door-unique (λ k. refused-one) (λ A. goes-one A n rows scratch m m′ r r′ s s′)
+pub makes-unique : (p : ℕ) (G H : List ℕ) (n : ℕ) (rows scratch : List ℕ) (m m′ : UnitAnswer) (r r′ s s′ : List ℕ) → Makes p G H n rows scratch m r s → Makes p G H n rows scratch m′ r′ s′ → Same m m′ r r′ s s′
+makes-unique p G H n rows scratch m m′ r r′ s s′ = door-unique (λ k. refused-unique) (λ A. goes-unique A n rows scratch m m′ r r′ s s′)

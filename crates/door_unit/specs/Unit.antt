@@ -3,7 +3,7 @@
 --   Lent c rows scratch n   lengths and budget within their rule: two slices of 6 c numbers, c at most 4,096, the budget at most 1,000,000
 --   Finds p G H l d         from the order the chain closes after l steps with degree sum d
 --   Makes p G H n rows scratch m rows′ scratch′   the whole answer, and both slices after it
--- What the first slice holds after success is `Holds` of crate unit_make. `makes-one` in proofs/Once.antt: two outcomes that meet it are equal.
+-- What the first slice holds after success is `Holds` of crate unit_make. `makes-unique` in proofs/Once.antt: two outcomes that meet it are equal.
 use mathlib.Core.Path.{_≡_}
 use mathlib.Core.List.{List}
 use Prim.Native.Nat.{ℕ, _+_, _*_, _<_, _≤_}
@@ -16,10 +16,10 @@ use Rattle.math_ideals.specs.Next.{Start}
 use Rattle.math_chain.specs.Chain.{Closing, Open}
 use Rattle.basis_record.specs.Record.{setting}
 use Rattle.unit_make.specs.Rows.{Holds}
-use Rattle.door_unit.specs.declared.Made.{Made}
+use Rattle.door_unit.specs.declared.UnitAnswer.{UnitAnswer}
 
 -- the answer beside a refusal
-abbrev pub refusal : ℕ → Made
+abbrev pub refusal : ℕ → UnitAnswer
 refusal n = record { refusal = n; period = record { 0 = 0 }; regulator = record { 0 = 0 } }
 
 pub record Lent (c : ℕ) (rows scratch : List ℕ) (n : ℕ) : Type 0 where
@@ -35,13 +35,13 @@ abbrev pub Misses : ℕ → List ℕ → List ℕ → ℕ → Type 0
 Misses p G H n = (A : Accepted p G H) (B₀ : Basis (setting A)) → Start (setting A) B₀ → Open (setting A) B₀ n
 
 -- "the other results with a refusal are 0"
-pub record Refused (no : ℕ) (rows scratch : List ℕ) (m : Made) (rows′ scratch′ : List ℕ) : Type 0 where
+pub record Refused (no : ℕ) (rows scratch : List ℕ) (m : UnitAnswer) (rows′ scratch′ : List ℕ) : Type 0 where
   pub answer : m ≡ refusal no
   pub rows-same : rows′ ≡ rows
   pub scratch-same : scratch′ ≡ scratch
 
 -- "On success: period and regulator"; the scratch holds only zeros
-pub record Success (p : ℕ) (G H : List ℕ) (l d c : ℕ) (scratch : List ℕ) (m : Made) (rows′ scratch′ : List ℕ) : Type 0 where
+pub record Success (p : ℕ) (G H : List ℕ) (l d c : ℕ) (scratch : List ℕ) (m : UnitAnswer) (rows′ scratch′ : List ℕ) : Type 0 where
   pub number : m .refusal ≡ 0
   pub period : m .period .0 ≡ l
   pub regulator : m .regulator .0 + m .regulator .0 ≡ d
@@ -50,11 +50,11 @@ pub record Success (p : ℕ) (G H : List ℕ) (l d c : ℕ) (scratch : List ℕ)
 
 module _ (p : ℕ) (G H : List ℕ) (n : ℕ) (rows scratch : List ℕ) where
   -- an accepted field: 14, then 10, then 11
-  pub data Goes (m : Made) (rows′ scratch′ : List ℕ) : Type 0 where
+  pub data Goes (m : UnitAnswer) (rows′ scratch′ : List ℕ) : Type 0 where
     bad : ((c : ℕ) → Lent c rows scratch n → ⊥) → Refused 14 rows scratch m rows′ scratch′ → Goes m rows′ scratch′
     spent : (c : ℕ) → Lent c rows scratch n → Misses p G H n → Refused 10 rows scratch m rows′ scratch′ → Goes m rows′ scratch′
     narrow : (c l d : ℕ) → Lent c rows scratch n → l ≤ n → Finds p G H l d → c ≤ d → Refused 11 rows scratch m rows′ scratch′ → Goes m rows′ scratch′
     made : (c l d : ℕ) → Lent c rows scratch n → l ≤ n → Finds p G H l d → d < c → Success p G H l d c scratch m rows′ scratch′ → Goes m rows′ scratch′
 
-  abbrev pub Makes : Made → List ℕ → List ℕ → Type 0
+  abbrev pub Makes : UnitAnswer → List ℕ → List ℕ → Type 0
   Makes m rows′ scratch′ = Door p G H (λ no. Refused no rows scratch m rows′ scratch′) (Goes m rows′ scratch′)

@@ -6,7 +6,7 @@ ghost use Rattle.door_unit.specs.Fit.{Unfit};
 ghost use mathlib.Core.Path.{_≡_};
 
 // The refusal's number (0: made), the period and the regulator.
-pub struct Made {
+pub struct UnitAnswer {
     pub refusal: u32,
     pub period: Period,
     pub regulator: Regulator,
@@ -32,10 +32,10 @@ fn unfit(n: usize, m: usize, budget: u64) -> bool
 }
 
 // A refusal: the other results are 0.
-fn refused(n: u32) -> Made
+fn refused(n: u32) -> UnitAnswer
     ensures { λ m. ⌜ m ≡ refusal n ⌝ }
 {
-    Made {
+    UnitAnswer {
         refusal: n,
         period: Period(0),
         regulator: Regulator(0),
@@ -51,7 +51,7 @@ pub fn unit(
     budget: u64,
     rows: &mut [u16],
     scratch: &mut [u16],
-) -> Made
+) -> UnitAnswer
     ensures { λ m. ⌜ Makes p (now (g .entry)) (now (h .entry)) budget (now (rows .entry)) (now (scratch .entry)) m (now (rows .exit)) (now (scratch .exit)) ⌝ }
 {
     let e = field_series::open_with_series(p, g, h);
@@ -77,7 +77,7 @@ pub fn unit(
         return refused(11);
     }
     unit_make::make(f, b, l, d as usize, c, rows, scratch);
-    Made {
+    UnitAnswer {
         refusal: 0,
         period: Period(l),
         regulator: Regulator(d / 2),

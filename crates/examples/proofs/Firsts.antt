@@ -15,9 +15,9 @@ use Rattle.field_open.specs.Refusal.{Fault1, Refusal, Accepted}
 use Rattle.field_open.specs.Opening.{Opens, nothing}
 use Rattle.field_open.proofs.Accept.{accepted-none}
 use Rattle.field_open.proofs.Door.{door-refused}
-use Rattle.field_open.proofs.Opening.{opens-one}
+use Rattle.field_open.proofs.Opening.{opens-unique}
 use Rattle.field_series.specs.Answer as filled
-use Rattle.field_series.proofs.Answer.{done, answer-one}
+use Rattle.field_series.proofs.Answer.{done, answer-unique}
 use Rattle.book_bytes.specs.Bytes.{val}
 use Rattle.book_check.specs.Book.{ends}
 use Rattle.book_check.specs.Book as book
@@ -58,7 +58,7 @@ refused-some p (suc n) t e = omega arith
 pub refuses-one : (p n : ℕ) → T (refused p n) → (G H : List ℕ) → Refuses p G H n
 refuses-one p n t G H =
     let m : Opens p G H (record { refusal = n; field = nothing }) = door-refused (refused-is p n t G H) (refused-some p n t) refl in
-    record { meets = m; alone = λ o h. opens-one o (record { refusal = n; field = nothing }) h m }
+    record { meets = m; alone = λ o h. opens-unique o (record { refusal = n; field = nothing }) h m }
 
 -- ---- series
 pub series-sound : (k : Input) (r w : List ℕ) (h : Hints) → T (decide (series k r w) h) → Holds (series k r w)
@@ -68,7 +68,7 @@ series-sound k r w h t r₀ w₀ sr sw =
     let A : Accepted (k .p) (k .G) (k .H) = accepted-of (k .p) (k .G) (k .H) (at 0) in
     let l : length r ≤ 4096 = leb→le (length r) 4096 (at 2) in
     let m : filled.Answer (k .p) (k .G) (k .H) r₀ w₀ r w 0 = done (accepted-none (k .p) (k .G) (k .H) A) refl (record { even = sw ∙ sym sr; short = omega arith }) (record { size = sym sr; series = series-of (k .p) (k .G) (k .H) r w (at 1) }) in
-    record { meets = m; alone = λ o a. let (x, y, z) = answer-one (o .1) (o .2) r w a m in λ i. (x i, y i, z i) }
+    record { meets = m; alone = λ o a. let (x, y, z) = answer-unique (o .1) (o .2) r w a m in λ i. (x i, y i, z i) }
 
 -- ---- the book
 empty-passes : book.Accepted (80 ∷ 67 ∷ 70 ∷ 49 ∷ 0 ∷ 0 ∷ [])
@@ -81,7 +81,7 @@ empty-passes = record {
 
 -- the check of a book has one answer
 tells : (s : List ℕ) (a : Answer) → Tells s (answerSays a) → Only (λ a. Tells s (answerSays a)) a
-tells s a t = record { meets = t; alone = λ b u. one.answer-one b a (one.tells-one s u t) }
+tells s a t = record { meets = t; alone = λ b u. one.answer-unique b a (one.tells-unique s u t) }
 
 pub empty-book-holds : Holds empty-book
 empty-book-holds = tells (80 ∷ 67 ∷ 70 ∷ 49 ∷ 0 ∷ 0 ∷ []) Yes (fine empty-passes refl)

@@ -17,16 +17,16 @@ use Rattle.basis_record.specs.Record.{setting, basisOf, IsRecord}
 use Rattle.field_open.proofs.Door.{door-goes}
 use Rattle.door_basis.specs.Answer.{Orders}
 use Rattle.basis_field.specs.First.{IsFirst}
-use Rattle.door_basis.proofs.Answer.{orders-one}
+use Rattle.door_basis.proofs.Answer.{orders-unique}
 use Rattle.door_step.specs.Answer as stepped
 use Rattle.door_step.specs.Answer.{Answers}
-use Rattle.door_step.proofs.Answers.{answers-one}
+use Rattle.door_step.proofs.Answers.{answers-unique}
 use Rattle.walk_chain.specs.Walk as walk
 use Rattle.walk_chain.specs.Walk.{Walks}
-use Rattle.walk_chain.proofs.Walk.{walks-one}
+use Rattle.walk_chain.proofs.Walk.{walks-unique}
 use Rattle.door_walk.specs.Order as told
 use Rattle.door_walk.specs.Order.{FromOrder}
-use Rattle.door_walk.proofs.Order.{from-order-one}
+use Rattle.door_walk.proofs.Order.{from-order-unique}
 use Rattle.examples_lists.specs.Lists.{alike}
 use Rattle.examples_tests.specs.Rows.{Rows, stored}
 use Rattle.examples_tests.specs.Tests.{every, goes}
@@ -61,7 +61,7 @@ module _ (k : Input) (h : Hints) where
       let q : (i : ℕ) → T (getD (orders k h b) i true) = every-at (orders k h b) t in
       let m : Orders (k .p) (k .G) (k .H) (record { refusal = 0; basis = stored b }) =
       door-goes (accepted-none (k .p) (k .G) (k .H) (field-of (q 0))) refl (refl, first-is b (q 0) (q 1) (q 2)) in
-      record { meets = m; alone = λ o u. orders-one o (record { refusal = 0; basis = stored b }) u m }
+      record { meets = m; alone = λ o u. orders-unique o (record { refusal = 0; basis = stored b }) u m }
 
   -- ---- a step
   pub steps-sound : (a : Rows) (d : ℕ) (b : Rows) → T (decide (steps k a d b) h) → Holds (steps k a d b)
@@ -80,7 +80,7 @@ module _ (k : Input) (h : Hints) where
               (degree-at A (h .r) (h .w) a (every-at (isRecord k h a) (q 1) 1) [] b tt (q 3)));
         });
       } in
-      record { meets = m; alone = λ s u. answers-one s (record { refusal = 0; degree = d; basis = stored b }) u m }
+      record { meets = m; alone = λ s u. answers-unique s (record { refusal = 0; degree = d; basis = stored b }) u m }
 
   -- ---- a walk: its chain, from the record of a to that of b
   module _ (n : ℕ) (a : Rows) (s d : ℕ) (b : Rows) (t : T (every (walked k h n a s d b))) where
@@ -137,7 +137,7 @@ module _ (k : Input) (h : Hints) where
           closes = record { is-record = last-record n a s d b (c 0); closing = walk-closing n a s d b (c 0) (c 1) };
         });
       } in
-      record { meets = m; alone = λ v u. walks-one (k .p) (k .G) (k .H) n (stored a) v (record { refusal = 0; steps = s; sum = d; basis = stored b }) u m }
+      record { meets = m; alone = λ v u. walks-unique (k .p) (k .G) (k .H) n (stored a) v (record { refusal = 0; steps = s; sum = d; basis = stored b }) u m }
 
   pub spends-sound : (n : ℕ) (a : Rows) (d : ℕ) (b : Rows) → T (decide (spends k n a d b) h) → Holds (spends k n a d b)
   spends-sound n a d b t =
@@ -153,7 +153,7 @@ module _ (k : Input) (h : Hints) where
           reaches = record { is-record = last-record n a n d b (c 0); chain = walk-chain n a n d b (c 0) };
         });
       } in
-      record { meets = m; alone = λ v u. walks-one (k .p) (k .G) (k .H) n (stored a) v (record { refusal = 10; steps = n; sum = d; basis = stored b }) u m }
+      record { meets = m; alone = λ v u. walks-unique (k .p) (k .G) (k .H) n (stored a) v (record { refusal = 10; steps = n; sum = d; basis = stored b }) u m }
 
   -- ---- the walk from the order
   pub period-sound : (n l e : ℕ) → T (decide (period k n l e) h) → Holds (period k n l e)
@@ -174,7 +174,7 @@ module _ (k : Input) (h : Hints) where
           closes = record { is-record = last-record n a l (e + e) b (c 0); closing = walk-closing n a l (e + e) b (c 0) (c 1) };
         });
       } in
-      record { meets = m; alone = λ v u. from-order-one (k .p) (k .G) (k .H) n v (record { refusal = 0; period = record { 0 = l }; regulator = record { 0 = e } }) u m }
+      record { meets = m; alone = λ v u. from-order-unique (k .p) (k .G) (k .H) n v (record { refusal = 0; period = record { 0 = l }; regulator = record { 0 = e } }) u m }
 
   pub no-period-sound : (n : ℕ) → T (decide (no-period k n) h) → Holds (no-period k n)
   no-period-sound n t =
@@ -190,4 +190,4 @@ module _ (k : Input) (h : Hints) where
         none = λ f. absurd (f refl);
         goes = λ f. told.spent (leb→le n 1000000 (w 1)) (stored a) (first-is a (w 0) (w 2) (z 1)) (walk-open n a n d b (c 0) (c 1)) refl;
       } in
-      record { meets = m; alone = λ v u. from-order-one (k .p) (k .G) (k .H) n v (told.refusal 10) u m }
+      record { meets = m; alone = λ v u. from-order-unique (k .p) (k .G) (k .H) n v (told.refusal 10) u m }

@@ -26,8 +26,8 @@ use Rattle.door_unit.specs.Unit as unitAnswer
 use Rattle.door_unit.specs.Unit.{Lent, Finds, Makes, Goes}
 use Rattle.unit_make.specs.Rows as unitRows
 use Rattle.unit_make.specs.Rows.{six}
-use Rattle.door_unit.specs.declared.Made.{Made}
-use Rattle.door_unit.proofs.Once.{Same, makes-one}
+use Rattle.door_unit.specs.declared.UnitAnswer.{UnitAnswer}
+use Rattle.door_unit.proofs.Once.{Same, makes-unique}
 use Rattle.examples_lists.specs.Lists.{lists, alike}
 use Rattle.math_ring.proofs.Hom.{hom-eval}
 use Rattle.examples_lists.proofs.Meaning.{poly-hom, poly-alike, el, el-alike}
@@ -42,12 +42,12 @@ use Rattle.examples.specs.Decide.{Hints, closed, fromOrder, rowsAt, isSi
 use Rattle.examples.proofs.Records.{field-of}
 
 -- an outcome is the only one
-only : (k : Input) (n : ℕ) (rows scratch : List ℕ) (m : Made) (rows′ scratch′ : List ℕ) → Makes (k .p) (k .G) (k .H) n rows scratch m rows′ scratch′
+only : (k : Input) (n : ℕ) (rows scratch : List ℕ) (m : UnitAnswer) (rows′ scratch′ : List ℕ) → Makes (k .p) (k .G) (k .H) n rows scratch m rows′ scratch′
     → Only {A = Outcome} (λ o. Makes (k .p) (k .G) (k .H) n rows scratch (o .0) (o .1) (o .2)) (m, rows′, scratch′)
 only k n rows scratch m rows′ scratch′ h = record {
   meets = h;
   alone = λ o u.
-      let e : Same (o .0) m (o .1) rows′ (o .2) scratch′ = makes-one (k .p) (k .G) (k .H) n rows scratch (o .0) m (o .1) rows′ (o .2) scratch′ u h in
+      let e : Same (o .0) m (o .1) rows′ (o .2) scratch′ = makes-unique (k .p) (k .G) (k .H) n rows scratch (o .0) m (o .1) rows′ (o .2) scratch′ u h in
       λ i. (record { refusal = e .number i; period = record { 0 = e .period i }; regulator = record { 0 = e .regulator i } }, e .rows-same i, e .scratch-same i);
 }
 
@@ -75,7 +75,7 @@ module _ (k : Input) (h : Hints) where
     lent-of n b rows scratch e f = record { room = leb→le c 4096 (q 1); whole = e; even = f ∙ sym e; budget = b }
 
     -- the whole answer, once the case is known
-    answer-of : (n : ℕ) (rows scratch : List ℕ) (m : Made) (rows′ scratch′ : List ℕ) → Goes (k .p) (k .G) (k .H) n rows scratch m rows′ scratch′ → Makes (k .p) (k .G) (k .H) n rows scratch m rows′ scratch′
+    answer-of : (n : ℕ) (rows scratch : List ℕ) (m : UnitAnswer) (rows′ scratch′ : List ℕ) → Goes (k .p) (k .G) (k .H) n rows scratch m rows′ scratch′ → Makes (k .p) (k .G) (k .H) n rows scratch m rows′ scratch′
     answer-of n rows scratch m rows′ scratch′ g = door-goes (accepted-none (k .p) (k .G) (k .H) (field-of k h (q 0))) refl g
 
   -- ---- the unit

@@ -27,7 +27,7 @@ use Rattle.door_walk.specs.Order as told
 use Rattle.door_walk.specs.Order.{FromOrder}
 use Rattle.door_unit.specs.Unit.{refusal, Makes}
 use Rattle.unit_make.specs.Rows.{six}
-use Rattle.door_unit.specs.declared.Made.{Made}
+use Rattle.door_unit.specs.declared.UnitAnswer.{UnitAnswer}
 use Rattle.book_check.specs.Answer.{answerSays, Tells}
 use Rattle.book_check.specs.declared.Answer.{Answer}
 use Rattle.book_check.specs.declared.Answer.the-variants.{Yes, Refused}
@@ -52,7 +52,7 @@ wide c l = take c (l ++ replicate c 0)
 abbrev pub sixRows : ℕ → Tri (List ℕ) → Tri (List ℕ) → List ℕ
 sixRows c E F = wide c (E .a) ++ (wide c (E .b) ++ (wide c (E .c) ++ (wide c (F .a) ++ (wide c (F .b) ++ wide c (F .c)))))
 
-abbrev pub made : ℕ → ℕ → Made
+abbrev pub made : ℕ → ℕ → UnitAnswer
 made period regulator = record { refusal = 0; period = record { 0 = period }; regulator = record { 0 = regulator } }
 
 pub data Line : Type 0 where
@@ -92,7 +92,7 @@ Refuses p G H n = Only (Opens p G H) (record { refusal = n; field = nothing })
 
 -- an outcome of the unit: the answer, and what the two slices hold after it
 abbrev pub Outcome : Type 0
-Outcome = Made × List ℕ × List ℕ
+Outcome = UnitAnswer × List ℕ × List ℕ
 
 -- what is said of these outcomes, from whatever the slices held and within any budget that suffices for the period
 abbrev pub Units : Input → ℕ → ℕ → (List ℕ → List ℕ → (Outcome → Type 0) → Type 0) → Type 0

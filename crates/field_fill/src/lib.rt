@@ -1,17 +1,11 @@
 // The two series of r and w filled in one pass, each pair of coefficients from two linear equations. Everything here asks for a field that is
 // accepted; the doors are in crate field_series.
+use base_lists::wide;
 ghost use mathlib.Core.Path.{_≡_};
 ghost use Prim.Native.Nat.{_+_, _*_, _-_, _%_};
 ghost use Rattle.math_rows.specs.Row.{tab};
 ghost use Rattle.field_roots.specs.SeriesOf.{top, entry, prod};
 ghost use Rattle.field_fill.specs.Fill.{Place, Point, Entry, Rest, Two, Four, Filling, Turned, Filler, Made, Listed, Leads, LeadRoot, ThriceInverse, Room, Grown};
-
-// A stored number.
-pub fn wide(x: u16) -> u64
-    ensures { λ r. ⌜ r ≡ x ⌝ }
-{
-    x as u64
-}
 
 // The entry i of a series, 0 past its end.
 fn coefficient(s: &[u16], i: usize) -> u64
@@ -69,7 +63,7 @@ fn shortfall(p: u64, x: &[u16], y: &[u16], f: &[u16], g: &[u16], i: usize) -> u6
 
 // The pair i, where those before it are there. What is missing at i of r w = G H and of r² = H w is a = r0 w_i + w0 r_i and
 // b = 2 r0 r_i - h0 w_i; u is the inverse of 3 r0².
-fn turn(p: u64, g: &[u16], h: &[u16], u: u64, r: &mut [u16], w: &mut [u16], i: usize)
+fn next_pair(p: u64, g: &[u16], h: &[u16], u: u64, r: &mut [u16], w: &mut [u16], i: usize)
     requires { ⌜ Filling p (now g) (now h) u (now r) (now w) i ⌝ }
     ensures { λ _. ⌜ Turned p (now (g .entry)) (now (h .entry)) (now (r .entry)) (now (w .entry)) (now (r .exit)) (now (w .exit)) i ⌝ }
 {
@@ -102,7 +96,7 @@ fn fill(p: u64, g: &[u16], h: &[u16], c: u64, u: u64, r: &mut [u16], w: &mut [u1
         w[0] = x as u16;
         let mut i: usize = 1;
         while i < r.len() {
-            turn(p, g, h, u, r, w, i);
+            next_pair(p, g, h, u, r, w, i);
             i += 1;
         }
     }

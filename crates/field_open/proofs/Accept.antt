@@ -30,7 +30,7 @@ use Rattle.poly_rows.specs.Polynomial.{polynomial}
 use Rattle.base_lists.proofs.Coefs.{coefs-size}
 use Rattle.field_open.specs.Refusal.{longest, highest, Degree, Fault1, Fault2, Fault3, Fault4, Fault5, Fault6, Fault7, Fault8, Rows12, Rows36, Rows78, Refusal, Accepted}
 use Rattle.field_open.specs.Parts.{Shaped}
-use Rattle.field_open.proofs.Stages.{degree-one}
+use Rattle.field_open.proofs.Stages.{degree-unique}
 
 le-stable : (a b : ℕ) → ((a ≤ b → ⊥) → ⊥) → a ≤ b
 le-stable a b f = elim (decLe a b) [ yes h ↦ h | no h ↦ absurd (f h) ]
@@ -185,13 +185,13 @@ module _ (p : ℕ) (G H : List ℕ) where
       two f = omega (arith, a .kind)
 
       four : Fault4 p G H → ⊥
-      four (f, g) = omega (arith, a .some, degree-one f (a .listG), degree-one g (a .listH))
+      four (f, g) = omega (arith, a .some, degree-unique f (a .listG), degree-unique g (a .listH))
 
       five : Fault5 p G H → ⊥
-      five (d, e, f, g, l) = omega (arith, a .sum, degree-one f (a .listG), degree-one g (a .listH))
+      five (d, e, f, g, l) = omega (arith, a .sum, degree-unique f (a .listG), degree-unique g (a .listH))
 
       six : Fault6 p G H → ⊥
-      six (d, e, f, g, ne) = ne (ap (λ n. n % 3) (degree-one f (a .listG)) ∙ a .thirds ∙ ap (λ n. n % 3) (sym (degree-one g (a .listH))))
+      six (d, e, f, g, ne) = ne (ap (λ n. n % 3) (degree-unique f (a .listG)) ∙ a .thirds ∙ ap (λ n. n % 3) (sym (degree-unique g (a .listH))))
 
       seven : Fault7 p G H → ⊥
       seven (q, inl s) = free-no-square (reading p q .𝓥) (polynomial p q G) (a .freeG q) s

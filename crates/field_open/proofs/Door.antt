@@ -12,7 +12,7 @@ use Prim.Native.Nat.{ℕ, _≤_}
 use native.Mathlib.Decide.{ℕ-discrete}
 use Rattle.field_open.specs.Refusal.{Refusal, Accepted}
 use Rattle.field_open.specs.Door.{Door}
-use Rattle.field_open.proofs.Stages.{refusal-one, numbered}
+use Rattle.field_open.proofs.Stages.{refusal-unique, numbered}
 use Rattle.field_open.proofs.Accept.{accepted}
 
 module _ {p : ℕ} {G H : List ℕ} {R : ℕ → Type 0} {K : Type 0} where
@@ -33,7 +33,7 @@ module _ {p : ℕ} {G H : List ℕ} {R : ℕ → Type 0} {K : Type 0} where
   door-unique {S} {L} {C} out on d e = go (ℕ-discrete (d .no) 0)
     where
       same : e .no ≡ d .no
-      same = refusal-one p G H (e .no) (d .no) (e .first) (d .first)
+      same = refusal-unique p G H (e .no) (d .no) (e .first) (d .first)
 
       go : Dec (d .no ≡ 0) → C
       go (yes z) = on (accepted p G H (subst (Refusal p G H) z (d .first))) (d .goes z) (e .goes (same ∙ z))

@@ -15,7 +15,7 @@ pub use Rattle.base_lists.proofs.Coefs.{length-of, list-short}
 use Rattle.num_prime.specs.Table.{largest, PrimeTest}
 use Rattle.field_open.specs.Refusal.{longest, highest, Degree, Fault1, Fault3, Fault4, Fault5, Fault6, Rows36}
 use Rattle.field_open.specs.Parts.{ListLength}
-use Rattle.field_open.proofs.Stages.{degree-one}
+use Rattle.field_open.proofs.Stages.{degree-unique}
 
 -- ---- rows 3 to 6, by the numbers of coefficients
 pub row-three : {p lg lh : ℕ} {G H : List ℕ} → ListLength p G lg → ListLength p H lh → lg ≢ 0 → lh ≡ 0 → Rows36 p G H End 3
@@ -35,13 +35,13 @@ module _ {p lg lh : ℕ} {G H : List ℕ} (a : ListLength p G lg) (b : ListLengt
   h = list-degree b nb
 
   some : d + e ≢ 0 → Fault4 p G H → ⊥
-  some ne (u, v) = ne (let x : 0 ≡ d = degree-one u g in let y : 0 ≡ e = degree-one v h in omega arith)
+  some ne (u, v) = ne (let x : 0 ≡ d = degree-unique u g in let y : 0 ≡ e = degree-unique v h in omega arith)
 
   low : d + e ≤ highest → Fault5 p G H → ⊥
-  low l (m, n, u, v, k) = let x : m ≡ d = degree-one u g in let y : n ≡ e = degree-one v h in omega arith
+  low l (m, n, u, v, k) = let x : m ≡ d = degree-unique u g in let y : n ≡ e = degree-unique v h in omega arith
 
   even : d % 3 ≡ e % 3 → Fault6 p G H → ⊥
-  even q (m, n, u, v, k) = k (ap (λ i. i % 3) (degree-one u g) ∙ q ∙ ap (λ i. i % 3) (sym (degree-one v h)))
+  even q (m, n, u, v, k) = k (ap (λ i. i % 3) (degree-unique u g) ∙ q ∙ ap (λ i. i % 3) (sym (degree-unique v h)))
 
   pub row-four : d + e ≡ 0 → Rows36 p G H End 4
   row-four z = inr (λ f. f d g, inr (λ f. f e h, inl ((subst (Degree p G) (omega arith) g, subst (Degree p H) (omega arith) h), refl)))

@@ -16,12 +16,12 @@ use Rattle.math_rows.specs.Reading.{Reading}
 use Rattle.math_rows.specs.Made.{reading}
 use Rattle.math_rows.specs.Row.{Row, Size}
 use Rattle.math_rows.proofs.Tab.{length-tab, at-tab}
-use Rattle.poly_rows.specs.Leaf.{Listed, MulIn, Product}
-use Rattle.poly_rows.proofs.Leaf.{size-one}
+use Rattle.poly_rows.specs.Leaf.{Listed, MulAsks, Product}
+use Rattle.poly_rows.proofs.Leaf.{size-unique}
 use Rattle.field_open.specs.Refusal.{Degree, Accepted}
 use Rattle.field_open.specs.Parts.{ListLength}
 use Rattle.field_open.specs.Opening.{pad, Held}
-use Rattle.field_open.proofs.Stages.{degree-one}
+use Rattle.field_open.proofs.Stages.{degree-unique}
 use Rattle.field_open.proofs.Accept.{degree-size}
 use Rattle.field_open.proofs.Parts.{length-of}
 
@@ -52,14 +52,14 @@ module _ {p d : ℕ} {l x : List ℕ} (s : Degree p l d) (k : Listed l x) where
       (λ i h. let e : length x ≡ 32 = k .size in k .each i ∙ sym (at-tab 32 (λ i. getD l i 0) i (omega arith)))
 
 module _ {p : ℕ} {G H x y : List ℕ} (a : Accepted p G H) (u : Listed G x) (v : Listed H y) where
-  pub product-room : MulIn p x y
+  pub product-room : MulAsks p x y
   product-room = record {
     modulus = record { big = a .prime .big; small = (let h : p ≤ 65535 = a .high in omega arith) };
     hx = row-of (a .listG) u;
     hy = row-of (a .listH) v;
     room = λ n m sx sy.
-        let e : n ≡ suc (a .degG) = size-one sx (size-of (a .listG) u) in
-        let f : m ≡ suc (a .degH) = size-one sy (size-of (a .listH) v) in
+        let e : n ≡ suc (a .degG) = size-unique sx (size-of (a .listG) u) in
+        let f : m ≡ suc (a .degH) = size-unique sy (size-of (a .listH) v) in
         omega (arith, a .sum);
   }
 
@@ -77,7 +77,7 @@ module _ {p : ℕ} {G H x y : List ℕ} (a : Accepted p G H) (u : Listed G x) (v
       let j : lh ≡ suc e = length-of lh h c in
       let i′ : lg - 1 ≡ d = omega arith in
       let j′ : lh - 1 ≡ e = omega arith in
-      let t : d % 3 ≡ e % 3 = ap (λ n. n % 3) (degree-one g (a .listG)) ∙ a .thirds ∙ ap (λ n. n % 3) (degree-one (a .listH) h) in
+      let t : d % 3 ≡ e % 3 = ap (λ n. n % 3) (degree-unique g (a .listG)) ∙ a .thirds ∙ ap (λ n. n % 3) (degree-unique (a .listH) h) in
       record {
         prime = refl;
         rowG = padded g u;

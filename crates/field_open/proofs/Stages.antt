@@ -1,18 +1,18 @@
 -- The table's rows, one after the other.
---   refusal-one            two numbers that meet the table are equal
+--   refusal-unique            two numbers that meet the table are equal
 --   numbered               a number that meets the table is at most 8
---   degree-one             a list has one degree
+--   degree-unique             a list has one degree
 use mathlib.Core.Path.{_≡_, sym, _∙_}
 use mathlib.Core.List.{List}
 use Prim.Native.Nat.{ℕ, suc, _≤_}
 use native.Mathlib.Omega.{arith}
-use Rattle.base_lists.proofs.Coefs.{degree-unique}
+pub use Rattle.base_lists.proofs.Coefs.{degree-unique}
 use Rattle.base_answers.proofs.Stages.{stage-unique, end-unique, stage-low}
 use Rattle.field_open.specs.Refusal.{Degree, Fault1, Fault2, Fault3, Fault4, Fault5, Fault6, Fault7, Fault8, Refusal}
 
-pub refusal-one : (p : ℕ) (G H : List ℕ) (m n : ℕ) → Refusal p G H m → Refusal p G H n → m ≡ n
+pub refusal-unique : (p : ℕ) (G H : List ℕ) (m n : ℕ) → Refusal p G H m → Refusal p G H n → m ≡ n
 unfolding Refusal
-refusal-one p G H =
+refusal-unique p G H =
     stage-unique 1 (Fault1 p) _ (stage-unique 2 (Fault2 p) _ (stage-unique 3 (Fault3 p G) _ (stage-unique 3 (Fault3 p H) _ (stage-unique 4 (Fault4 p G H) _
     (stage-unique 5 (Fault5 p G H) _ (stage-unique 6 (Fault6 p G H) _ (stage-unique 7 (Fault7 p G H) _ (stage-unique 8 (Fault8 p G H) _ end-unique))))))))
 
@@ -21,6 +21,3 @@ unfolding Refusal
 numbered p G H n =
     stage-low (omega arith) (stage-low (omega arith) (stage-low (omega arith) (stage-low (omega arith) (stage-low (omega arith) (stage-low (omega arith)
     (stage-low (omega arith) (stage-low (omega arith) (stage-low (omega arith) (λ e. omega arith)))))))))
-
-pub degree-one : {p d e : ℕ} {l : List ℕ} → Degree p l d → Degree p l e → d ≡ e
-degree-one = degree-unique

@@ -6,7 +6,7 @@
 --   nothing             the field of zeros
 --   refused n           the answer beside the refusal n: nothing but zeros
 --   Opens p G H o       the whole answer: refusals 1 to 8, then the field
--- In proofs/Opening.antt: `opens-one`, two answers that meet it are equal; `opens-number`, `opens-held`, what the number beside it says.
+-- In proofs/Opening.antt: `opens-unique`, two answers that meet it are equal; `opens-number`, `opens-held`, what the number beside it says.
 use mathlib.Core.Path.{_≡_}
 use mathlib.Core.List.{List}
 use Prim.Native.Nat.{ℕ, _+_, _*_}
@@ -18,7 +18,7 @@ use Rattle.math_rows.specs.Reading.{Reading}
 use Rattle.math_rows.specs.Made.{reading}
 use Rattle.math_rows.specs.Row.{Row, tab, row}
 use Rattle.field_open.specs.declared.Field.{Field}
-use Rattle.field_open.specs.declared.Opened.{Opened}
+use Rattle.field_open.specs.declared.FieldAnswer.{FieldAnswer}
 use Rattle.field_open.specs.Refusal.{Degree}
 use Rattle.field_open.specs.Door.{Door}
 
@@ -47,8 +47,8 @@ nothing = record {
   dw = 0;
 }
 
-abbrev pub refused : ℕ → Opened
+abbrev pub refused : ℕ → FieldAnswer
 refused n = record { refusal = n; field = nothing }
 
-abbrev pub Opens : ℕ → List ℕ → List ℕ → Opened → Type 0
+abbrev pub Opens : ℕ → List ℕ → List ℕ → FieldAnswer → Type 0
 Opens p G H o = Door p G H (λ n. o ≡ refused n) ((o .refusal ≡ 0) × Held p G H (o .field))

@@ -11,7 +11,7 @@
 --   Refusal p G H n   n is the number of the first fault of p, G, H; 0 where there is none
 --   Accepted p G H    p, G, H are a field that we sell
 -- `polynomial` of a list is that of crate poly_rows.
--- In proofs/: Stages (`refusal-one`, one number for each p, G, H), Accept (`accepted`, `accepted-none`: the number is 0 exactly for the accepted).
+-- In proofs/: Stages (`refusal-unique`, one number for each p, G, H), Accept (`accepted`, `accepted-none`: the number is 0 exactly for the accepted).
 use mathlib.Core.Path.{_≡_}
 use mathlib.Core.Logic.{_≢_, _⊎_}
 use mathlib.Core.List.{List}

@@ -22,7 +22,7 @@ pub struct Field {
 }
 
 // The number of the refusal beside the field; with a refusal the field is all zeros.
-pub struct Opened {
+pub struct FieldAnswer {
     pub refusal: u32,
     pub field: Field,
 }
@@ -166,19 +166,19 @@ fn no_field() -> Field
     }
 }
 
-pub fn open(p: u64, g: &[u64], h: &[u64]) -> Opened
+pub fn open(p: u64, g: &[u64], h: &[u64]) -> FieldAnswer
     ensures { λ o. ⌜ Opens p (now (g .entry)) (now (h .entry)) o ⌝ }
 {
     let n = refusal(p, g, h);
     if n != 0 {
         let z = no_field();
-        return Opened {
+        return FieldAnswer {
             refusal: n,
             field: z,
         };
     }
     let f = field_of(p, g, h);
-    Opened {
+    FieldAnswer {
         refusal: 0,
         field: f,
     }

@@ -3,7 +3,7 @@
 --   begins-ext, begins-lead   by its coefficients; the first leads
 --   begins-mul                a product begins with the coefficients of the product
 --   begins-close, begins-near one beginning, one series but for what lies below it
---   begins-only               a series has one beginning
+--   begins-unique               a series has one beginning
 --   begins-row                a row begins with its coefficients, read from the top
 --   begins-cut, begins-floor  fewer coefficients; the polynomial parts of t^k z
 --   stand-in                  a series that begins so
@@ -108,8 +108,8 @@ module _ {p : ℕ} (ρ : Reading p) where
   begins-near {z} {y} {d} n f h hy =
       lt-eq 𝓥 (lt-add 𝓥 h hy) (solve L (var 0 :* (var 1 :+ minus (var 2)) :+ (var 0 :* var 2 :+ minus (var 3))) (var 0 :* var 1 :+ minus (var 3)) tt (T n ∷ z ∷ y ∷ T (suc d) * fall ρ n f ∷ []))
 
-  pub begins-only : {z : L .El} {d : ℕ} (n : ℕ) (f g : ℕ → K .El) → Begins ρ n f d z → Begins ρ n g d z → (i : ℕ) → i < n → f i ≡ g i
-  begins-only {z} {d} n f g hf hg =
+  pub begins-unique : {z : L .El} {d : ℕ} (n : ℕ) (f g : ℕ → K .El) → Begins ρ n f d z → Begins ρ n g d z → (i : ℕ) → i < n → f i ≡ g i
+  begins-unique {z} {d} n f g hf hg =
       let F : L .El = fall ρ n f in
       let G : L .El = fall ρ n g in
       let small : Lt 𝓥 (T (suc d) * (F + - G)) (N._+_ (suc d) 0) =

@@ -1,6 +1,6 @@
 -- `SeriesOf` says the numbers: they are the first coefficients of the field's two series.
 --   series-of-begins   r and w begin with the numbers of the lists
---   series-of-only     two pairs of lists of one length that meet it are equal
+--   series-of-unique     two pairs of lists of one length that meet it are equal
 --   series-of-reads    32 numbers of each are what the code's polynomial parts are made from
 use mathlib.Core.Path.{_≡_, refl, sym, ap, ap₂, _∙_, subst}
 use mathlib.Core.List.{List}
@@ -21,7 +21,7 @@ use Rattle.field_open.specs.Refusal.{Degree, Accepted}
 use Rattle.field_roots.specs.First.{conv, Begins}
 use Rattle.field_roots.specs.SeriesOf.{top, entry, prod, SeriesOf}
 use Rattle.field_roots.proofs.First.{convᵏ}
-use Rattle.field_roots.proofs.Begin.{begins-row, begins-only, begins-floor, cast-conv}
+use Rattle.field_roots.proofs.Begin.{begins-row, begins-unique, begins-floor, cast-conv}
 use Rattle.field_roots.proofs.Near.{pair-begins}
 use Rattle.math_rows.proofs.Constants.{three≢, cube-inj}
 use Rattle.field_roots.specs.Pair.{degR, degW}
@@ -84,14 +84,14 @@ series-of-reads {p} {G} {H} {r} {w} A pr s e =
     let (a, b) = series-of-begins A pr s in
     (λ k l. begins-floor (reading p pr) (length r) k r (omega arith) l a, λ k l. begins-floor (reading p pr) (length r) k w (omega arith) l b)
 
-pub series-of-only : {p : ℕ} {G H : List ℕ} (r w r′ w′ : List ℕ) → Accepted p G H → SeriesOf p G H r w → SeriesOf p G H r′ w′ → length r ≡ length r′ → (r ≡ r′) × (w ≡ w′)
-series-of-only {p} {G} {H} r w r′ w′ A s s′ e =
+pub series-of-unique : {p : ℕ} {G H : List ℕ} (r w r′ w′ : List ℕ) → Accepted p G H → SeriesOf p G H r w → SeriesOf p G H r′ w′ → length r ≡ length r′ → (r ≡ r′) × (w ≡ w′)
+series-of-unique {p} {G} {H} r w r′ w′ A s s′ e =
     let pr : Prime p = A .prime in
     let (a, b) = series-of-begins A pr s in
     let (a′, b′) = series-of-begins A pr s′ in (
       ext-getD 0 r r′ e (λ i l. cast-inj (reading p pr) (entry r i) (entry r′ i) (s .r-below i l) (s′ .r-below i (omega arith))
-          (begins-only (reading p pr) (length r) _ _ a (subst (λ n. Begins (reading p pr) n (λ i. reading p pr .cast (entry r′ i)) (degR (A .degG) (A .degH)) (root-r A pr)) (sym e) a′) i l)),
+          (begins-unique (reading p pr) (length r) _ _ a (subst (λ n. Begins (reading p pr) n (λ i. reading p pr .cast (entry r′ i)) (degR (A .degG) (A .degH)) (root-r A pr)) (sym e) a′) i l)),
       (let u : length w ≡ length r = s .even in let u′ : length w′ ≡ length r′ = s′ .even in
           ext-getD 0 w w′ (u ∙ e ∙ sym u′) (λ i l. cast-inj (reading p pr) (entry w i) (entry w′ i) (s .w-below i (omega arith)) (s′ .w-below i (omega arith))
-          (begins-only (reading p pr) (length r) _ _ b (subst (λ n. Begins (reading p pr) n (λ i. reading p pr .cast (entry w′ i)) (degW (A .degG) (A .degH)) (root-w A pr)) (sym e) b′) i (omega arith)))),
+          (begins-unique (reading p pr) (length r) _ _ b (subst (λ n. Begins (reading p pr) n (λ i. reading p pr .cast (entry w′ i)) (degW (A .degG) (A .degH)) (root-w A pr)) (sym e) b′) i (omega arith)))),
     )

@@ -4,7 +4,7 @@
 --   prod f g n           f 0 · g n + f 1 · g (n − 1) + .. + f n · g 0: the coefficient n of a product of two series
 --   SeriesOf p G H r w   r and w are equally long and their numbers below p; the first of r is a cube root of the leading coefficient of
 --                        D = G·H²; and r² = H·w and r·w = G·H, mod p, in each coefficient as far as the lists reach
--- One list of each length for r and one for w meet this (`series-of-only` in proofs/Only.antt), and they are the coefficients of the two series
+-- One list of each length for r and one for w meet this (`series-of-unique` in proofs/Only.antt), and they are the coefficients of the two series
 -- (`series-of-begins` in proofs/Only.antt).
 use mathlib.Core.Path.{_≡_}
 use mathlib.Core.List.{List}

@@ -1,8 +1,8 @@
 -- What `series` and `open_with_series` answer.
 --   refused, wrong, done    the three outcomes of `series`
---   answer-one              two outcomes of one call of `series` are equal
+--   answer-unique              two outcomes of one call of `series` are equal
 --   answer-kept             a refusal leaves both lists
---   expands-one             two answers of `open_with_series` to one field are equal
+--   expands-unique             two answers of `open_with_series` to one field are equal
 --   expands-number          the number beside the opened field is the table's
 --   expands-holding         beside 0: the field, opened
 use mathlib.Core.Path.{_≡_, refl, sym, ap, _∙_}
@@ -11,13 +11,13 @@ use mathlib.Core.List.{List}
 use Prim.Native.Nat.{ℕ}
 use Rattle.field_open.specs.Refusal.{Refusal, Accepted}
 use Rattle.field_open.proofs.Door.{door-refused, door-goes, door-out, door-unique, door-number, door-open}
-use Rattle.field_roots.proofs.Only.{series-of-only}
+use Rattle.field_roots.proofs.Only.{series-of-unique}
 use Rattle.field_fill.specs.Fill.{Grown}
 use Rattle.field_series.specs.Keeps.{Holding}
-use Rattle.field_series.specs.declared.Cubic.{Cubic}
-use Rattle.field_series.specs.declared.Expanded.{Expanded}
+use Rattle.field_series.specs.declared.OpenedField.{OpenedField}
+use Rattle.field_series.specs.declared.OpenedAnswer.{OpenedAnswer}
 use Rattle.field_series.specs.Answer.{Fits, Refused, Goes, unfit, filled, Answer, Expands}
-use Rattle.field_series.proofs.Keeps.{holding-one}
+use Rattle.field_series.proofs.Keeps.{holding-unique}
 
 module _ {p : ℕ} {G H r w : List ℕ} where
   pub refused : {n : ℕ} → Refusal p G H n → n ≢ 0 → Answer p G H r w r w n
@@ -29,8 +29,8 @@ module _ {p : ℕ} {G H r w : List ℕ} where
   pub done : {r′ w′ : List ℕ} {n : ℕ} → Refusal p G H n → n ≡ 0 → Fits r w → Grown p G H r r′ w′ → Answer p G H r w r′ w′ 0
   done f z h g = door-goes f z (filled h refl (g .size) (g .series))
 
-  pub answer-one : {n n′ : ℕ} (r₁ w₁ r₂ w₂ : List ℕ) → Answer p G H r w r₁ w₁ n → Answer p G H r w r₂ w₂ n′ → (n ≡ n′) × (r₁ ≡ r₂) × (w₁ ≡ w₂)
-  answer-one {n} {n′} r₁ w₁ r₂ w₂ = door-unique (λ k. refusals) goes
+  pub answer-unique : {n n′ : ℕ} (r₁ w₁ r₂ w₂ : List ℕ) → Answer p G H r w r₁ w₁ n → Answer p G H r w r₂ w₂ n′ → (n ≡ n′) × (r₁ ≡ r₂) × (w₁ ≡ w₂)
+  answer-unique {n} {n′} r₁ w₁ r₂ w₂ = door-unique (λ k. refusals) goes
     where
       refusals : {k : ℕ} → Refused r w r₁ w₁ n k → Refused r w r₂ w₂ n′ k → (n ≡ n′) × (r₁ ≡ r₂) × (w₁ ≡ w₂)
       refusals a b = (a .number ∙ sym (b .number), a .kept .0 ∙ sym (b .kept .0), a .kept .1 ∙ sym (b .kept .1))
@@ -39,7 +39,7 @@ module _ {p : ℕ} {G H r w : List ℕ} where
       goes A (unfit f a) (unfit g b) = refusals a b
       goes A (unfit f a) (filled g e s t) = absurd (f g)
       goes A (filled f e s t) (unfit g b) = absurd (g f)
-      goes A (filled f e s t) (filled g e′ s′ t′) = let (x, y) = series-of-only r₁ w₁ r₂ w₂ A t t′ (s ∙ sym s′) in (e ∙ sym e′, x, y)
+      goes A (filled f e s t) (filled g e′ s′ t′) = let (x, y) = series-of-unique r₁ w₁ r₂ w₂ A t t′ (s ∙ sym s′) in (e ∙ sym e′, x, y)
 
   pub answer-kept : {r′ w′ : List ℕ} {n : ℕ} → Answer p G H r w r′ w′ n → n ≢ 0 → (r′ ≡ r) × (w′ ≡ w)
   answer-kept {r′} {w′} {n} a f = door-out (λ k z l h. h .kept) (λ A. goes) a
@@ -48,14 +48,14 @@ module _ {p : ℕ} {G H r w : List ℕ} where
       goes (unfit g h) = h .kept
       goes (filled g e s t) = absurd (f e)
 
-pub expands-one : {p : ℕ} {G H : List ℕ} (o o′ : Expanded) → Expands p G H o → Expands p G H o′ → o ≡ o′
-expands-one o o′ = door-unique (λ n e f. e ∙ sym f)
+pub expands-unique : {p : ℕ} {G H : List ℕ} (o o′ : OpenedAnswer) → Expands p G H o → Expands p G H o′ → o ≡ o′
+expands-unique o o′ = door-unique (λ n e f. e ∙ sym f)
     (λ A (z, h) (z′, h′).
     let e : o .refusal ≡ o′ .refusal = z ∙ sym z′ in
-    let c : o .cubic ≡ o′ .cubic = holding-one (o .cubic) (o′ .cubic) h h′ in
+    let c : o .cubic ≡ o′ .cubic = holding-unique (o .cubic) (o′ .cubic) h h′ in
     (λ i. record { refusal = e i; cubic = c i }))
 
-module _ {p : ℕ} {G H : List ℕ} {o : Expanded} (h : Expands p G H o) where
+module _ {p : ℕ} {G H : List ℕ} {o : OpenedAnswer} (h : Expands p G H o) where
   pub expands-number : Refusal p G H (o .refusal)
   expands-number = door-number (λ n e. ap (λ a. a .refusal) e) (λ k. k .0) h
 

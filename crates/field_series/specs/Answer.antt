@@ -5,7 +5,7 @@
 --   Opening p G H f                an accepted field, opened: what `with_series` asks
 --   nothing, refused n             zeros; the answer beside the refusal n
 --   Expands p G H o                the whole answer: refusals 1 to 8, then the opened field with its first 32 coefficients of r and w
--- In proofs/Answer.antt: `answer-one` and `expands-one`, two outcomes that meet it are equal; `expands-number`, `expands-holding`, what the number
+-- In proofs/Answer.antt: `answer-unique` and `expands-unique`, two outcomes that meet it are equal; `expands-number`, `expands-holding`, what the number
 -- beside the opened field says.
 use mathlib.Core.Path.{_≡_}
 use mathlib.Core.List.{List}
@@ -18,8 +18,8 @@ use Rattle.field_open.specs.declared.Field.{Field}
 use Rattle.field_open.specs.Opening as F
 use Rattle.field_roots.specs.SeriesOf.{SeriesOf}
 use Rattle.field_series.specs.Keeps.{Holding}
-use Rattle.field_series.specs.declared.Cubic.{Cubic}
-use Rattle.field_series.specs.declared.Expanded.{Expanded}
+use Rattle.field_series.specs.declared.OpenedField.{OpenedField}
+use Rattle.field_series.specs.declared.OpenedAnswer.{OpenedAnswer}
 
 pub record Fits (r w : List ℕ) : Type 0 where
   pub even : length w ≡ length r
@@ -39,15 +39,15 @@ module _ (p : ℕ) (G H r w r′ w′ : List ℕ) (n : ℕ) where
   abbrev pub Answer : Type 0
   Answer = Door p G H (Refused r w r′ w′ n) Goes
 
-abbrev pub nothing : Cubic
+abbrev pub nothing : OpenedField
 nothing = record { field = F.nothing; r = replicate 32 0; w = replicate 32 0 }
 
-abbrev pub refused : ℕ → Expanded
+abbrev pub refused : ℕ → OpenedAnswer
 refused n = record { refusal = n; cubic = nothing }
 
 pub record Opening (p : ℕ) (G H : List ℕ) (f : Field) : Type 0 where
   pub accepted : Accepted p G H
   pub held : F.Held p G H f
 
-abbrev pub Expands : ℕ → List ℕ → List ℕ → Expanded → Type 0
+abbrev pub Expands : ℕ → List ℕ → List ℕ → OpenedAnswer → Type 0
 Expands p G H o = Door p G H (λ n. o ≡ refused n) ((o .refusal ≡ 0) × Holding p G H (o .cubic))

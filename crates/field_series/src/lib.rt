@@ -6,16 +6,16 @@ ghost use Rattle.field_series.specs.Keeps.{Holding};
 ghost use Rattle.field_series.specs.Answer.{Answer, Opening, Expands, nothing};
 
 // An opened field with the first 32 coefficients of r and of w, highest power first.
-pub struct Cubic {
+pub struct OpenedField {
     pub field: field_open::Field,
     pub r: [u64; 32],
     pub w: [u64; 32],
 }
 
 // The number of the refusal beside it; with a refusal all else is zeros.
-pub struct Expanded {
+pub struct OpenedAnswer {
     pub refusal: u32,
-    pub cubic: Cubic,
+    pub cubic: OpenedField,
 }
 
 const LONGEST: usize = 4096;
@@ -44,14 +44,14 @@ fn widened(s: [u16; 32]) -> [u64; 32]
     let mut r: [u64; 32] = [0; 32];
     let mut i: usize = 0;
     while i < 32 {
-        r[i] = field_fill::wide(s[i]);
+        r[i] = base_lists::wide(s[i]);
         i += 1;
     }
     r
 }
 
 // The opened field f with the first 32 coefficients of r and w.
-fn with_series(p: u64, g: &[u64], h: &[u64], f: field_open::Field) -> Cubic
+fn with_series(p: u64, g: &[u64], h: &[u64], f: field_open::Field) -> OpenedField
     requires { ⌜ Opening p (now g) (now h) f ⌝ }
     ensures { λ c. ⌜ Holding p (now (g .entry)) (now (h .entry)) c ⌝ }
 {
@@ -60,7 +60,7 @@ fn with_series(p: u64, g: &[u64], h: &[u64], f: field_open::Field) -> Cubic
     field_fill::grow(p, g, h, &mut r, &mut w);
     let x = widened(r);
     let y = widened(w);
-    Cubic {
+    OpenedField {
         field: f,
         r: x,
         w: y,
@@ -68,12 +68,12 @@ fn with_series(p: u64, g: &[u64], h: &[u64], f: field_open::Field) -> Cubic
 }
 
 // The zeros beside a refusal; f is a field of zeros.
-fn no_cubic(f: field_open::Field) -> Cubic
+fn no_cubic(f: field_open::Field) -> OpenedField
     requires { ⌜ f ≡ F.nothing ⌝ }
     ensures { λ c. ⌜ c ≡ nothing ⌝ }
 {
     let z: [u64; 32] = [0; 32];
-    Cubic {
+    OpenedField {
         field: f,
         r: z,
         w: z,
@@ -81,7 +81,7 @@ fn no_cubic(f: field_open::Field) -> Cubic
 }
 
 // Opening with the first 32 coefficients of both series.
-pub fn open_with_series(p: u64, g: &[u64], h: &[u64]) -> Expanded
+pub fn open_with_series(p: u64, g: &[u64], h: &[u64]) -> OpenedAnswer
     ensures { λ o. ⌜ Expands p (now (g .entry)) (now (h .entry)) o ⌝ }
 {
     let o = field_open::open(p, g, h);
@@ -89,13 +89,13 @@ pub fn open_with_series(p: u64, g: &[u64], h: &[u64]) -> Expanded
     let f = o.field;
     if n != 0 {
         let z = no_cubic(f);
-        return Expanded {
+        return OpenedAnswer {
             refusal: n,
             cubic: z,
         };
     }
     let c = with_series(p, g, h, f);
-    Expanded {
+    OpenedAnswer {
         refusal: 0,
         cubic: c,
     }

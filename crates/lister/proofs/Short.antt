@@ -16,7 +16,7 @@ use Rattle.math_rows.proofs.Tab.{length-tab, at-tab}
 use Rattle.field_open.proofs.Door.{door-out}
 use Rattle.door_unit.proofs.Once.{refused-number}
 use Rattle.base_lists.specs.Pieces.{cut}
-use Rattle.door_unit.specs.declared.Made.{Made}
+use Rattle.door_unit.specs.declared.UnitAnswer.{UnitAnswer}
 use Rattle.door_unit.specs.Unit.{Makes, Goes, bad, spent, narrow, made}
 use Rattle.base_lists.specs.Coefficients.{trim}
 use Rattle.lister_print.specs.Text.{rows-text, unit-text, made-text}
@@ -93,20 +93,20 @@ unit-short s l R E0 E1 E2 a b c d =
     omega arith
 
 -- ---- what `unit` answers
-record Fits (m : Made) (rows : List ℕ) : Type 0 where
+record Fits (m : UnitAnswer) (rows : List ℕ) : Type 0 where
   pub p : ℕ
   pub below : p < 100000
   pub period : m .period .0 ≤ 1000
   pub regulator : m .regulator .0 ≤ 1024
   pub each : (i : ℕ) → getD rows i 0 < p
 
-refused-made : (s : List ℕ) (m : Made) (rows : List ℕ) {n : ℕ} → m .refusal ≡ n → 1 ≤ n → n ≤ 14 → length (made-text s m rows) ≤ room
+refused-made : (s : List ℕ) (m : UnitAnswer) (rows : List ℕ) {n : ℕ} → m .refusal ≡ n → 1 ≤ n → n ≤ 14 → length (made-text s m rows) ≤ room
 refused-made s m rows {n} e a b =
     let o : m .refusal ≢ 0 = λ z. absurd (omega arith) in
     let h = refused-short (m .refusal) (omega arith) in
     subst (λ t. length t ≤ room) (sym (made-refused s m rows o)) (omega arith)
 
-unit-made : (s : List ℕ) (m : Made) (rows : List ℕ) → m .refusal ≡ 0 → length s ≤ 255 → Fits m rows → length (made-text s m rows) ≤ room
+unit-made : (s : List ℕ) (m : UnitAnswer) (rows : List ℕ) → m .refusal ≡ 0 → length s ≤ 255 → Fits m rows → length (made-text s m rows) ≤ room
 unit-made s m rows e l f =
     let E0 = trim (cut 0 1024 rows) in
     let E1 = trim (cut 1024 1024 rows) in
@@ -117,7 +117,7 @@ unit-made s m rows e l f =
     let h = unit-short s (m .period .0) (m .regulator .0) E0 E1 E2 l (omega arith) (omega arith) r in
     subst (λ t. length t ≤ room) (sym (made-unit s m rows e)) (omega arith)
 
-goes-short : (s : List ℕ) (p : ℕ) (G H : List ℕ) (m : Made) (rows scratch : List ℕ) → p < 100000 → length s ≤ 255 → Goes p G H budget blank blank m rows scratch → length (made-text s m rows) ≤ room
+goes-short : (s : List ℕ) (p : ℕ) (G H : List ℕ) (m : UnitAnswer) (rows scratch : List ℕ) → p < 100000 → length s ≤ 255 → Goes p G H budget blank blank m rows scratch → length (made-text s m rows) ≤ room
 goes-short s p G H m rows scratch b l (bad a x) = refused-made s m rows (refused-number x) (omega arith) (omega arith)
 goes-short s p G H m rows scratch b l (spent c t o x) = refused-made s m rows (refused-number x) (omega arith) (omega arith)
 goes-short s p G H m rows scratch b l (narrow c n d t u f k x) = refused-made s m rows (refused-number x) (omega arith) (omega arith)
@@ -127,7 +127,7 @@ goes-short s p G H m rows scratch b l (made c n d t u f k x) =
     let q : m .period .0 ≡ n = x .period in
     unit-made s m rows (x .number) l (record { p = p; below = b; period = omega arith; regulator = omega arith; each = x .rows-hold .each })
 
-makes-short : (s : List ℕ) (p : ℕ) (G H : List ℕ) (m : Made) (rows scratch : List ℕ) → p < 100000 → length s ≤ 255 → Makes p G H budget blank blank m rows scratch
+makes-short : (s : List ℕ) (p : ℕ) (G H : List ℕ) (m : UnitAnswer) (rows scratch : List ℕ) → p < 100000 → length s ≤ 255 → Makes p G H budget blank blank m rows scratch
     → length (made-text s m rows) ≤ room
 makes-short s p G H m rows scratch b l =
     door-out (λ k f h x. refused-made s m rows (refused-number x) (omega arith) (omega arith)) (λ A. goes-short s p G H m rows scratch b l)

@@ -7,7 +7,7 @@
 --   Steps k s d g r k' d'    one step through a piece s of the input, with the pending bytes in k and the output in d: from g to r
 --   Way k s d g i r k' d'    i steps, each from a place of d that leaves `room` bytes
 --   Passes k s d g r k' d'   such steps up to the end of s, or until less than `room` bytes of d are left
--- Theorems: proofs/Once: `lists-one`, `answer-one`, one answer to a line; `passes-one`, one outcome of the steps; `output-one`, one output
+-- Theorems: proofs/Once: `lists-unique`, `answer-unique`, one answer to a line; `passes-unique`, one outcome of the steps; `output-unique`, one output
 -- to an input. proofs/Short: `lists-short`, an answer has at most `room` bytes. proofs/Paces: `passes-pace`, the lines met are answered
 -- in order, each answer whole. That they are the lines of the input, whatever the pieces: `fed-lines` and `fed-output` of crate text_cut.
 use mathlib.Core.Path.{_≡_}
@@ -21,7 +21,7 @@ use Rattle.text_cut.specs.Tells.{CutTells}
 use Rattle.text_cut.specs.declared.Step.{Step}
 use Rattle.text_cut.specs.declared.Step.the-variants.{Whole, Broken, Pending}
 use Rattle.text_read.specs.Grammar.{Reads}
-use Rattle.door_unit.specs.declared.Made.{Made}
+use Rattle.door_unit.specs.declared.UnitAnswer.{UnitAnswer}
 use Rattle.door_unit.specs.Unit.{Makes}
 use Rattle.lister_print.specs.Text.{made-text}
 use Rattle.lister.specs.declared.Going.{Going}
@@ -38,12 +38,12 @@ blank = replicate slots 0
 
 pub data Lists (line : List ℕ) : List ℕ → Type 0 where
   malformed : ((p : ℕ) (G H : List ℕ) → Reads line p G H → ⊥) → Lists line (refused-text 12)
-  read : (p : ℕ) (G H : List ℕ) (m : Made) (rows scratch : List ℕ) → Reads line p G H → Makes p G H budget blank blank m rows scratch
+  read : (p : ℕ) (G H : List ℕ) (m : UnitAnswer) (rows scratch : List ℕ) → Reads line p G H → Makes p G H budget blank blank m rows scratch
       → Lists line (made-text (line-text p G H) m rows)
 
 -- the answer to a line s that reads as p, G, H
 pub record Told (s : List ℕ) (p : ℕ) (G H d : List ℕ) (at r : ℕ) (d' : List ℕ) : Type 0 where
-  pub m : Made
+  pub m : UnitAnswer
   pub rows : List ℕ
   pub scratch : List ℕ
   pub makes : Makes p G H budget blank blank m rows scratch

@@ -46,7 +46,7 @@ fn step(kept: &mut [u8], s: &[u8], out: &mut [u8], g: Going) -> Going
     let at = g.at;
     let n = g.n;
     let to = g.to;
-    let c = text_cut::cut(kept, n, s, at);
+    let c = text_cut::next_line(kept, n, s, at);
     match c {
         Step::Whole(m, next) => {
             let w = answer(&kept[..m], out, to);

@@ -14,7 +14,7 @@ use Rattle.base_lists.proofs.Puts.{placed-none, put-then}
 use Rattle.text_cut.specs.Feed.{end-text}
 use Rattle.math_rows.specs.Row.{Size}
 use Rattle.base_lists.proofs.Pieces.{between-cut}
-use Rattle.door_unit.specs.declared.Made.{Made}
+use Rattle.door_unit.specs.declared.UnitAnswer.{UnitAnswer}
 use Rattle.base_lists.specs.Coefficients.{trim}
 use Rattle.lister_print.specs.Text.{rows-text, unit-text, told, made-text}
 use Rattle.base_lists.proofs.Trims.{trim-size}
@@ -52,22 +52,22 @@ unfolding told
 told-some zero t h = absurd (h refl)
 told-some (suc n) t h = refl
 
-pub made-unit : (s : List ℕ) (m : Made) (rows : List ℕ) → m .refusal ≡ 0
+pub made-unit : (s : List ℕ) (m : UnitAnswer) (rows : List ℕ) → m .refusal ≡ 0
     → made-text s m rows ≡ unit-text s (m .period .0) (m .regulator .0) (trim (cut 0 1024 rows)) (trim (cut 1024 1024 rows)) (trim (cut 2048 1024 rows))
 unfolding made-text
 made-unit s m rows e =
     told-none (m .refusal) (unit-text s (m .period .0) (m .regulator .0) (trim (cut 0 1024 rows)) (trim (cut 1024 1024 rows)) (trim (cut 2048 1024 rows))) e
 
-pub made-refused : (s : List ℕ) (m : Made) (rows : List ℕ) → m .refusal ≢ 0 → made-text s m rows ≡ refused-text (m .refusal)
+pub made-refused : (s : List ℕ) (m : UnitAnswer) (rows : List ℕ) → m .refusal ≢ 0 → made-text s m rows ≡ refused-text (m .refusal)
 unfolding made-text
 made-refused s m rows h =
     told-some (m .refusal) (unit-text s (m .period .0) (m .regulator .0) (trim (cut 0 1024 rows)) (trim (cut 1024 1024 rows)) (trim (cut 2048 1024 rows))) h
 
-pub refusal-put : (s : List ℕ) (m : Made) (rows : List ℕ) {d : List ℕ} {at r : ℕ} {d' : List ℕ} → m .refusal ≢ 0 → Put d at (refused-text (m .refusal)) r d'
+pub refusal-put : (s : List ℕ) (m : UnitAnswer) (rows : List ℕ) {d : List ℕ} {at r : ℕ} {d' : List ℕ} → m .refusal ≢ 0 → Put d at (refused-text (m .refusal)) r d'
     → Put d at (made-text s m rows) r d'
 refusal-put s m rows {d} {at} {r} {d'} h a = subst (λ (x : List ℕ). Put d at x r d') (sym (made-refused s m rows h)) a
 
-module _ (s : List ℕ) (m : Made) (rows d : List ℕ) (at r₁ : ℕ) (d₁ : List ℕ) (r₂ : ℕ) (d₂ : List ℕ) (r₃ : ℕ) (d₃ : List ℕ) (r₄ : ℕ) (d₄ : List ℕ) (z : m .refusal ≡ 0) where
+module _ (s : List ℕ) (m : UnitAnswer) (rows d : List ℕ) (at r₁ : ℕ) (d₁ : List ℕ) (r₂ : ℕ) (d₂ : List ℕ) (r₃ : ℕ) (d₃ : List ℕ) (r₄ : ℕ) (d₄ : List ℕ) (z : m .refusal ≡ 0) where
   pub unit-put : Put d at s r₁ d₁ → Put d₁ r₁ (semicolon ∷ number-text (m .period .0)) r₂ d₂ → Put d₂ r₂ (semicolon ∷ number-text (m .regulator .0)) r₃ d₃
       → Put d₃ r₃ (rows-text (trim (cut 0 1024 rows)) (trim (cut 1024 1024 rows)) (trim (cut 2048 1024 rows))) r₄ d₄ → Put d at (made-text s m rows) r₄ d₄
   unfolding unit-text

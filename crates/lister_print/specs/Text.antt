@@ -12,7 +12,7 @@ use Rattle.base_lists.specs.Pieces.{Put, cut}
 use Rattle.text_put.specs.Print.{semicolon, newline, number-text, list-text, refused-text}
 use Rattle.base_lists.specs.Coefficients.{trim}
 use Rattle.text_cut.specs.Feed.{end-text}
-use Rattle.door_unit.specs.declared.Made.{Made}
+use Rattle.door_unit.specs.declared.UnitAnswer.{UnitAnswer}
 
 -- "c = 1,024"
 abbrev pub width : ℕ
@@ -29,7 +29,7 @@ unfoldable pub told : ℕ → List ℕ → List ℕ
 told zero t = t
 told (suc n) t = refused-text (suc n)
 
-unfoldable pub made-text : List ℕ → Made → List ℕ → List ℕ
+unfoldable pub made-text : List ℕ → UnitAnswer → List ℕ → List ℕ
 made-text s m rows =
     told (m .refusal) (unit-text s (m .period .0) (m .regulator .0) (trim (cut 0 width rows)) (trim (cut 1024 width rows)) (trim (cut 2048 width rows)))
 

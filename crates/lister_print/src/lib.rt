@@ -6,7 +6,7 @@ ghost use Rattle.base_lists.specs.Pieces.{Put, cut};
 ghost use Rattle.text_put.specs.Print.{semicolon, number-text, list-text};
 ghost use Rattle.base_lists.specs.Coefficients.{trim};
 ghost use Rattle.lister_print.specs.Text.{rows-text, made-text, Ends};
-use door_unit::Made;
+use door_unit::UnitAnswer;
 
 // A field of the answer that is a number.
 fn put_count(out: &mut [u8], at: usize, n: u64) -> usize
@@ -37,7 +37,7 @@ fn put_rows(out: &mut [u8], at: usize, rows: &[u16]) -> usize
 }
 
 // What `unit` answered, printed behind the line.
-pub fn put_made(out: &mut [u8], at: usize, line: &[u8], m: Made, rows: &[u16; 6144]) -> usize
+pub fn put_made(out: &mut [u8], at: usize, line: &[u8], m: UnitAnswer, rows: &[u16; 6144]) -> usize
     ensures { λ r. ⌜ Put (now (out .entry)) at (made-text (now (line .entry)) m (now (rows .entry))) r (now (out .exit)) ⌝ }
 {
     let refusal = m.refusal;

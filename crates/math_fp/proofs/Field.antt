@@ -1,5 +1,5 @@
 -- The integers mod a prime are a field.
---   prime-one     two proofs that p is prime are one
+--   prime-unique     two proofs that p is prime are one
 --   Fld p         the ring, at a prime
 --   inverse       what is not 0 has an inverse: inv a = − (p / a) · inv (p mod a)
 --   cancel-zero   no zero divisors
@@ -19,8 +19,8 @@ use Rattle.math_ring.proofs.Solve.{var, one, zer, minus, _:+_, _:*_, hyp, solve
 use Rattle.math_fp.specs.Fp.{F, cls, Prime}
 use Rattle.math_fp.proofs.Ring.{F-path, ring, cls-add, cls-mul, cls-p, cls-val}
 
-pub prime-one : {p : ℕ} (a b : Prime p) → a ≡ b
-prime-one {p} a b = λ i. record { big = le-prop {n = suc 1} {m = p} (a .big) (b .big) i; only = λ d h l z. ⊥-prop (a .only d h l z) (b .only d h l z) i }
+pub prime-unique : {p : ℕ} (a b : Prime p) → a ≡ b
+prime-unique {p} a b = λ i. record { big = le-prop {n = suc 1} {m = p} (a .big) (b .big) i; only = λ d h l z. ⊥-prop (a .only d h l z) (b .only d h l z) i }
 
 module _ (p : ℕ) (pr : Prime p) where
   abbrev pub ppos : 0 < p

@@ -1,8 +1,8 @@
 -- The field's facts read at numbers, in the words of the code's contracts.
 --   turn-even, turn-odd      one turn of a power by squaring
 --   inverse-value            a^(p − 2) is an inverse of a mod p
---   inverse-only             an inverse below p is one
---   root-value, root-only    a^((2p − 1)/3) is the one cube root of a below p, where p mod 3 = 2
+--   inverse-mod-unique             an inverse below p is one
+--   root-value, root-mod-unique    a^((2p − 1)/3) is the one cube root of a below p, where p mod 3 = 2
 use mathlib.Core.Path.{_≡_, refl, sym, ap, _∙_}
 use Prim.Native.Nat.{ℕ, suc, _+_, _*_, _-_, _%_, _^_, _<_}
 use native.Mathlib.Nat.{mod-eq-of-lt, mod-lt, mod-mod, mul-one, mul-comm, mul-assoc, pow-suc}
@@ -68,8 +68,8 @@ module _ (p : ℕ) (pr : Prime p) (a : ℕ) (l : a < p) where
       ∙ ap (λ (y : F p). y .0) (fermat-inverse p pr x (λ e. let z : a ≡ 0 = ap (λ (y : F p). y .0) e ∙ mod-eq-of-lt (ppos p pr) in omega arith))
       ∙ mod-eq-of-lt (pr .big)
 
-  pub inverse-only : (r s : ℕ) → r < p → s < p → (a * r) % p ≡ 1 → (a * s) % p ≡ 1 → r ≡ s
-  inverse-only r s h k e f =
+  pub inverse-mod-unique : (r s : ℕ) → r < p → s < p → (a * r) % p ≡ 1 → (a * s) % p ≡ 1 → r ≡ s
+  inverse-mod-unique r s h k e f =
       sym (mod-eq-of-lt h)
       ∙ ap (λ n. n % p) (sym (mul-one r))
       ∙ ap (λ n. (r * n) % p) (sym f)
@@ -88,9 +88,9 @@ module _ (p : ℕ) (pr : Prime p) (a : ℕ) (l : a < p) where
         ∙ ap (λ n. ((n * n) % p * n) % p) (e ∙ ap (λ (y : F p). y .0) (sym (value (third p))))
         ∙ ap (λ (y : F p). y .0) (cube-root p pr m x)
 
-    pub root-only : (r : ℕ) → r < p → (r * r * r) % p ≡ a → r ≡ powMod p a (third p)
+    pub root-mod-unique : (r : ℕ) → r < p → (r * r * r) % p ≡ a → r ≡ powMod p a (third p)
     unfolding powMod
-    root-only r h e =
+    root-mod-unique r h e =
         ap (λ (y : F p). y .0)
         (sym (root-cube p pr m (r, h))
         ∙ ap (λ t. pow (Fld p pr) t (third p)) (F-path (mod-mul-mod (r * r) r p ∙ e))

@@ -1,6 +1,6 @@
 -- There is one smallest unit.
---   least-one       the least positive degree is one
---   smallest-one    so is the smallest unit of positive degree with E0 monic
+--   least-unique       the least positive degree is one
+--   smallest-unique    so is the smallest unit of positive degree with E0 monic
 --   constant-norm   an element of constant norm and of the least degree is a constant times it
 use mathlib.Core.Path.{_≡_, sym, ap, _∙_, subst}
 use Prim.Native.Nat.{ℕ, suc, _≤_, _<_}
@@ -31,15 +31,15 @@ module _ (S : Setting) where
   least-same : {c n : ℕ} {E E′ : O S .El} → Least S E c → Least S E′ n → c ≡ n
   least-same a b = let l = least-most a b in let k = least-most b a in omega arith
 
-  pub least-one : (c n : ℕ) → LeastDegree S c → LeastDegree S n → c ≡ n
-  least-one c n (E, a) (E′, b) = least-same a b
+  pub least-unique : (c n : ℕ) → LeastDegree S c → LeastDegree S n → c ≡ n
+  least-unique c n (E, a) (E′, b) = least-same a b
 
   pub constant-norm : {n : ℕ} {E : O S .El} → Least S E n → (x : O S .El) → IsUnit 𝓥 (norm S x) → Has 𝓥 (ev S x) n → (c : P S) × IsUnit 𝓥 c × (x ≡ sc S c ⊗ E)
   constant-norm {E = E} k x u h = same-degree S x E (norm-invertible S x u) (k .unit) h (k .degree)
 
   -- E = c E′, and both E0 are monic
-  pub smallest-one : {c n : ℕ} {E E′ : O S .El} → Smallest S E c → Smallest S E′ n → (c ≡ n) × (E ≡ E′)
-  smallest-one {c} {n} {E} {E′} a b =
+  pub smallest-unique : {c n : ℕ} {E E′ : O S .El} → Smallest S E c → Smallest S E′ n → (c ≡ n) × (E ≡ E′)
+  smallest-unique {c} {n} {E} {E′} a b =
       let e : c ≡ n = least-same (a .least) (b .least) in
       let (s, u, f) = same-degree S E E′ (a .least .unit) (b .least .unit) (subst (λ m. Has 𝓥 (ev S E) m) e (a .least .degree)) (b .least .degree) in
       let one : 1ₚ ≡ polys 𝓥 .ops .mul 1ₚ 1ₚ = sym (polys 𝓥 .laws .mul-one 1ₚ) in

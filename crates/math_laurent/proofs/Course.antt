@@ -1,7 +1,7 @@
 -- Course-of-values recursion.
 --   course-at     course n = Φ n course
 --   course-upto   what obeys g n = Φ n g at every place before N agrees with it before N: what a loop that fills an array shows
---   course-only   what obeys it everywhere is it
+--   course-unique   what obeys it everywhere is it
 use mathlib.Core.Path.{_≡_, sym, _∙_, ap, fun-ext}
 use Prim.Native.Nat.{ℕ, zero, suc, _<_}
 use native.Mathlib.Decide.{decLt}
@@ -29,5 +29,5 @@ module _ {A : Type 0} (a : A) (Φ : ℕ → (ℕ → A) → A) where
         let ih : (j : ℕ) → j < N → g j ≡ course a Φ j = course-upto N g (λ n m. h n (omega arith)) in
         h i l ∙ local i g (course a Φ) (λ j m. ih j (omega arith)) ∙ sym (course-at i)
 
-    pub course-only : (g : ℕ → A) → ((n : ℕ) → g n ≡ Φ n g) → g ≡ course a Φ
-    course-only g h = fun-ext (λ i. course-upto (suc i) g (λ n l. h n) i (omega arith))
+    pub course-unique : (g : ℕ → A) → ((n : ℕ) → g n ≡ Φ n g) → g ≡ course a Φ
+    course-unique g h = fun-ext (λ i. course-upto (suc i) g (λ n l. h n) i (omega arith))

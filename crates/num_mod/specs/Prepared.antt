@@ -5,8 +5,8 @@
 --                     (`bare` in proofs/Prepared.antt: its number is a modulus)
 --   ready p           the modulus p with what goes with it
 --   PreparedOf p q    q is ready p, and prepared
---   OnceIn p v        v is below 2 p, so that one subtraction finds the remainder
---   AddIn, Added      s + x y up to a multiple of p, below 2^63 before and after
+--   ReduceOnceAsks p v        v is below 2 p, so that one subtraction finds the remainder
+--   AddProductAsks, Added      s + x y up to a multiple of p, below 2^63 before and after
 use mathlib.Core.Path.{_≡_}
 use Prim.Native.Nat.{ℕ, _+_, _*_, _/_, _%_, _<_, _≤_}
 use native.Mathlib.Decide.{decLt}
@@ -40,11 +40,11 @@ pub record PreparedOf (p : ℕ) (q : Modulus) : Type 0 where
   pub same : q ≡ ready p
   pub prepared : Prepared q
 
-pub record OnceIn (p v : ℕ) : Type 0 where
+pub record ReduceOnceAsks (p v : ℕ) : Type 0 where
   pub modulus : IsModulus p
   pub low : v < p + p
 
-pub record AddIn (p s x y : ℕ) : Type 0 where
+pub record AddProductAsks (p s x y : ℕ) : Type 0 where
   pub modulus : IsModulus p
   pub low : s < 9223372036854775808
   pub hx : x < p

@@ -6,7 +6,7 @@
 --   Rooted p a       a prime modulus with p mod 3 = 2, and a number below it
 --   Inverse p a r    r is the number below p with a r = 1 mod p
 --   CubeRoot p a r   r is the number below p with r³ = a mod p
--- There is one such number: `inverse-one` and `cube-root-one` in proofs/Unique.antt. That the remainders are the operations of the
+-- There is one such number: `inverse-unique` and `cube-root-unique` in proofs/Unique.antt. That the remainders are the operations of the
 -- field of p elements is by definition: crate math_fp.
 use mathlib.Core.Path.{_≡_}
 use Prim.Native.Nat.{ℕ, _*_, _%_, _<_}

@@ -4,7 +4,7 @@ ghost use mathlib.Core.Path.{_≡_};
 ghost use Prim.Native.Nat.{_+_, _*_, _-_, _%_, _<_, _≤_};
 ghost use Rattle.math_fp.specs.Fp.{powMod};
 ghost use Rattle.num_mod.specs.Residue.{IsModulus, One, Two, Nonzero, Rooted, Inverse, CubeRoot};
-ghost use Rattle.num_mod.specs.Prepared.{Scale, Quick, Prepared, PreparedOf, OnceIn, AddIn, Added};
+ghost use Rattle.num_mod.specs.Prepared.{Scale, Quick, Prepared, PreparedOf, ReduceOnceAsks, AddProductAsks, Added};
 
 // A modulus p with what its remainders need: below lim, one multiplication by m finds a remainder.
 pub struct Modulus {
@@ -58,7 +58,7 @@ pub fn reduce(q: Modulus, x: u64) -> u64
 
 // v mod p, for v below 2 p
 pub fn reduce_once(p: u64, v: u64) -> u64
-    requires { ⌜ OnceIn p v ⌝ }
+    requires { ⌜ ReduceOnceAsks p v ⌝ }
     ensures { λ r. ⌜ r ≡ v % p ⌝ }
 {
     if v < p { v } else { v - p }
@@ -66,7 +66,7 @@ pub fn reduce_once(p: u64, v: u64) -> u64
 
 // s + x y up to a multiple of p, kept below 2^63.
 pub fn add_product(p: u64, s: u64, x: u64, y: u64) -> u64
-    requires { ⌜ AddIn p s x y ⌝ }
+    requires { ⌜ AddProductAsks p s x y ⌝ }
     ensures { λ r. ⌜ Added p s x y r ⌝ }
 {
     let v = s + x * y;

@@ -12,19 +12,19 @@ use mir.Syntax.{w64}
 use mir.Val.{Fits}
 use lib.ListN.{length, getD}
 use Rattle.pair_agree.specs.OneField.{leading, Agree}
-use Rattle.pair_agree.specs.Answer.{AgreeIn}
+use Rattle.pair_agree.specs.Answer.{AgreeAsks}
 use Rattle.pair_agree.proofs.Lists.{cross-from, cross-of, agree-of}
 
-pub swap-in : {p : ℕ} {a b : List ℕ} → AgreeIn p a b → AgreeIn p b a
+pub swap-in : {p : ℕ} {a b : List ℕ} → AgreeAsks p a b → AgreeAsks p b a
 swap-in s = record { prime = s .prime; small = s .small; d = s .d′; d′ = s .d; list = s .list′; list′ = s .list }
 
-pub some-in : {p : ℕ} {a b : List ℕ} → AgreeIn p a b → 1 ≤ length a
+pub some-in : {p : ℕ} {a b : List ℕ} → AgreeAsks p a b → 1 ≤ length a
 some-in {a} s = let e : length a ≡ suc (s .d) = s .list .whole in omega arith
 
-entry-in : {p : ℕ} {a b : List ℕ} → AgreeIn p a b → (i : ℕ) → i < length a → getD a i 0 ≤ 65535
+entry-in : {p : ℕ} {a b : List ℕ} → AgreeAsks p a b → (i : ℕ) → i < length a → getD a i 0 ≤ 65535
 entry-in s i k = omega (arith, s .list .each i k, s .small)
 
-pub entries-in : {p : ℕ} {a b : List ℕ} → AgreeIn p a b → length a ≡ length b → (i : ℕ) → i < length a →
+pub entries-in : {p : ℕ} {a b : List ℕ} → AgreeAsks p a b → length a ≡ length b → (i : ℕ) → i < length a →
     (getD a (length a - 1) 0 ≤ 65535) × (getD b (length a - 1) 0 ≤ 65535) × (getD a i 0 ≤ 65535) × (getD b i 0 ≤ 65535)
 entries-in {a} s e i k = let t = length a - 1 in (entry-in s t (omega arith), entry-in (swap-in s) t (omega arith), entry-in s i k, entry-in (swap-in s) i (omega arith))
 
@@ -35,7 +35,7 @@ pub long-no : {p : ℕ} {a b : List ℕ} → length a ≢ length b → Agree p a
 long-no ne (m, f, g) = ne (sym (f .long) ∙ g .long)
 
 -- n is the length of both, as the code has it
-module _ {p : ℕ} {a b : List ℕ} (s : AgreeIn p a b) (e : length a ≡ length b) where
+module _ {p : ℕ} {a b : List ℕ} (s : AgreeAsks p a b) (e : length a ≡ length b) where
   abbrev Even : ℕ → Type 0
   Even i = (getD b (length a - 1) 0 * getD a i 0) % p ≡ (getD a (length a - 1) 0 * getD b i 0) % p
 

@@ -1,6 +1,6 @@
 -- The law of the factors, in the field of p elements.
 --   law-of      from its two equations there; `cubes`, `squares`: the equations
---   law-one     the leading coefficients settle the factors
+--   law-unique     the leading coefficients settle the factors
 --   law-swap    the factors of H, G and H′, G′ are those of G, H and G′, H′, exchanged
 --   law-back    the factors there times the factors back are 1
 use mathlib.Core.Path.{_≡_, sym, ap, ap₂, _∙_}
@@ -84,9 +84,9 @@ module _ (p : ℕ) (pr : Prime p) where
       squares = sym (ρ .cast-mul y h) ∙ same-cast ρ _ _ (w .square) ∙ square-cast
 
   -- x³ = g h²/(g′ h′²), and p mod 3 = 2
-  pub law-one : p % 3 ≡ 2 → {x y x′ y′ g h g′ h′ : ℕ} → cast g′ ≢ 0ᵏ → cast h′ ≢ 0ᵏ → cast h ≢ 0ᵏ →
+  pub law-unique : p % 3 ≡ 2 → {x y x′ y′ g h g′ h′ : ℕ} → cast g′ ≢ 0ᵏ → cast h′ ≢ 0ᵏ → cast h ≢ 0ᵏ →
       Law p x y g h g′ h′ → Law p x′ y′ g h g′ h′ → (x ≡ x′) × (y ≡ y′)
-  law-one kind {x} {y} {x′} {y′} {g} {h} {g′} {h′} ng nh ne a b = (same-x, same-y)
+  law-unique kind {x} {y} {x′} {y′} {g} {h} {g′} {h′} ng nh ne a b = (same-x, same-y)
     where
       same-x : x ≡ x′
       same-x = cast-inj ρ x x′ (a .x-below) (b .x-below) (cube-inj ρ pr kind (cast x) (cast x′)

@@ -1,5 +1,5 @@
 -- To be of one field is an equivalence on pairs of lists of coefficients.
---   monic-one   a list is made monic in one way
+--   monic-unique   a list is made monic in one way
 --   agree-refl, agree-trans
 --   one-refl, one-sym, one-trans   equal pairs are of one field; in either order; and with a third
 --   apart-lists   the two lists of an accepted pair never agree: the one would divide the other
@@ -34,13 +34,13 @@ module _ (p : ℕ) (pr : Prime p) where
 
   open Reading ρ using (𝓥, cast)
 
-  pub monic-one : {l m m′ : List ℕ} {n : ℕ} → Degree p l n → Monic p l m → Monic p l m′ → m ≡ m′
-  monic-one {l} {m} {m′} h a b = ext-getD 0 m m′ (a .long ∙ sym (b .long)) (λ i k. cast-inj ρ (getD m i 0) (getD m′ i 0) (a .below i) (b .below i)
+  pub monic-unique : {l m m′ : List ℕ} {n : ℕ} → Degree p l n → Monic p l m → Monic p l m′ → m ≡ m′
+  monic-unique {l} {m} {m′} h a b = ext-getD 0 m m′ (a .long ∙ sym (b .long)) (λ i k. cast-inj ρ (getD m i 0) (getD m′ i 0) (a .below i) (b .below i)
       (k-cancel 𝓥 (cast (leading l)) (cast (getD m i 0)) (cast (getD m′ i 0)) (leading-not p pr h)
       (sym (ρ .cast-mul (leading l) (getD m i 0)) ∙ same-cast ρ _ _ (a .times i ∙ sym (b .times i)) ∙ ρ .cast-mul (leading l) (getD m′ i 0))))
 
   pub agree-trans : {l l′ l″ : List ℕ} {n : ℕ} → Degree p l′ n → Agree p l l′ → Agree p l′ l″ → Agree p l l″
-  agree-trans {l″ = l″} h (m, a, b) (m′, c, d) = (m, a, subst (λ z. Monic p l″ z) (sym (monic-one h b c)) d)
+  agree-trans {l″ = l″} h (m, a, b) (m′, c, d) = (m, a, subst (λ z. Monic p l″ z) (sym (monic-unique h b c)) d)
 
   pub agree-refl : {l : List ℕ} {n : ℕ} → Degree p l n → Agree p l l
   agree-refl {l} h = agree-of p pr h l (record { long = refl; cross = λ i. refl })

@@ -1,8 +1,8 @@
 -- What the functions ask and answer.
---   AgreeIn p l l′            two lists of coefficients over one prime
+--   AgreeAsks p l l′            two lists of coefficients over one prime
 --   Both p G H G′ H′          two accepted pairs over one p
 --   Pairs p G H G′ H′ k       k is the order in which the pairs agree: straight, swapped, or apart, that is, not at all
--- In proofs/Once.antt: `pairs-one`, two outcomes that meet it are equal.
+-- In proofs/Once.antt: `pairs-unique`, two outcomes that meet it are equal.
 use mathlib.Core.List.{List}
 use Prim.Native.Nat.{ℕ, _<_}
 use Rattle.math_fp.specs.Fp.{Prime}
@@ -11,7 +11,7 @@ use Rattle.pair_agree.specs.OneField.{Agree, OneField}
 use Rattle.pair_agree.specs.declared.Pairing.{Pairing}
 use Rattle.pair_agree.specs.declared.Pairing.the-variants.{Straight, Swapped, Apart}
 
-pub record AgreeIn (p : ℕ) (l l′ : List ℕ) : Type 0 where
+pub record AgreeAsks (p : ℕ) (l l′ : List ℕ) : Type 0 where
   pub prime : Prime p
   pub small : p < 65536
   pub d : ℕ

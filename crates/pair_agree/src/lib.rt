@@ -1,7 +1,7 @@
 // Two accepted pairs of lists over one p: whether they are of one field. The door, which refuses, is crate door_compare.
 ghost use Rattle.base_answers.specs.Decides.{Decides};
 ghost use Rattle.pair_agree.specs.OneField.{Agree, OneField};
-ghost use Rattle.pair_agree.specs.Answer.{AgreeIn, Both, Pairs};
+ghost use Rattle.pair_agree.specs.Answer.{AgreeAsks, Both, Pairs};
 
 // The order in which two pairs agree after all lists are made monic.
 pub enum Pairing {
@@ -12,7 +12,7 @@ pub enum Pairing {
 
 // Do two lists agree after both are made monic? Each is multiplied by the other's leading coefficient, so that no inverse is needed.
 fn agree(p: u64, a: &[u64], b: &[u64]) -> bool
-    requires { ⌜ AgreeIn p (now a) (now b) ⌝ }
+    requires { ⌜ AgreeAsks p (now a) (now b) ⌝ }
     ensures { λ r. ⌜ Decides r (Agree p (now (a .entry)) (now (b .entry))) ⌝ }
 {
     let n = a.len();

@@ -9,10 +9,10 @@ use Prim.Native.Nat.{ℕ, _*_, _≤_}
 use native.Mathlib.Omega.{arith}
 use lib.ListN.{length, replicate}
 use Rattle.field_open.specs.Refusal.{Accepted}
-use Rattle.door_unit.specs.declared.Made.{Made}
+use Rattle.door_unit.specs.declared.UnitAnswer.{UnitAnswer}
 use Rattle.door_unit.specs.Unit.{Lent, Refused, Goes, bad, spent, narrow, made, Makes}
 use Rattle.base_answers.specs.Limits.{longest}
-use Rattle.door_unit.proofs.Once.{makes-one}
+use Rattle.door_unit.proofs.Once.{makes-unique}
 use Rattle.pair_agree.specs.OneField.{OneField, Coefficients}
 use Rattle.pair_agree.specs.Rows.{RowsCarry}
 use Rattle.pair_answers.specs.Alike.{MadeSame}
@@ -28,7 +28,7 @@ pub record Rows (p : ℕ) (G H G′ H′ : List ℕ) (r r′ : List ℕ) : Type 
   pub carries : RowsCarry p G H G′ H′ c r r′
 
 -- v with some slices is an answer, and after success the first slice is r carried over
-pub record MadeOver (p : ℕ) (G H G′ H′ : List ℕ) (v : Made) (r : List ℕ) (Answer : List ℕ → List ℕ → Type 0) : Type 0 where
+pub record MadeOver (p : ℕ) (G H G′ H′ : List ℕ) (v : UnitAnswer) (r : List ℕ) (Answer : List ℕ → List ℕ → Type 0) : Type 0 where
   pub rows : List ℕ
   pub scratch : List ℕ
   pub answer : Answer rows scratch
@@ -41,7 +41,7 @@ module _ {n : ℕ} {x y x′ y′ : List ℕ} (ex : length x ≡ length x′) (e
   lent-back : {c : ℕ} → Lent c x′ y′ n → Lent c x y n
   lent-back t = record { room = t .room; whole = ex ∙ t .whole; even = ey ∙ t .even ∙ sym ex; budget = t .budget }
 
-module _ (p : ℕ) (G H G′ H′ : List ℕ) (n : ℕ) (x y x′ y′ : List ℕ) (ex : length x ≡ length x′) (ey : length y ≡ length y′) (v : Made) (r s : List ℕ) where
+module _ (p : ℕ) (G H G′ H′ : List ℕ) (n : ℕ) (x y x′ y′ : List ℕ) (ex : length x ≡ length x′) (ey : length y ≡ length y′) (v : UnitAnswer) (r s : List ℕ) where
   -- a refusal leaves both slices
   left : {a : ℕ} {Answer : List ℕ → List ℕ → Type 0} → a ≢ 0 → Refused a x y v r s → (Refused a x′ y′ v x′ y′ → Answer x′ y′)
       → MadeOver p G H G′ H′ v r Answer
@@ -84,16 +84,16 @@ module _ (p : ℕ) (G H G′ H′ : List ℕ) (n : ℕ) (x y x′ y′ : List �
 
 -- the same budget, slices of the same lengths
 module _ (p : ℕ) {G H G′ H′ : List ℕ} (cs : Coefficients p G H) (cs′ : Coefficients p G′ H′) (one : OneField p G H G′ H′)
-    (n : ℕ) (x y x′ y′ : List ℕ) (ex : length x ≡ length x′) (ey : length y ≡ length y′) (v w : Made) (r r′ s s′ : List ℕ) where
+    (n : ℕ) (x y x′ y′ : List ℕ) (ex : length x ≡ length x′) (ey : length y ≡ length y′) (v w : UnitAnswer) (r r′ s s′ : List ℕ) where
   pub made-rows : Makes p G H n x y v r s → Makes p G′ H′ n x′ y′ w r′ s′ → v .refusal ≡ 0 → Rows p G H G′ H′ r r′
   made-rows a b z =
       let o = makes-over p G H G′ H′ n x y x′ y′ ex ey v r s cs cs′ one a in
-      subst (Rows p G H G′ H′ r) (makes-one p G′ H′ n x′ y′ v w (o .rows) r′ (o .scratch) s′ (o .answer) b .rows-same) (o .carried z)
+      subst (Rows p G H G′ H′ r) (makes-unique p G′ H′ n x′ y′ v w (o .rows) r′ (o .scratch) s′ (o .answer) b .rows-same) (o .carried z)
 
   pub made-same : Makes p G H n x y v r s → Makes p G′ H′ n x′ y′ w r′ s′ → MadeSame p G H G′ H′ v w r r′
   made-same a b =
       let o = makes-over p G H G′ H′ n x y x′ y′ ex ey v r s cs cs′ one a in
-      let q = makes-one p G′ H′ n x′ y′ v w (o .rows) r′ (o .scratch) s′ (o .answer) b in
+      let q = makes-unique p G′ H′ n x′ y′ v w (o .rows) r′ (o .scratch) s′ (o .answer) b in
       record {
         number = q .number;
         period = q .period;

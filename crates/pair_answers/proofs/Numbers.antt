@@ -23,7 +23,7 @@ use Rattle.field_open.proofs.Accept.{degree-leads}
 use Rattle.pair_agree.specs.OneField.{leading}
 use Rattle.pair_agree.specs.Rows.{Law}
 use Rattle.pair_agree.proofs.Lists.{leading-at, leading-not}
-use Rattle.pair_agree.proofs.Laws.{law-of, law-one}
+use Rattle.pair_agree.proofs.Laws.{law-of, law-unique}
 use Rattle.pair_theory.specs.Carries.{Factors}
 
 module _ (p : ℕ) (pr : Prime p) where
@@ -122,5 +122,5 @@ module _ (p : ℕ) (pr : Prime p) where
 
     pub constants : p % 3 ≡ 2 → {x y : ℕ} → Law p x y (leading l) (leading m) (leading l′) (leading m′) → (f .x ≡ constant x) × (f .y ≡ constant y)
     constants kind h =
-        let (ex, ey) = law-one p pr kind (leading-not p pr hl′) (leading-not p pr hm′) (leading-not p pr hm) law h in
+        let (ex, ey) = law-unique p pr kind (leading-not p pr hl′) (leading-not p pr hm′) (leading-not p pr hm) law h in
         (kx .is ∙ ap constant ex, ky .is ∙ ap constant ey)

@@ -12,15 +12,15 @@ use Rattle.field_open.specs.Refusal.{Accepted}
 use Rattle.field_open.proofs.Stages.{numbered}
 use Rattle.field_open.proofs.Door.{door-refused, door-goes}
 use Rattle.basis_record.specs.Record.{IsRecord}
-use Rattle.door_basis.specs.declared.Ordered.{Ordered}
+use Rattle.door_basis.specs.declared.OrderAnswer.{OrderAnswer}
 use Rattle.door_basis.specs.Answer.{Orders}
-use Rattle.door_basis.proofs.Answer.{orders-one}
-use Rattle.door_step.specs.declared.Stepped.{Stepped}
+use Rattle.door_basis.proofs.Answer.{orders-unique}
+use Rattle.door_step.specs.declared.StepAnswer.{StepAnswer}
 use Rattle.door_step.specs.Answer as stepped
-use Rattle.door_step.proofs.Answers.{answers-one}
-use Rattle.walk_chain.specs.declared.Walked.{Walked}
+use Rattle.door_step.proofs.Answers.{answers-unique}
+use Rattle.walk_chain.specs.declared.WalkAnswer.{WalkAnswer}
 use Rattle.walk_chain.specs.Walk as walk
-use Rattle.walk_chain.proofs.Walk.{walks-one}
+use Rattle.walk_chain.proofs.Walk.{walks-unique}
 use Rattle.pair_agree.specs.OneField.{OneField, Coefficients}
 use Rattle.pair_answers.specs.Alike.{Counterpart, OrderSame, StepSame, WalkSame}
 use Rattle.pair_answers.proofs.Way.{Way, way, one-of, split}
@@ -32,11 +32,11 @@ module _ (p : ℕ) {G H G′ H′ : List ℕ} where
   counterpart : (w : Way p G H G′ H′) {B B′ : List ℕ} → IsRecord p G H B → Over w B B′ → Counterpart p G H G′ H′ B B′
   counterpart w r o = record { size = r .size; size′ = o .size; below = r .each; carries = record-in w (o .rows) }
 
-  pub order-same : Coefficients p G H → Coefficients p G′ H′ → OneField p G H G′ H′ → (v w : Ordered)
+  pub order-same : Coefficients p G H → Coefficients p G′ H′ → OneField p G H G′ H′ → (v w : OrderAnswer)
       → Orders p G H v → Orders p G′ H′ w → OrderSame p G H G′ H′ v w
-  order-same s s′ one v w a b = let (u, k, h) = order-over in subst (OrderSame p G H G′ H′ v) (orders-one u w k b) h
+  order-same s s′ one v w a b = let (u, k, h) = order-over in subst (OrderSame p G H G′ H′ v) (orders-unique u w k b) h
     where
-      order-over : (u : Ordered) × Orders p G′ H′ u × OrderSame p G H G′ H′ v u
+      order-over : (u : OrderAnswer) × Orders p G′ H′ u × OrderSame p G H G′ H′ v u
       order-over = split p s s′ one (a .no) (a .first)
           (λ n r. (v, door-refused r n (a .none n), record { number = refl; basis = λ z. absurd (n (sym (ap (λ o. o .refusal) (a .none n)) ∙ z)) }))
           (λ z A A′ r.
@@ -58,11 +58,11 @@ module _ (p : ℕ) {G H G′ H′ : List ℕ} (s : Coefficients p G H) (s′ : C
   unfolding q
   o = record-below B (c .below) q B′ (c .size′) (record-way (c .carries) .1)
 
-  step-refused : {n : ℕ} (v : Stepped) → n ≢ 0 → v ≡ stepped.refused n → StepSame p G H G′ H′ v v
+  step-refused : {n : ℕ} (v : StepAnswer) → n ≢ 0 → v ≡ stepped.refused n → StepSame p G H G′ H′ v v
   step-refused v f e = record { number = refl; degree = refl; basis = λ z. absurd (f (sym (ap (λ t. t .refusal) e) ∙ z)) }
 
-  step-goes : Accepted p G H → Accepted p G′ H′ → (v : Stepped) → stepped.Goes p G H B v
-      → (u : Stepped) × stepped.Goes p G′ H′ B′ u × StepSame p G H G′ H′ v u
+  step-goes : Accepted p G H → Accepted p G′ H′ → (v : StepAnswer) → stepped.Goes p G H B v
+      → (u : StepAnswer) × stepped.Goes p G′ H′ B′ u × StepSame p G H G′ H′ v u
   step-goes A A′ v (stepped.no-record f e) = (v, stepped.no-record (λ r. f (record-back A′ q (c .size) (c .below) o r)) e, step-refused v (λ z. omega arith) e)
   step-goes A A′ v (stepped.taken r z t) =
       let (E′, u) = over (v .basis) (t .is-record .each) q in (
@@ -71,15 +71,15 @@ module _ (p : ℕ) {G H G′ H′ : List ℕ} (s : Coefficients p G H) (s′ : C
         record { number = refl; degree = refl; basis = λ _. counterpart p q (t .is-record) u },
       )
 
-  pub step-same : (v w : Stepped) → stepped.Answers p G H B v → stepped.Answers p G′ H′ B′ w → StepSame p G H G′ H′ v w
-  step-same v w a b = let (u, k, h) = step-over in subst (StepSame p G H G′ H′ v) (answers-one u w k b) h
+  pub step-same : (v w : StepAnswer) → stepped.Answers p G H B v → stepped.Answers p G′ H′ B′ w → StepSame p G H G′ H′ v w
+  step-same v w a b = let (u, k, h) = step-over in subst (StepSame p G H G′ H′ v) (answers-unique u w k b) h
     where
-      step-over : (u : Stepped) × stepped.Answers p G′ H′ B′ u × StepSame p G H G′ H′ v u
+      step-over : (u : StepAnswer) × stepped.Answers p G′ H′ B′ u × StepSame p G H G′ H′ v u
       step-over = split p s s′ (one-of q) (a .no) (a .first)
           (λ n r. (v, door-refused r n (a .none n), step-refused v n (a .none n)))
           (λ z A A′ r. let (u, g, h) = step-goes A A′ v (a .goes z) in (u, door-goes r z g, h))
 
-  walk-refused : {m : ℕ} (v : Walked) → m ≢ 0 → m ≢ 10 → v ≡ walk.refused m → WalkSame p G H G′ H′ v v
+  walk-refused : {m : ℕ} (v : WalkAnswer) → m ≢ 0 → m ≢ 10 → v ≡ walk.refused m → WalkSame p G H G′ H′ v v
   walk-refused v f g e = record {
     number = refl;
     steps = refl;
@@ -87,8 +87,8 @@ module _ (p : ℕ) {G H G′ H′ : List ℕ} (s : Coefficients p G H) (s′ : C
     basis = λ z. let k = ap (λ t. t .refusal) e in elim z [ inl a ↦ absurd (f (sym k ∙ a)) | inr a ↦ absurd (g (sym k ∙ a)) ];
   }
 
-  walk-goes : Accepted p G H → Accepted p G′ H′ → (n : ℕ) (v : Walked) → walk.Goes p G H n B v
-      → (u : Walked) × walk.Goes p G′ H′ n B′ u × WalkSame p G H G′ H′ v u
+  walk-goes : Accepted p G H → Accepted p G′ H′ → (n : ℕ) (v : WalkAnswer) → walk.Goes p G H n B v
+      → (u : WalkAnswer) × walk.Goes p G′ H′ n B′ u × WalkSame p G H G′ H′ v u
   walk-goes A A′ n v (walk.budget l e) = (v, walk.budget l e, walk-refused v (λ z. omega arith) (λ z. omega arith) e)
   walk-goes A A′ n v (walk.no-record l f e) =
       (v, walk.no-record l (λ r. f (record-back A′ q (c .size) (c .below) o r)) e, walk-refused v (λ z. omega arith) (λ z. omega arith) e)
@@ -105,10 +105,10 @@ module _ (p : ℕ) {G H G′ H′ : List ℕ} (s : Coefficients p G H) (s′ : C
         record { number = refl; steps = refl; sum = refl; basis = λ _. counterpart p q (k .reaches .is-record) u },
       )
 
-  pub walk-same : (n : ℕ) (v w : Walked) → walk.Walks p G H n B v → walk.Walks p G′ H′ n B′ w → WalkSame p G H G′ H′ v w
-  walk-same n v w a b = let (u, k, h) = walk-over in subst (WalkSame p G H G′ H′ v) (walks-one p G′ H′ n B′ u w k b) h
+  pub walk-same : (n : ℕ) (v w : WalkAnswer) → walk.Walks p G H n B v → walk.Walks p G′ H′ n B′ w → WalkSame p G H G′ H′ v w
+  walk-same n v w a b = let (u, k, h) = walk-over in subst (WalkSame p G H G′ H′ v) (walks-unique p G′ H′ n B′ u w k b) h
     where
-      walk-over : (u : Walked) × walk.Walks p G′ H′ n B′ u × WalkSame p G H G′ H′ v u
+      walk-over : (u : WalkAnswer) × walk.Walks p G′ H′ n B′ u × WalkSame p G H G′ H′ v u
       walk-over = split p s s′ (one-of q) (a .no) (a .first)
           (λ f r. (v, door-refused r f (a .none f), walk-refused v f (λ e. omega (arith, numbered p G H (a .no) (a .first))) (a .none f)))
           (λ z A A′ r. let (u, g, h) = walk-goes A A′ n v (a .goes z) in (u, door-goes r z g, h))

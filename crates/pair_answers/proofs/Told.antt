@@ -5,15 +5,15 @@ use mathlib.Core.Path.{_≡_}
 use mathlib.Core.List.{List}
 use Prim.Native.Nat.{ℕ}
 use Rattle.field_open.specs.Refusal.{Accepted}
-use Rattle.door_walk.specs.declared.Told.{Told}
+use Rattle.door_walk.specs.declared.PeriodAnswer.{PeriodAnswer}
 use Rattle.door_walk.specs.Order.{Goes, budget, closed, spent, FromOrder}
-use Rattle.door_walk.proofs.Order.{from-order-one}
+use Rattle.door_walk.proofs.Order.{from-order-unique}
 use Rattle.pair_agree.specs.OneField.{OneField, Coefficients}
 use Rattle.pair_answers.proofs.Way.{Way, way, split}
 use Rattle.pair_answers.proofs.Record.{over}
 use Rattle.pair_answers.proofs.Chains.{first-over, open-over, closes-over}
 
-module _ {p : ℕ} {G H G′ H′ : List ℕ} {n : ℕ} {v : Told} where
+module _ {p : ℕ} {G H G′ H′ : List ℕ} {n : ℕ} {v : PeriodAnswer} where
   goes-over : Accepted p G H → Way p G H G′ H′ → Goes p G H n v → Goes p G′ H′ n v
   goes-over A w (budget l e) = budget l e
   goes-over A w (closed l B f k) =
@@ -25,10 +25,10 @@ module _ {p : ℕ} {G H G′ H′ : List ℕ} {n : ℕ} {v : Told} where
       spent l B′ (first-over A w o f) (open-over A w o h) e
 
 module _ (p : ℕ) {G H G′ H′ : List ℕ} (s : Coefficients p G H) (s′ : Coefficients p G′ H′) (one : OneField p G H G′ H′) where
-  from-order-over : (n : ℕ) (v : Told) → FromOrder p G H n v → FromOrder p G′ H′ n v
+  from-order-over : (n : ℕ) (v : PeriodAnswer) → FromOrder p G H n v → FromOrder p G′ H′ n v
   from-order-over n v a = split p s s′ one (a .no) (a .first)
       (λ f first. record { no = a .no; first = first; none = a .none; goes = λ z. absurd (f z) })
       (λ z A A′ first. record { no = a .no; first = first; none = a .none; goes = λ _. goes-over A (way A A′ one) (a .goes z) })
 
-  pub told-same : (n : ℕ) (v w : Told) → FromOrder p G H n v → FromOrder p G′ H′ n w → v ≡ w
-  told-same n v w a b = from-order-one p G′ H′ n v w (from-order-over n v a) b
+  pub told-same : (n : ℕ) (v w : PeriodAnswer) → FromOrder p G H n v → FromOrder p G′ H′ n w → v ≡ w
+  told-same n v w a b = from-order-unique p G′ H′ n v w (from-order-over n v a) b

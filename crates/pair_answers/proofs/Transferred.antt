@@ -8,7 +8,7 @@ use native.Mathlib.Omega.{arith}
 use lib.ListN.{length}
 use Rattle.field_open.specs.Refusal.{Accepted}
 use Rattle.field_open.proofs.Door.{door-out}
-use Rattle.door_unit.specs.declared.Made.{Made}
+use Rattle.door_unit.specs.declared.UnitAnswer.{UnitAnswer}
 use Rattle.door_unit.specs.Unit.{Makes}
 use Rattle.unit_make.specs.Rows.{Holds}
 use Rattle.pair_agree.specs.OneField.{OneField, Coefficients}
@@ -16,10 +16,10 @@ use Rattle.pair_agree.specs.Rows.{RowsCarry}
 use Rattle.pair_agree.specs.Answer.{Both}
 use Rattle.door_compare.proofs.Doors.{doors-goes, doors-out}
 use Rattle.door_transfer.specs.Transfer.{Goes, unfit, carried, Transfers}
-use Rattle.door_transfer.proofs.Once.{transfers-one}
+use Rattle.door_transfer.proofs.Once.{transfers-unique}
 use Rattle.pair_theory.proofs.Refused.{accept-carry}
 use Rattle.pair_answers.proofs.UnitRows.{rows-way, rows-below, holds-over}
-use Rattle.pair_answers.proofs.Made.{made-rows}
+use Rattle.pair_answers.proofs.UnitAnswer.{made-rows}
 
 pub transferred-holds : (p : ℕ) {G H G′ H′ : List ℕ} {l d c : ℕ} {r r₁ : List ℕ}
     → Holds p G H l d c r → Transfers p G H G′ H′ r 0 r₁ → Holds p G′ H′ l d c r₁
@@ -36,15 +36,15 @@ transferred-holds p {G} {H} {G′} {H′} {l} {d} {c} {r} {r₁} h =
         holds-over (s .first) w (rows-below c r (h .each) w r₁ (e ∙ a) rows) h
 
 -- a success leaves no refusal of the field
-accepted-made : (p : ℕ) (G H : List ℕ) {n : ℕ} {x y : List ℕ} {v : Made} {r s : List ℕ} → Makes p G H n x y v r s → v .refusal ≡ 0 → Accepted p G H
+accepted-made : (p : ℕ) (G H : List ℕ) {n : ℕ} {x y : List ℕ} {v : UnitAnswer} {r s : List ℕ} → Makes p G H n x y v r s → v .refusal ≡ 0 → Accepted p G H
 accepted-made p G H a z = door-out (λ k f l h. absurd (f (sym (ap (λ m. m .refusal) (h .answer)) ∙ z))) (λ A k. A) a
 
 module _ (p : ℕ) {G H G′ H′ : List ℕ} (cs : Coefficients p G H) (cs′ : Coefficients p G′ H′) (one : OneField p G H G′ H′)
-    (n : ℕ) (x y x′ y′ : List ℕ) (ex : length x ≡ length x′) (ey : length y ≡ length y′) (v w : Made) (r r′ s s′ : List ℕ) where
+    (n : ℕ) (x y x′ y′ : List ℕ) (ex : length x ≡ length x′) (ey : length y ≡ length y′) (v w : UnitAnswer) (r r′ s s′ : List ℕ) where
   pub transferred-unit : Makes p G H n x y v r s → Makes p G′ H′ n x′ y′ w r′ s′ → v .refusal ≡ 0
       → (k : ℕ) (r₁ : List ℕ) → Transfers p G H G′ H′ r k r₁ → (k ≡ 0) × (r₁ ≡ r′)
   transferred-unit a b z k r₁ t =
       let q = made-rows p cs cs′ one n x y x′ y′ ex ey v w r r′ s s′ a b z in
       let A = accepted-made p G H a z in
-      transfers-one p G H G′ H′ r k 0 r₁ r′ t (doors-goes (record { first = A; second = accept-carry p cs cs′ one A })
+      transfers-unique p G H G′ H′ r k 0 r₁ r′ t (doors-goes (record { first = A; second = accept-carry p cs cs′ one A })
       (carried (q .c) (record { room = q .room; whole = q .whole }) refl (q .whole′ ∙ sym (q .whole)) (q .carries)))

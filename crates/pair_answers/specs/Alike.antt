@@ -13,15 +13,15 @@ use mathlib.Core.List.{List}
 use Prim.Native.Nat.{ℕ, _*_, _<_}
 use lib.ListN.{length, getD}
 use Rattle.field_open.specs.Refusal.{Refusal}
-use Rattle.door_basis.specs.declared.Ordered.{Ordered}
+use Rattle.door_basis.specs.declared.OrderAnswer.{OrderAnswer}
 use Rattle.door_basis.specs.Answer.{Orders}
-use Rattle.door_step.specs.declared.Stepped.{Stepped}
+use Rattle.door_step.specs.declared.StepAnswer.{StepAnswer}
 use Rattle.door_step.specs.Answer.{Answers}
-use Rattle.walk_chain.specs.declared.Walked.{Walked}
+use Rattle.walk_chain.specs.declared.WalkAnswer.{WalkAnswer}
 use Rattle.walk_chain.specs.Walk.{Walks}
-use Rattle.door_walk.specs.declared.Told.{Told}
+use Rattle.door_walk.specs.declared.PeriodAnswer.{PeriodAnswer}
 use Rattle.door_walk.specs.Order.{FromOrder}
-use Rattle.door_unit.specs.declared.Made.{Made}
+use Rattle.door_unit.specs.declared.UnitAnswer.{UnitAnswer}
 use Rattle.door_unit.specs.Unit.{Makes}
 use Rattle.unit_make.specs.Rows.{Holds}
 use Rattle.pair_agree.specs.OneField.{OneField, Coefficients}
@@ -35,22 +35,22 @@ module _ (p : ℕ) (G H G′ H′ : List ℕ) where
     pub below : (i : ℕ) → getD B i 0 < p
     pub carries : RecordCarries p G H G′ H′ B B′
 
-  pub record OrderSame (v w : Ordered) : Type 0 where
+  pub record OrderSame (v w : OrderAnswer) : Type 0 where
     pub number : v .refusal ≡ w .refusal
     pub basis : v .refusal ≡ 0 → Counterpart (v .basis) (w .basis)
 
-  pub record StepSame (v w : Stepped) : Type 0 where
+  pub record StepSame (v w : StepAnswer) : Type 0 where
     pub number : v .refusal ≡ w .refusal
     pub degree : v .degree ≡ w .degree
     pub basis : v .refusal ≡ 0 → Counterpart (v .basis) (w .basis)
 
-  pub record WalkSame (v w : Walked) : Type 0 where
+  pub record WalkSame (v w : WalkAnswer) : Type 0 where
     pub number : v .refusal ≡ w .refusal
     pub steps : v .steps ≡ w .steps
     pub sum : v .sum ≡ w .sum
     pub basis : (v .refusal ≡ 0) ⊎ (v .refusal ≡ 10) → Counterpart (v .basis) (w .basis)
 
-  pub record MadeSame (v w : Made) (r r′ : List ℕ) : Type 0 where
+  pub record MadeSame (v w : UnitAnswer) (r r′ : List ℕ) : Type 0 where
     pub number : v .refusal ≡ w .refusal
     pub period : v .period .0 ≡ w .period .0
     pub regulator : v .regulator .0 ≡ w .regulator .0
@@ -59,17 +59,17 @@ module _ (p : ℕ) (G H G′ H′ : List ℕ) where
   pub record AlikeFor : Type 0 where
     pub refused : (n : ℕ) → Refusal p G H n → Refusal p G′ H′ n
     -- "Prove that such pairs have the same period and regulator"
-    pub told : (n : ℕ) (v w : Told) → FromOrder p G H n v → FromOrder p G′ H′ n w → v ≡ w
+    pub told : (n : ℕ) (v w : PeriodAnswer) → FromOrder p G H n v → FromOrder p G′ H′ n w → v ≡ w
     -- "and say how the rows of the unit carry over: E1 and E2 change places on a swap and take constant factors, E0 stays"
-    pub made : (n : ℕ) (x y x′ y′ : List ℕ) → length x ≡ length x′ → length y ≡ length y′ → (v w : Made) (r r′ s s′ : List ℕ)
+    pub made : (n : ℕ) (x y x′ y′ : List ℕ) → length x ≡ length x′ → length y ≡ length y′ → (v w : UnitAnswer) (r r′ s s′ : List ℕ)
         → Makes p G H n x y v r s → Makes p G′ H′ n x′ y′ w r′ s′ → MadeSame v w r r′
     -- the records of the two chains carry over too, from the order on
-    pub order : (v w : Ordered) → Orders p G H v → Orders p G′ H′ w → OrderSame v w
-    pub step : {B B′ : List ℕ} → Counterpart B B′ → (v w : Stepped) → Answers p G H B v → Answers p G′ H′ B′ w → StepSame v w
-    pub walk : {B B′ : List ℕ} → Counterpart B B′ → (n : ℕ) (v w : Walked) → Walks p G H n B v → Walks p G′ H′ n B′ w → WalkSame v w
+    pub order : (v w : OrderAnswer) → Orders p G H v → Orders p G′ H′ w → OrderSame v w
+    pub step : {B B′ : List ℕ} → Counterpart B B′ → (v w : StepAnswer) → Answers p G H B v → Answers p G′ H′ B′ w → StepSame v w
+    pub walk : {B B′ : List ℕ} → Counterpart B B′ → (n : ℕ) (v w : WalkAnswer) → Walks p G H n B v → Walks p G′ H′ n B′ w → WalkSame v w
     -- `transfer` makes of the unit's rows the rows of the other pair's unit, those that `unit` gives for it
     pub holds : {l d c : ℕ} {r r₁ : List ℕ} → Holds p G H l d c r → Transfers p G H G′ H′ r 0 r₁ → Holds p G′ H′ l d c r₁
-    pub transferred : (n : ℕ) (x y x′ y′ : List ℕ) → length x ≡ length x′ → length y ≡ length y′ → (v w : Made) (r r′ s s′ : List ℕ)
+    pub transferred : (n : ℕ) (x y x′ y′ : List ℕ) → length x ≡ length x′ → length y ≡ length y′ → (v w : UnitAnswer) (r r′ s s′ : List ℕ)
         → Makes p G H n x y v r s → Makes p G′ H′ n x′ y′ w r′ s′ → v .refusal ≡ 0
         → (k : ℕ) (r₁ : List ℕ) → Transfers p G H G′ H′ r k r₁ → (k ≡ 0) × (r₁ ≡ r′)
 

@@ -4,7 +4,7 @@
 use mathlib.Core.Path.{sym, subst}
 use mathlib.Core.List.{List}
 use Prim.Native.Nat.{ℕ}
-use Rattle.math_fp.proofs.Field.{prime-one}
+use Rattle.math_fp.proofs.Field.{prime-unique}
 use Rattle.math_valued.specs.Val.{Valued}
 use Rattle.math_valued.specs.Polynomial.{polys}
 use Rattle.math_valued.proofs.Degree.{has-eq}
@@ -36,5 +36,5 @@ carried 𝓥 c = record {
 pub corresponds : {p : ℕ} {G H G′ H′ : List ℕ} (A : Accepted p G H) (A′ : Accepted p G′ H′)
     → OneField p G H G′ H′ → Corresponds (setting A) (setting A′)
 corresponds {p} A A′ o =
-    subst (λ pr. Corresponds (setting A) (at (roots A′ pr))) (prime-one (A .prime) (A′ .prime))
+    subst (λ pr. Corresponds (setting A) (at (roots A′ pr))) (prime-unique (A .prime) (A′ .prime))
     (carried (reading p (A .prime) .𝓥) (meets A A′ o (A .prime) .carries))

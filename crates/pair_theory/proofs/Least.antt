@@ -11,7 +11,7 @@ use Rattle.math_ideals.specs.Setting.{Setting}
 use Rattle.math_ideals.specs.Element.{O}
 use Rattle.math_chain.specs.Unit.{Invertible}
 use Rattle.math_fundamental.specs.Smallest.{NoneBetween, LeastDegree}
-use Rattle.math_fundamental.proofs.Agree.{least-one}
+use Rattle.math_fundamental.proofs.Agree.{least-unique}
 use Rattle.basis_record.specs.Record.{setting}
 use Rattle.pair_agree.specs.OneField.{OneField}
 use Rattle.pair_theory.specs.Corresponds.{Corresponds}
@@ -46,4 +46,4 @@ module _ (S S′ : Setting) (c : Corresponds S S′) where
 
 pub least-agree : {p : ℕ} {G H G′ H′ : List ℕ} (A : Accepted p G H) (A′ : Accepted p G′ H′) → OneField p G H G′ H′ →
     (c d : ℕ) → LeastDegree (setting A) c → LeastDegree (setting A′) d → c ≡ d
-least-agree A A′ o c d a b = least-one (setting A′) c d (least-carry (setting A) (setting A′) (corresponds A A′ o) a) b
+least-agree A A′ o c d a b = least-unique (setting A′) c d (least-carry (setting A) (setting A′) (corresponds A A′ o) a) b

@@ -24,13 +24,13 @@ use Rattle.math_rows.specs.Made.{reading}
 use Rattle.math_rows.specs.Row.{Row, Size, row}
 use Rattle.math_rows.proofs.Rows.{size-has}
 use Rattle.math_rows.proofs.Floors.{zero-row}
-use Rattle.poly_rows.specs.Division.{DivIn, Exact}
+use Rattle.poly_rows.specs.Division.{DivisionAsks, Exact}
 use Rattle.poly_rows.specs.Polynomial.{polynomial}
 use Rattle.poly_factors.specs.Factors.{Common}
 use Rattle.poly_factors.proofs.Factors.{size-unit}
-use Rattle.poly_lent.specs.Sized.{DetOut}
-use Rattle.poly_rows.proofs.Leaf.{size-one}
-use Rattle.poly_content.specs.Common.{Content, Four, fourDet, CutIn, CutOff}
+use Rattle.poly_lent.specs.Sized.{DetInGives}
+use Rattle.poly_rows.proofs.Leaf.{size-unique}
+use Rattle.poly_content.specs.Common.{Content, Four, fourDet, CutAsks, CutOff}
 
 unit-divides : (𝓥 : Valued) (u a : Poly 𝓥) → IsUnit 𝓥 u → Divides 𝓥 u a
 unit-divides 𝓥 u a (v, e) = (polys 𝓥 .ops .mul v a, solve-by (polys 𝓥) (var 2) (var 0 :* (var 1 :* var 2)) (hyp (var 2) one (var 0 :* var 1) ∷ []) tt (u ∷ v ∷ a ∷ []) (e, tt))
@@ -53,7 +53,7 @@ content-of p x0 x2 y0 y2 g k r h₁ h₂ h₃ = record {
   most = λ pr d a b c e. let 𝓥 = reading p pr .𝓥 in gcd-greatest 𝓥 d (h₃ .law pr) (gcd-greatest 𝓥 d (h₂ .law pr) (gcd-greatest 𝓥 d (h₁ .law pr) b e) c) a;
 }
 
-module _ {p : ℕ} {x0 x2 y0 y2 k f : List ℕ} (c : CutIn p x0 x2 y0 y2) (h : Content p x0 x2 y0 y2 k) {l : ℕ} (df : DetOut p x2 y0 x0 y2 f l) where
+module _ {p : ℕ} {x0 x2 y0 y2 k f : List ℕ} (c : CutAsks p x0 x2 y0 y2) (h : Content p x0 x2 y0 y2 k) {l : ℕ} (df : DetInGives p x2 y0 x0 y2 f l) where
   -- the determinant is not 0, so the common factor is not
   pub content-pos : (n : ℕ) → Size k n → 0 < n
   content-pos zero s = absurd (c .nz (
@@ -75,13 +75,13 @@ module _ {p : ℕ} {x0 x2 y0 y2 k f : List ℕ} (c : CutIn p x0 x2 y0 y2) (h : C
   }
 
   -- division by it
-  pub by-content : {n il : ℕ} → Size k n → Inverse p (getD k (n - 1) 0) il → (x : List ℕ) → Row p x → DivIn p x k il
+  pub by-content : {n il : ℕ} → Size k n → Inverse p (getD k (n - 1) 0) il → (x : List ℕ) → Row p x → DivisionAsks p x k il
   by-content {n} {il} s i x r = record {
     modulus = c .rows .modulus;
     ha = r;
     hb = h .is-row;
     hi = i .below;
-    inv = λ m t. ap (λ j. (il * getD k (j - 1) 0) % p) (size-one t s) ∙ ap (λ z. z % p) (mul-comm il (getD k (n - 1) 0)) ∙ i .law;
+    inv = λ m t. ap (λ j. (il * getD k (j - 1) 0) % p) (size-unique t s) ∙ ap (λ z. z % p) (mul-comm il (getD k (n - 1) 0)) ∙ i .law;
   }
 
   -- f is the determinant

@@ -3,7 +3,7 @@
 --   shorten     Shortened: an exact quotient and its length
 --   Four        four rows, a fifth for their determinant over the common factor, and the degree of that factor
 --   Without     the four and their determinant are these five times one polynomial, and no factor is left in the four
---   taken_off   CutIn, CutOff: what it asks and makes of the rows; TakeIn, Taken: the same with the lengths
+--   taken_off   CutAsks, CutOff: what it asks and makes of the rows; WithoutContentAsks, Taken: the same with the lengths
 use mathlib.Core.Path.{_≡_}
 use mathlib.Core.Logic.{_≢_}
 use mathlib.Core.List.{List}
@@ -18,7 +18,7 @@ use Rattle.math_rows.specs.Row.{Row, Size}
 use Rattle.poly_rows.specs.Leaf.{Fits}
 use Rattle.num_mod.specs.Prepared.{Prepared}
 use Rattle.num_mod.specs.declared.Modulus.{Modulus}
-use Rattle.poly_rows.specs.Division.{DivIn, Exact}
+use Rattle.poly_rows.specs.Division.{DivisionAsks, Exact}
 use Rattle.poly_rows.specs.Polynomial.{polynomial}
 
 pub record FourRows (p : ℕ) (x0 x2 y0 y2 : List ℕ) : Type 0 where
@@ -29,7 +29,7 @@ pub record FourRows (p : ℕ) (x0 x2 y0 y2 : List ℕ) : Type 0 where
   pub k0 : Row p y0
   pub k2 : Row p y2
 
-pub record ContentIn (q : Modulus) (x0 x2 y0 y2 : List ℕ) : Type 0 where
+pub record ContentAsks (q : Modulus) (x0 x2 y0 y2 : List ℕ) : Type 0 where
   pub rows : FourRows (q .p) x0 x2 y0 y2
   pub modulus : Prepared q
 
@@ -57,7 +57,7 @@ fourDet p pr x0 x2 y0 y2 =
     let o = polys (reading p pr .𝓥) .ops in
     o .add (o .mul (polynomial p pr x2) (polynomial p pr y0)) (o .neg (o .mul (polynomial p pr x0) (polynomial p pr y2)))
 
-pub record CutIn (p : ℕ) (x0 x2 y0 y2 : List ℕ) : Type 0 where
+pub record CutAsks (p : ℕ) (x0 x2 y0 y2 : List ℕ) : Type 0 where
   pub rows : FourRows p x0 x2 y0 y2
   pub left : Fits x2 y0
   pub right : Fits x0 y2
@@ -83,8 +83,8 @@ pub record CutOff (p : ℕ) (x0 x2 y0 y2 : List ℕ) (o : Four) : Type 0 where
   pub hd : Row p (o .d)
   pub law : (pr : Prime p) → Without p pr x0 x2 y0 y2 o
 
-pub record TakeIn (q : Modulus) (x0 : List ℕ) (a0 : ℕ) (x2 : List ℕ) (a2 : ℕ) (y0 : List ℕ) (b0 : ℕ) (y2 : List ℕ) (b2 : ℕ) (d : List ℕ) : Type 0 where
-  pub inp : CutIn (q .p) x0 x2 y0 y2
+pub record WithoutContentAsks (q : Modulus) (x0 : List ℕ) (a0 : ℕ) (x2 : List ℕ) (a2 : ℕ) (y0 : List ℕ) (b0 : ℕ) (y2 : List ℕ) (b2 : ℕ) (d : List ℕ) : Type 0 where
+  pub inp : CutAsks (q .p) x0 x2 y0 y2
   pub modulus : Prepared q
   pub sx0 : Size x0 a0
   pub sx2 : Size x2 a2
@@ -97,8 +97,8 @@ pub record Taken (p : ℕ) (x0 x2 y0 y2 : List ℕ) (o : Four) (l : ℕ) : Type 
   pub size : Size (o .d) l
 
 -- ---- in place
-pub record ShortenIn (q : Modulus) (x : List ℕ) (n : ℕ) (k : List ℕ) (m il : ℕ) : Type 0 where
-  pub inp : DivIn (q .p) x k il
+pub record ShortenAsks (q : Modulus) (x : List ℕ) (n : ℕ) (k : List ℕ) (m il : ℕ) : Type 0 where
+  pub inp : DivisionAsks (q .p) x k il
   pub modulus : Prepared q
   pub sx : Size x n
   pub sk : Size k m

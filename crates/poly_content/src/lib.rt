@@ -5,11 +5,11 @@ use poly_factors::gcd;
 use poly_lent::det_in;
 use poly_lent::quotient_in;
 use poly_rows::size;
-ghost use Rattle.poly_content.specs.Common.{ContentIn, Content, four, ShortenIn, Shortened, TakeIn, Taken};
+ghost use Rattle.poly_content.specs.Common.{ContentAsks, Content, four, ShortenAsks, Shortened, WithoutContentAsks, Taken};
 
 // A greatest common divisor of four. Usually the first two have none, and it ends there.
 fn content(q: Modulus, x0: &[u64; 32], x2: &[u64; 32], y0: &[u64; 32], y2: &[u64; 32]) -> [u64; 32]
-    requires { ⌜ ContentIn q (now x0) (now x2) (now y0) (now y2) ⌝ }
+    requires { ⌜ ContentAsks q (now x0) (now x2) (now y0) (now y2) ⌝ }
     ensures { λ r. ⌜ Content (q .p) (now (x0 .entry)) (now (x2 .entry)) (now (y0 .entry)) (now (y2 .entry)) r ⌝ }
 {
     let g = gcd(q, x2, y2);
@@ -24,7 +24,7 @@ fn content(q: Modulus, x0: &[u64; 32], x2: &[u64; 32], y0: &[u64; 32], y2: &[u64
 
 // x / k in place of x, where k divides x, and its length; n and m are the lengths of x and k.
 fn shorten(q: Modulus, x: &mut [u64; 32], n: usize, k: &[u64; 32], m: usize, il: u64) -> usize
-    requires { ⌜ ShortenIn q (now x) n (now k) m il ⌝ }
+    requires { ⌜ ShortenAsks q (now x) n (now k) m il ⌝ }
     ensures { λ l. ⌜ Shortened (q .p) (now (x .entry)) (now (k .entry)) (now (x .exit)) l ⌝ }
 {
     let mut t: [u64; 32] = [0; 32];
@@ -40,7 +40,7 @@ pub struct Off {
 }
 
 // Four polynomials of known lengths, and their determinant x2 y0 - x0 y2 in the zero row d, without their common factor.
-pub fn taken_off(
+pub fn without_content(
     q: Modulus,
     x0: &mut [u64; 32],
     a0: usize,
@@ -52,7 +52,7 @@ pub fn taken_off(
     b2: usize,
     d: &mut [u64; 32],
 ) -> Off
-    requires { ⌜ TakeIn q (now x0) a0 (now x2) a2 (now y0) b0 (now y2) b2 (now d) ⌝ }
+    requires { ⌜ WithoutContentAsks q (now x0) a0 (now x2) a2 (now y0) b0 (now y2) b2 (now d) ⌝ }
     ensures { λ o. ⌜ Taken (q .p) (now (x0 .entry)) (now (x2 .entry)) (now (y0 .entry)) (now (y2 .entry)) (four (now (x0 .exit)) (now (x2 .exit)) (now (y0 .exit)) (now (y2 .exit)) (now (d .exit)) (o .cut)) (o .d) ⌝ }
 {
     let k = content(q, x0, x2, y0, y2);

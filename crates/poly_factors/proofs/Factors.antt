@@ -25,9 +25,9 @@ use Rattle.math_rows.proofs.Floors.{zero-row, top-not, sized}
 use Rattle.math_rows.proofs.Derivative.{derivative-law}
 use Rattle.math_rows.proofs.Square.{∂, squarefree-unit, square-factor}
 use Rattle.math_turns.proofs.Euclid.{Span, span-start, span-swap, span-turn, span-gcd}
-use Rattle.poly_rows.specs.Leaf.{Cut, Given, CrossBy, Crossed}
+use Rattle.poly_rows.specs.Leaf.{Cut, Given, CrossInAsks, Crossed}
 use Rattle.poly_rows.specs.Polynomial.{polynomial}
-use Rattle.poly_factors.specs.Factors.{Derived, CommonIn, Common, SquareTest, CoprimeTest}
+use Rattle.poly_factors.specs.Factors.{Derived, GcdAsks, Common, SquareTest, CoprimeTest}
 use Rattle.poly_rows.proofs.Leaf.{cross-by}
 
 -- ---- the derivative
@@ -80,7 +80,7 @@ module _ {p : ℕ} {a b x y : List ℕ} {n m : ℕ} (i : Euclid p a b x y n m) (
       let l : k < n = euclid-less t o k s pr in
       record { size = o .is-row .size; fits = omega (arith, room .1); above = λ j u. s .above j (omega arith) }
 
-pub euclid-room : {q : Modulus} {a b x y : List ℕ} {n m : ℕ} → Euclid (q .p) a b x y n m → 0 < m → m ≤ n → Prepared q → CrossBy q (getD y (m - 1) 0) x (getD x (n - 1) 0) (n - m) y n
+pub euclid-room : {q : Modulus} {a b x y : List ℕ} {n m : ℕ} → Euclid (q .p) a b x y n m → 0 < m → m ≤ n → Prepared q → CrossInAsks q (getD y (m - 1) 0) x (getD x (n - 1) 0) (n - m) y n
 euclid-room {q} {x = x} {n = n} {m = m} i pos le h =
     let r = room i pos le in
     let l : getD x (n - 1) 0 < q .p = i .hx .each (n - 1) in
@@ -101,7 +101,7 @@ common-self p x d m h s e = record {
 }
 
 -- where q is prepared of p
-pub common-in : {p : ℕ} {q : Modulus} {x y : List ℕ} → PreparedOf p q → Prime p → Row p x → Row p y → CommonIn q x y
+pub common-in : {p : ℕ} {q : Modulus} {x y : List ℕ} → PreparedOf p q → Prime p → Row p x → Row p y → GcdAsks q x y
 common-in {x = x} {y = y} e pr hx hy = record {
   modulus = e .prepared;
   prime = subst Prime (sym (e .is)) pr;

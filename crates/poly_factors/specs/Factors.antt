@@ -34,7 +34,7 @@ pub record OverBoth (p : ℕ) (x y : List ℕ) : Type 0 where
   pub hy : Row p y
 
 -- a prepared modulus that is prime, and two rows
-pub record CommonIn (q : Modulus) (x y : List ℕ) : Type 0 where
+pub record GcdAsks (q : Modulus) (x y : List ℕ) : Type 0 where
   pub modulus : Prepared q
   pub prime : Prime (q .p)
   pub hx : Row (q .p) x

@@ -5,7 +5,7 @@ use poly_rows::cross_in;
 use poly_rows::size;
 use poly_rows::size_from;
 ghost use Rattle.poly_rows.specs.Leaf.{Given};
-ghost use Rattle.poly_factors.specs.Factors.{Derived, Over, OverBoth, CommonIn, Common, SquareTest, CoprimeTest};
+ghost use Rattle.poly_factors.specs.Factors.{Derived, Over, OverBoth, GcdAsks, Common, SquareTest, CoprimeTest};
 
 type Row = [u64; 32];
 
@@ -26,7 +26,7 @@ fn derivative(p: u64, x: &Row) -> Row
 
 // A greatest common divisor, by Euclid: the longer of the two loses its leading term, until one is 0.
 pub fn gcd(q: Modulus, a: &Row, b: &Row) -> Row
-    requires { ⌜ CommonIn q (now a) (now b) ⌝ }
+    requires { ⌜ GcdAsks q (now a) (now b) ⌝ }
     ensures { λ r. ⌜ Common (q .p) (now (a .entry)) (now (b .entry)) r ⌝ }
 {
     let mut x = *a;

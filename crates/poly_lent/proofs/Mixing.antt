@@ -23,8 +23,8 @@ use Rattle.math_rows.proofs.Tab.{zeros-at}
 use Rattle.math_rows.proofs.Floors.{zero-row}
 use Rattle.poly_rows.specs.Leaf.{Cut, Product}
 use Rattle.poly_rows.proofs.Leaf.{zeros-row, zeros-size}
-use Rattle.poly_lent.specs.Sized.{signOf, MixIn, Mixed, BothIn, BothOut, TimesBy, DetBy, DetOut}
-use Rattle.poly_lent.specs.Sums.{GatherIn, Gathered, SettleIn, Settled, Reach}
+use Rattle.poly_lent.specs.Sized.{signOf, MixAsks, Mixed, BothInAsks, BothInGives, TimesInAsks, DetInAsks, DetInGives}
+use Rattle.poly_lent.specs.Sums.{GatherAsks, Gathered, SettleAsks, Settled, Reach}
 use Rattle.poly_lent.proofs.Sums.{loose-row}
 
 -- a row ends before its length
@@ -32,12 +32,12 @@ pub size-cut : {p : ℕ} {x : List ℕ} {n : ℕ} → Row p x → Size x n → C
 size-cut {p} {x} {n} h s = let f : n ≤ length x = s .fits in let l : length x ≡ 32 = h .size in record { size = l; fits = omega arith; above = s .above }
 
 -- ---- r ± x y
-module _ {M : Modulus} {x : List ℕ} {n : ℕ} {y : List ℕ} {m : ℕ} {r : List ℕ} (h : MixIn M x n y m r) where
-  pub mix-gather : GatherIn (M .p) x n y m r
+module _ {M : Modulus} {x : List ℕ} {n : ℕ} {y : List ℕ} {m : ℕ} {r : List ℕ} (h : MixAsks M x n y m r) where
+  pub mix-gather : GatherAsks (M .p) x n y m r
   mix-gather = record { modulus = bare (h .modulus); hx = h .hx; hy = h .hy; cx = size-cut (h .hx) (h .sx); cy = size-cut (h .hy) (h .sy); fits = h .fits; loose = loose-row (h .modulus .small) (h .hr) }
 
   module _ {e : Bool} {g : List ℕ} {t : ℕ} (s : Gathered (M .p) e x n y m r g) (c : Reach (n + m) 0 t) where
-    pub mix-settle : SettleIn M g t
+    pub mix-settle : SettleAsks M g t
     mix-settle = record {
       modulus = h .modulus;
       size = s .loose .size;
@@ -53,12 +53,12 @@ module _ {M : Modulus} {x : List ℕ} {n : ℕ} {y : List ℕ} {m : ℕ} {r : Li
     }
 
 -- ---- r ± x y ± z v
-module _ {M : Modulus} {x : List ℕ} {nx : ℕ} {y : List ℕ} {ny : ℕ} {z : List ℕ} {nz : ℕ} {v : List ℕ} {nv : ℕ} {r : List ℕ} {l : ℕ} (h : BothIn M x nx y ny z nz v nv r l) where
-  pub both-first : GatherIn (M .p) x nx y ny r
+module _ {M : Modulus} {x : List ℕ} {nx : ℕ} {y : List ℕ} {ny : ℕ} {z : List ℕ} {nz : ℕ} {v : List ℕ} {nv : ℕ} {r : List ℕ} {l : ℕ} (h : BothInAsks M x nx y ny z nz v nv r l) where
+  pub both-first : GatherAsks (M .p) x nx y ny r
   both-first = record { modulus = bare (h .modulus); hx = h .hx; hy = h .hy; cx = h .cx; cy = h .cy; fits = h .left; loose = loose-row (h .modulus .small) (h .hr) }
 
   module _ {e : Bool} {g : List ℕ} (s : Gathered (M .p) e x nx y ny r g) where
-    pub both-second : GatherIn (M .p) z nz v nv g
+    pub both-second : GatherAsks (M .p) z nz v nv g
     both-second = record { modulus = bare (h .modulus); hx = h .hz; hy = h .hv; cx = h .cz; cy = h .cv; fits = h .right; loose = s .loose }
 
     module _ {f : Bool} {w : List ℕ} {a t : ℕ} (u : Gathered (M .p) f z nz v nv g w) (b : Reach (nx + ny) (nz + nv) a) (c : Reach (a + 1) (l + 1) t) where
@@ -70,7 +70,7 @@ module _ {M : Modulus} {x : List ℕ} {nx : ℕ} {y : List ℕ} {ny : ℕ} {z : 
           let c2 : l + 1 ≤ t + 1 = c .past-b in
           u .above i (omega arith) ∙ s .above i (omega arith) ∙ h .cr .above i (omega arith)
 
-      pub both-settle : SettleIn M w t
+      pub both-settle : SettleAsks M w t
       both-settle = record {
         modulus = h .modulus;
         size = u .loose .size;
@@ -82,7 +82,7 @@ module _ {M : Modulus} {x : List ℕ} {nx : ℕ} {y : List ℕ} {ny : ℕ} {z : 
         pub both-cut : Cut o t
         both-cut = record { size = d .is-row .size; fits = c .fits; above = λ i k. d .each i ∙ ap (λ q. q % M .p) (none i k) ∙ zero-mod (M .p) }
 
-        pub both-made : {n : ℕ} → Size o n → BothOut (M .p) e x y f z v r o n
+        pub both-made : {n : ℕ} → Size o n → BothInGives (M .p) e x y f z v r o n
         both-made k = record {
           is-row = d .is-row;
           law = λ pr. let ρ = reading (M .p) pr in let o = ρ .𝓥 .L .ops in
@@ -97,8 +97,8 @@ zeros-to b e = subst (Row _) (sym e) (zeros-row _ b)
 zeros-none : {p : ℕ} {r : List ℕ} (ρ : Reading p) → r ≡ replicate 32 0 → row ρ r ≡ ρ .𝓥 .L .ops .𝟎
 zeros-none ρ e = ap (row ρ) e ∙ zero-row ρ (replicate 32 0) zeros-size
 
-module _ {M : Modulus} {x : List ℕ} {n : ℕ} {y : List ℕ} {m : ℕ} {r : List ℕ} (h : TimesBy M x n y m r) where
-  pub times-first : MixIn M x n y m r
+module _ {M : Modulus} {x : List ℕ} {n : ℕ} {y : List ℕ} {m : ℕ} {r : List ℕ} (h : TimesInAsks M x n y m r) where
+  pub times-first : MixAsks M x n y m r
   times-first = record { modulus = h .modulus; hx = h .hx; hy = h .hy; sx = h .sx; sy = h .sy; fits = h .fits; hr = zeros-to (h .modulus .big) (h .blank) }
 
   module _ {o : List ℕ} (g : Mixed (M .p) false x n y m r o) where
@@ -116,8 +116,8 @@ module _ {M : Modulus} {x : List ℕ} {n : ℕ} {y : List ℕ} {m : ℕ} {r : Li
       above = λ i u. let l : n + m ≤ t + 1 = c .past-a in g .above i (omega arith) ∙ ap (λ a. getD a i 0) (h .blank) ∙ zeros-at 32 i;
     }
 
-module _ {M : Modulus} {x : List ℕ} {nx : ℕ} {y : List ℕ} {ny : ℕ} {z : List ℕ} {nz : ℕ} {v : List ℕ} {nv : ℕ} {r : List ℕ} (h : DetBy M x nx y ny z nz v nv r) where
-  pub det-both : BothIn M x nx y ny z nz v nv r 0
+module _ {M : Modulus} {x : List ℕ} {nx : ℕ} {y : List ℕ} {ny : ℕ} {z : List ℕ} {nz : ℕ} {v : List ℕ} {nv : ℕ} {r : List ℕ} (h : DetInAsks M x nx y ny z nz v nv r) where
+  pub det-both : BothInAsks M x nx y ny z nz v nv r 0
   det-both = record {
     modulus = h .modulus;
     hx = h .hx;
@@ -134,7 +134,7 @@ module _ {M : Modulus} {x : List ℕ} {nx : ℕ} {y : List ℕ} {ny : ℕ} {z : 
     cr = record { size = ap length (h .blank); fits = omega arith; above = λ i u. ap (λ a. getD a i 0) (h .blank) ∙ zeros-at 32 i };
   }
 
-  pub det-made : {o : List ℕ} {l : ℕ} → BothOut (M .p) false x y true z v r o l → DetOut (M .p) x y z v o l
+  pub det-made : {o : List ℕ} {l : ℕ} → BothInGives (M .p) false x y true z v r o l → DetInGives (M .p) x y z v o l
   det-made g = record {
     is-row = g .is-row;
     law = λ pr. let R = reading (M .p) pr .𝓥 .L in let ρ = reading (M .p) pr in

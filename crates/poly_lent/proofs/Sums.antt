@@ -26,7 +26,7 @@ use Rattle.math_rows.proofs.Unique.{same-cast}
 use Rattle.num_mod.specs.Prepared.{Added}
 use Rattle.num_mod.specs.declared.Modulus.{Modulus}
 use Rattle.poly_lent.specs.Sized.{signOf}
-use Rattle.poly_lent.specs.Sums.{Loose, Signed, LayIn, Laid, GatherIn, Gathered, SettleIn, Settled}
+use Rattle.poly_lent.specs.Sums.{Loose, Signed, LaidAsks, Laid, GatherAsks, Gathered, SettleAsks, Settled}
 
 -- ---- one coefficient changed
 module _ {p : ℕ} (ρ : Reading p) where
@@ -83,7 +83,7 @@ pub record Laying (p v : ℕ) (y : List ℕ) (m i : ℕ) (acc o : List ℕ) (j :
       row ρ o ≡ k .add (row ρ acc) (k .mul (ρ .𝓥 .const (ρ .cast v)) (k .mul (tpow ρ i) (psum ρ j (coefs ρ y))))
   pub above : (k : ℕ) → N._+_ i m ≤ k → getD o k 0 ≡ getD acc k 0
 
-module _ {p v : ℕ} {y : List ℕ} {m i : ℕ} {acc : List ℕ} (h : LayIn p v y m i acc) where
+module _ {p v : ℕ} {y : List ℕ} {m i : ℕ} {acc : List ℕ} (h : LaidAsks p v y m i acc) where
   pub laying-start : Laying p v y m i acc acc 0
   laying-start = record {
     loose = h .loose;
@@ -140,7 +140,7 @@ module _ {p : ℕ} (ρ : Reading p) where
       ap (λ z. k .add (k .add a (k .mul s y)) (k .mul (ρ .𝓥 .const z) (k .mul t y))) h
       ∙ solve (ρ .𝓥 .L) (var 0 :+ var 1 :* var 3 :+ var 4 :* (var 2 :* var 3)) (var 0 :+ (var 1 :+ var 4 :* var 2) :* var 3) tt (a ∷ s ∷ t ∷ y ∷ ρ .𝓥 .const u ∷ [])
 
-module _ {p : ℕ} {x : List ℕ} {n : ℕ} {y : List ℕ} {m : ℕ} {acc : List ℕ} (h : GatherIn p x n y m acc) (e : Bool) where
+module _ {p : ℕ} {x : List ℕ} {n : ℕ} {y : List ℕ} {m : ℕ} {acc : List ℕ} (h : GatherAsks p x n y m acc) (e : Bool) where
   pub gathering-start : Gathering p e x n y m acc acc 0
   gathering-start = record {
     loose = h .loose;
@@ -149,7 +149,7 @@ module _ {p : ℕ} {x : List ℕ} {n : ℕ} {y : List ℕ} {m : ℕ} {acc : List
     above = λ k u. refl;
   }
 
-  pub lay-in : {o : List ℕ} {i v : ℕ} → Gathering p e x n y m acc o i → i < n → v < p → LayIn p v y m i o
+  pub lay-in : {o : List ℕ} {i v : ℕ} → Gathering p e x n y m acc o i → i < n → v < p → LaidAsks p v y m i o
   lay-in g l b = record { modulus = h .modulus; hv = b; hy = h .hy; cy = h .cy; fits = let f : N._+_ n m ≤ 33 = h .fits in omega arith; loose = g .loose }
 
   pub gathering-turn : {o w : List ℕ} {i : ℕ} (v : ℕ) → Gathering p e x n y m acc o i → i < n → Signed p e (getD x i 0) v → Laid p v y m i o w → Gathering p e x n y m acc w (N._+_ i 1)
@@ -191,7 +191,7 @@ over-more n f r₀ r k v h l e = record {
     at j u (yes z) = ap (λ m. getD (set r k v) m 0) z ∙ getD-set-same r k v 0 (let s : length r ≡ n = h .size in omega arith) ∙ e ∙ ap f (sym z)
     at j u (no z) = getD-set-other r k j v 0 z ∙ h .done j (omega arith)
 
-pub settled : {q : Modulus} {acc : List ℕ} {t : ℕ} {o : List ℕ} (k : ℕ) → SettleIn q acc t → t ≤ k → Over 32 (λ j. getD acc j 0 % q .p) acc o k → Settled (q .p) acc o
+pub settled : {q : Modulus} {acc : List ℕ} {t : ℕ} {o : List ℕ} (k : ℕ) → SettleAsks q acc t → t ≤ k → Over 32 (λ j. getD acc j 0 % q .p) acc o k → Settled (q .p) acc o
 settled {q} {acc} {t} {o} k h e g = record {
   is-row = record { size = g .size; each = λ i. let b : 1 < q .p = h .modulus .big in let u : getD o i 0 ≡ getD acc i 0 % q .p = at i in let w : getD acc i 0 % q .p < q .p = mod-lt (getD acc i 0) (omega arith) in omega arith };
   law = λ pr. let ρ = reading (q .p) pr in

@@ -1,12 +1,12 @@
 -- Products and quotients into lent rows, by known lengths (`Size` of crate math_rows).
 --   signOf k e z   z, or − z where e is true
 --   mix_in         Mixed: r ± x y, with r left as it was past the product
---   both_in        BothOut: r ± x y ± z v and its length
---   times_in       TimesOut: x y (`Product` of crate poly_rows) and its length
---   det_in         DetOut: x y − z v and its length
---   quotient_in    QuotientOut: the quotient and its length (`Quotient` and `Exact` of crate poly_rows)
---   less_in        LessOut: r − x y and its length
---   divide_in      DivideOut: quotient and remainder (`Divided` of crate poly_rows) and their lengths
+--   both_in        BothInGives: r ± x y ± z v and its length
+--   times_in       TimesInGives: x y (`Product` of crate poly_rows) and its length
+--   det_in         DetInGives: x y − z v and its length
+--   quotient_in    QuotientInGives: the quotient and its length (`Quotient` and `Exact` of crate poly_rows)
+--   less_in        LessInGives: r − x y and its length
+--   divide_in      DivideInGives: quotient and remainder (`Divided` of crate poly_rows) and their lengths
 use mathlib.Core.Path.{_≡_}
 use mathlib.Core.Bool.{Bool, true, false}
 use mathlib.Core.List.{List}
@@ -22,13 +22,13 @@ use Rattle.math_rows.specs.Row.{Row, Size, row}
 use Rattle.poly_rows.specs.Leaf.{Cut, Product}
 use Rattle.num_mod.specs.Prepared.{Prepared}
 use Rattle.num_mod.specs.declared.Modulus.{Modulus}
-use Rattle.poly_rows.specs.Division.{DivIn, Quotient, Exact, Divided}
+use Rattle.poly_rows.specs.Division.{DivisionAsks, Quotient, Exact, Divided}
 
 abbrev pub signOf : {A : Type 0} → Ops A → Bool → A → A
 signOf o true z = o .neg z
 signOf o false z = z
 
-pub record MixIn (q : Modulus) (x : List ℕ) (n : ℕ) (y : List ℕ) (m : ℕ) (r : List ℕ) : Type 0 where
+pub record MixAsks (q : Modulus) (x : List ℕ) (n : ℕ) (y : List ℕ) (m : ℕ) (r : List ℕ) : Type 0 where
   pub modulus : Prepared q
   pub hx : Row (q .p) x
   pub hy : Row (q .p) y
@@ -43,7 +43,7 @@ pub record Mixed (p : ℕ) (e : Bool) (x : List ℕ) (n : ℕ) (y : List ℕ) (m
       row ρ o ≡ k .add (row ρ r) (signOf k e (k .mul (row ρ x) (row ρ y)))
   pub above : (i : ℕ) → n + m ≤ i + 1 → getD o i 0 ≡ getD r i 0
 
-pub record BothIn (q : Modulus) (x : List ℕ) (nx : ℕ) (y : List ℕ) (ny : ℕ) (z : List ℕ) (nz : ℕ) (v : List ℕ) (nv : ℕ) (r : List ℕ) (l : ℕ) : Type 0 where
+pub record BothInAsks (q : Modulus) (x : List ℕ) (nx : ℕ) (y : List ℕ) (ny : ℕ) (z : List ℕ) (nz : ℕ) (v : List ℕ) (nv : ℕ) (r : List ℕ) (l : ℕ) : Type 0 where
   pub modulus : Prepared q
   pub hx : Row (q .p) x
   pub hy : Row (q .p) y
@@ -58,13 +58,13 @@ pub record BothIn (q : Modulus) (x : List ℕ) (nx : ℕ) (y : List ℕ) (ny : �
   pub hr : Row (q .p) r
   pub cr : Cut r l
 
-pub record BothOut (p : ℕ) (e : Bool) (x y : List ℕ) (f : Bool) (z v r o : List ℕ) (l : ℕ) : Type 0 where
+pub record BothInGives (p : ℕ) (e : Bool) (x y : List ℕ) (f : Bool) (z v r o : List ℕ) (l : ℕ) : Type 0 where
   pub is-row : Row p o
   pub law : (pr : Prime p) → let ρ = reading p pr in let k = ρ .𝓥 .L .ops in
       row ρ o ≡ k .add (k .add (row ρ r) (signOf k e (k .mul (row ρ x) (row ρ y)))) (signOf k f (k .mul (row ρ z) (row ρ v)))
   pub size : Size o l
 
-pub record TimesBy (q : Modulus) (x : List ℕ) (n : ℕ) (y : List ℕ) (m : ℕ) (r : List ℕ) : Type 0 where
+pub record TimesInAsks (q : Modulus) (x : List ℕ) (n : ℕ) (y : List ℕ) (m : ℕ) (r : List ℕ) : Type 0 where
   pub modulus : Prepared q
   pub hx : Row (q .p) x
   pub hy : Row (q .p) y
@@ -73,11 +73,11 @@ pub record TimesBy (q : Modulus) (x : List ℕ) (n : ℕ) (y : List ℕ) (m : �
   pub fits : n + m ≤ 33
   pub blank : r ≡ replicate 32 0
 
-pub record TimesOut (p : ℕ) (x y o : List ℕ) (l : ℕ) : Type 0 where
+pub record TimesInGives (p : ℕ) (x y o : List ℕ) (l : ℕ) : Type 0 where
   pub product : Product p x y o
   pub size : Size o l
 
-pub record DetBy (q : Modulus) (x : List ℕ) (nx : ℕ) (y : List ℕ) (ny : ℕ) (z : List ℕ) (nz : ℕ) (v : List ℕ) (nv : ℕ) (r : List ℕ) : Type 0 where
+pub record DetInAsks (q : Modulus) (x : List ℕ) (nx : ℕ) (y : List ℕ) (ny : ℕ) (z : List ℕ) (nz : ℕ) (v : List ℕ) (nv : ℕ) (r : List ℕ) : Type 0 where
   pub modulus : Prepared q
   pub hx : Row (q .p) x
   pub hy : Row (q .p) y
@@ -91,31 +91,31 @@ pub record DetBy (q : Modulus) (x : List ℕ) (nx : ℕ) (y : List ℕ) (ny : �
   pub right : nz + nv ≤ 33
   pub blank : r ≡ replicate 32 0
 
-pub record DetOut (p : ℕ) (x y z v o : List ℕ) (l : ℕ) : Type 0 where
+pub record DetInGives (p : ℕ) (x y z v o : List ℕ) (l : ℕ) : Type 0 where
   pub is-row : Row p o
   pub law : (pr : Prime p) → let ρ = reading p pr in let k = ρ .𝓥 .L .ops in
       row ρ o ≡ k .add (k .mul (row ρ x) (row ρ y)) (k .neg (k .mul (row ρ z) (row ρ v)))
   pub size : Size o l
 
-pub record QuotientBy (q : Modulus) (a : List ℕ) (n : ℕ) (b : List ℕ) (m il : ℕ) (r : List ℕ) : Type 0 where
-  pub inp : DivIn (q .p) a b il
+pub record QuotientAsks (q : Modulus) (a : List ℕ) (n : ℕ) (b : List ℕ) (m il : ℕ) (r : List ℕ) : Type 0 where
+  pub inp : DivisionAsks (q .p) a b il
   pub modulus : Prepared q
   pub sa : Size a n
   pub sb : Size b m
   pub blank : r ≡ replicate 32 0
 
-pub record QuotientOut (p : ℕ) (a b o : List ℕ) (l : ℕ) : Type 0 where
+pub record QuotientInGives (p : ℕ) (a b o : List ℕ) (l : ℕ) : Type 0 where
   pub quotient : Quotient p a b o
   pub exact : Exact p a b o
   pub size : Size o l
 
-pub record LessOut (p : ℕ) (x y r o : List ℕ) (l : ℕ) : Type 0 where
+pub record LessInGives (p : ℕ) (x y r o : List ℕ) (l : ℕ) : Type 0 where
   pub is-row : Row p o
   pub law : (pr : Prime p) → let ρ = reading p pr in let k = ρ .𝓥 .L .ops in
       row ρ o ≡ k .add (row ρ r) (k .neg (k .mul (row ρ x) (row ρ y)))
   pub size : Size o l
 
-pub record DivideOut (p : ℕ) (a b q r : List ℕ) (l k : ℕ) : Type 0 where
+pub record DivideInGives (p : ℕ) (a b q r : List ℕ) (l k : ℕ) : Type 0 where
   pub divided : Divided p a b q r
   pub sq : Size q l
   pub sr : Size r k

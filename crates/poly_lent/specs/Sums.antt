@@ -26,7 +26,7 @@ pub record Loose (l : List ℕ) : Type 0 where
   pub size : length l ≡ 32
   pub low : (i : ℕ) → getD l i 0 < 9223372036854775808
 
-pub record SignIn (p v : ℕ) : Type 0 where
+pub record SignedAsks (p v : ℕ) : Type 0 where
   pub modulus : IsModulus p
   pub below : v < p
 
@@ -34,7 +34,7 @@ pub record Signed (p : ℕ) (e : Bool) (v r : ℕ) : Type 0 where
   pub below : r < p
   pub law : (pr : Prime p) → let ρ = reading p pr in ρ .cast r ≡ signOf (ρ .𝓥 .K .ops) e (ρ .cast v)
 
-pub record LayIn (p v : ℕ) (y : List ℕ) (m i : ℕ) (acc : List ℕ) : Type 0 where
+pub record LaidAsks (p v : ℕ) (y : List ℕ) (m i : ℕ) (acc : List ℕ) : Type 0 where
   pub modulus : IsModulus p
   pub hv : v < p
   pub hy : Row p y
@@ -48,7 +48,7 @@ pub record Laid (p v : ℕ) (y : List ℕ) (m i : ℕ) (acc o : List ℕ) : Type
       row ρ o ≡ k .add (row ρ acc) (k .mul (ρ .𝓥 .const (ρ .cast v)) (k .mul (tpow ρ i) (row ρ y)))
   pub above : (k : ℕ) → i + m ≤ k → getD o k 0 ≡ getD acc k 0
 
-pub record GatherIn (p : ℕ) (x : List ℕ) (n : ℕ) (y : List ℕ) (m : ℕ) (acc : List ℕ) : Type 0 where
+pub record GatherAsks (p : ℕ) (x : List ℕ) (n : ℕ) (y : List ℕ) (m : ℕ) (acc : List ℕ) : Type 0 where
   pub modulus : IsModulus p
   pub hx : Row p x
   pub hy : Row p y
@@ -63,7 +63,7 @@ pub record Gathered (p : ℕ) (e : Bool) (x : List ℕ) (n : ℕ) (y : List ℕ)
       row ρ o ≡ k .add (row ρ acc) (signOf k e (k .mul (row ρ x) (row ρ y)))
   pub above : (k : ℕ) → n + m ≤ k + 1 → getD o k 0 ≡ getD acc k 0
 
-pub record SettleIn (q : Modulus) (acc : List ℕ) (t : ℕ) : Type 0 where
+pub record SettleAsks (q : Modulus) (acc : List ℕ) (t : ℕ) : Type 0 where
   pub modulus : Prepared q
   pub size : length acc ≡ 32
   pub fits : t ≤ 32
@@ -74,7 +74,7 @@ pub record Settled (p : ℕ) (acc o : List ℕ) : Type 0 where
   pub law : (pr : Prime p) → row (reading p pr) o ≡ row (reading p pr) acc
   pub each : (i : ℕ) → getD o i 0 ≡ getD acc i 0 % p
 
-pub record ReachIn (a b : ℕ) : Type 0 where
+pub record ReachAsks (a b : ℕ) : Type 0 where
   pub fit-a : a ≤ 33
   pub fit-b : b ≤ 33
 

@@ -8,12 +8,12 @@ use poly_rows::quotient_coefficient;
 use poly_rows::size;
 use poly_rows::size_from;
 ghost use mathlib.Core.Path.{_≡_};
-ghost use Rattle.poly_lent.specs.Sums.{SignIn, Signed, LayIn, Laid, GatherIn, Gathered, SettleIn, Settled, ReachIn, Reach};
-ghost use Rattle.poly_lent.specs.Sized.{MixIn, Mixed, BothIn, BothOut, TimesBy, TimesOut, DetBy, DetOut, QuotientBy, QuotientOut, LessOut, DivideOut};
+ghost use Rattle.poly_lent.specs.Sums.{SignedAsks, Signed, LaidAsks, Laid, GatherAsks, Gathered, SettleAsks, Settled, ReachAsks, Reach};
+ghost use Rattle.poly_lent.specs.Sized.{MixAsks, Mixed, BothInAsks, BothInGives, TimesInAsks, TimesInGives, DetInAsks, DetInGives, QuotientAsks, QuotientInGives, LessInGives, DivideInGives};
 
 // v, or - v mod p
 fn signed(p: u64, minus: bool, v: u64) -> u64
-    requires { ⌜ SignIn p v ⌝ }
+    requires { ⌜ SignedAsks p v ⌝ }
     ensures { λ r. ⌜ Signed p minus v r ⌝ }
 {
     if minus { reduce_once(p, p - v) } else { v }
@@ -21,7 +21,7 @@ fn signed(p: u64, minus: bool, v: u64) -> u64
 
 // acc + v t^i y up to multiples of p, in place of acc; y ends before m.
 fn laid(p: u64, v: u64, y: &[u64; 32], m: usize, i: usize, acc: &mut [u64; 32])
-    requires { ⌜ LayIn p v (now y) m i (now acc) ⌝ }
+    requires { ⌜ LaidAsks p v (now y) m i (now acc) ⌝ }
     ensures { λ _. ⌜ Laid p v (now (y .entry)) m i (now (acc .entry)) (now (acc .exit)) ⌝ }
 {
     let mut j: usize = 0;
@@ -42,7 +42,7 @@ fn gather(
     m: usize,
     acc: &mut [u64; 32],
 )
-    requires { ⌜ GatherIn p (now x) n (now y) m (now acc) ⌝ }
+    requires { ⌜ GatherAsks p (now x) n (now y) m (now acc) ⌝ }
     ensures { λ _. ⌜ Gathered p minus (now (x .entry)) n (now (y .entry)) m (now (acc .entry)) (now (acc .exit)) ⌝ }
 {
     let mut i: usize = 0;
@@ -55,7 +55,7 @@ fn gather(
 
 // Each coefficient mod p, in place; those from t on are below p as they are.
 fn settle(q: Modulus, acc: &mut [u64; 32], t: usize)
-    requires { ⌜ SettleIn q (now acc) t ⌝ }
+    requires { ⌜ SettleAsks q (now acc) t ⌝ }
     ensures { λ _. ⌜ Settled (q .p) (now (acc .entry)) (now (acc .exit)) ⌝ }
 {
     let mut k: usize = 0;
@@ -68,7 +68,7 @@ fn settle(q: Modulus, acc: &mut [u64; 32], t: usize)
 
 // Where products whose factors have a and b coefficients together have ended.
 fn reach(a: usize, b: usize) -> usize
-    requires { ⌜ ReachIn a b ⌝ }
+    requires { ⌜ ReachAsks a b ⌝ }
     ensures { λ r. ⌜ Reach a b r ⌝ }
 {
     let t = if a < b { b } else { a };
@@ -85,7 +85,7 @@ pub fn mix_in(
     m: usize,
     r: &mut [u64; 32],
 )
-    requires { ⌜ MixIn q (now x) n (now y) m (now r) ⌝ }
+    requires { ⌜ MixAsks q (now x) n (now y) m (now r) ⌝ }
     ensures { λ _. ⌜ Mixed (q .p) minus (now (x .entry)) n (now (y .entry)) m (now (r .entry)) (now (r .exit)) ⌝ }
 {
     gather(q.p, minus, x, n, y, m, r);
@@ -109,8 +109,8 @@ pub fn both_in(
     r: &mut [u64; 32],
     l: usize,
 ) -> usize
-    requires { ⌜ BothIn q (now x) nx (now y) ny (now z) nz (now v) nv (now r) l ⌝ }
-    ensures { λ n. ⌜ BothOut (q .p) minus (now (x .entry)) (now (y .entry)) less (now (z .entry)) (now (v .entry)) (now (r .entry)) (now (r .exit)) n ⌝ }
+    requires { ⌜ BothInAsks q (now x) nx (now y) ny (now z) nz (now v) nv (now r) l ⌝ }
+    ensures { λ n. ⌜ BothInGives (q .p) minus (now (x .entry)) (now (y .entry)) less (now (z .entry)) (now (v .entry)) (now (r .entry)) (now (r .exit)) n ⌝ }
 {
     gather(q.p, minus, x, nx, y, ny, r);
     gather(q.p, less, z, nz, v, nv, r);
@@ -129,8 +129,8 @@ pub fn times_in(
     m: usize,
     r: &mut [u64; 32],
 ) -> usize
-    requires { ⌜ TimesBy q (now x) n (now y) m (now r) ⌝ }
-    ensures { λ l. ⌜ TimesOut (q .p) (now (x .entry)) (now (y .entry)) (now (r .exit)) l ⌝ }
+    requires { ⌜ TimesInAsks q (now x) n (now y) m (now r) ⌝ }
+    ensures { λ l. ⌜ TimesInGives (q .p) (now (x .entry)) (now (y .entry)) (now (r .exit)) l ⌝ }
 {
     mix_in(q, false, x, n, y, m, r);
     let t = reach(n + m, 0);
@@ -150,8 +150,8 @@ pub fn det_in(
     nv: usize,
     r: &mut [u64; 32],
 ) -> usize
-    requires { ⌜ DetBy q (now x) nx (now y) ny (now z) nz (now v) nv (now r) ⌝ }
-    ensures { λ l. ⌜ DetOut (q .p) (now (x .entry)) (now (y .entry)) (now (z .entry)) (now (v .entry)) (now (r .exit)) l ⌝ }
+    requires { ⌜ DetInAsks q (now x) nx (now y) ny (now z) nz (now v) nv (now r) ⌝ }
+    ensures { λ l. ⌜ DetInGives (q .p) (now (x .entry)) (now (y .entry)) (now (z .entry)) (now (v .entry)) (now (r .exit)) l ⌝ }
 {
     both_in(q, false, x, nx, y, ny, true, z, nz, v, nv, r, 0)
 }
@@ -166,8 +166,8 @@ pub fn quotient_in(
     il: u64,
     r: &mut [u64; 32],
 ) -> usize
-    requires { ⌜ QuotientBy q (now a) n (now b) m il (now r) ⌝ }
-    ensures { λ l. ⌜ QuotientOut (q .p) (now (a .entry)) (now (b .entry)) (now (r .exit)) l ⌝ }
+    requires { ⌜ QuotientAsks q (now a) n (now b) m il (now r) ⌝ }
+    ensures { λ l. ⌜ QuotientInGives (q .p) (now (a .entry)) (now (b .entry)) (now (r .exit)) l ⌝ }
 {
     let top = if n < m { 0 } else { n + 1 - m };
     let mut k = top;
@@ -188,8 +188,8 @@ pub fn less_in(
     m: usize,
     r: &mut [u64; 32],
 ) -> usize
-    requires { ⌜ MixIn q (now x) n (now y) m (now r) ⌝ }
-    ensures { λ l. ⌜ LessOut (q .p) (now (x .entry)) (now (y .entry)) (now (r .entry)) (now (r .exit)) l ⌝ }
+    requires { ⌜ MixAsks q (now x) n (now y) m (now r) ⌝ }
+    ensures { λ l. ⌜ LessInGives (q .p) (now (x .entry)) (now (y .entry)) (now (r .entry)) (now (r .exit)) l ⌝ }
 {
     mix_in(q, true, x, n, y, m, r);
     size(r)
@@ -211,8 +211,8 @@ pub fn divide_in(
     il: u64,
     r: &mut [u64; 32],
 ) -> Halves
-    requires { ⌜ QuotientBy q (now a) n (now b) m il (now r) ⌝ }
-    ensures { λ o. ⌜ DivideOut (q .p) (now (a .entry)) (now (b .entry)) (now (r .exit)) (now (a .exit)) (o .q) (o .r) ⌝ }
+    requires { ⌜ QuotientAsks q (now a) n (now b) m il (now r) ⌝ }
+    ensures { λ o. ⌜ DivideInGives (q .p) (now (a .entry)) (now (b .entry)) (now (r .exit)) (now (a .exit)) (o .q) (o .r) ⌝ }
 {
     let l = quotient_in(q, a, n, b, m, il, r);
     let k = less_in(q, r, l, b, m, a);

@@ -20,7 +20,7 @@ use Rattle.math_rows.proofs.Tab.{shift-high}
 use Rattle.math_rows.proofs.Rows.{cast-sub}
 use Rattle.math_rows.proofs.Unique.{psum-unique, cast-inj}
 use Rattle.math_rows.proofs.Product.{sum-more, sum-ext}
-use Rattle.poly_long.specs.Long.{termsAt, Digit, QuotientIn, Quotient}
+use Rattle.poly_long.specs.Long.{termsAt, Digit, QuotientAsks, Quotient}
 use Rattle.poly_long.proofs.Low.{product-whole, sum₃}
 
 -- u l = a x + b y + c z, with l of n numbers below p
@@ -72,7 +72,7 @@ down-start p a x b y c z u q g = record {
   same = λ pr l h i o. List·getD-eq-default q 0 {n = i} o ∙ sym (List·getD-eq-default l 0 {n = i} (let s : length l ≡ length q = h .size in omega arith));
 }
 
-pub down-more : (p : ℕ) (a x b y c z u q₀ q : List ℕ) (k v : ℕ) → QuotientIn p a b c u q₀ → Down p a x b y c z u q₀ q k → 0 < k → Digit p a x b y c z u q (k - 1) v → Down p a x b y c z u q₀ (set q (k - 1) v) (k - 1)
+pub down-more : (p : ℕ) (a x b y c z u q₀ q : List ℕ) (k v : ℕ) → QuotientAsks p a b c u q₀ → Down p a x b y c z u q₀ q k → 0 < k → Digit p a x b y c z u q (k - 1) v → Down p a x b y c z u q₀ (set q (k - 1) v) (k - 1)
 down-more p a x b y c z u q₀ q k v g d o e = record {
   size = length-set q (k - 1) v ∙ d .size;
   upto = let f : k ≤ length q₀ = d .upto in omega arith;

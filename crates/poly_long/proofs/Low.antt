@@ -26,7 +26,7 @@ use Rattle.math_rows.specs.Sum.{sumTo, termAt}
 use Rattle.math_rows.proofs.Tab.{Filled, filled-end, length-tab, at-tab, past-tab}
 use Rattle.math_rows.proofs.Rows.{psum-ext, psum-scale, psum-plus, psum-poly, psum-lt, psum-cut, tpow-add, tpow-lead, row-tab, row-upto}
 use Rattle.math_rows.proofs.Product.{product-law}
-use Rattle.poly_long.specs.Long.{Low, ScaleIn, Scaled, MixIn, Mixed, TimesIn, Times}
+use Rattle.poly_long.specs.Long.{Low, ScaleAsks, Scaled, MixAsks, Mixed, TimesAsks, Times}
 
 module _ {p : ℕ} (ρ : Reading p) where
   open Reading ρ using (𝓥, cast)
@@ -148,7 +148,7 @@ below p n f d pos h e i = subst (λ l. getD l i 0 < p) (sym e) (elim (decLt i n)
   | no l ↦ subst (λ v. v < p) (sym (past-tab n f i (omega arith))) pos
 ])
 
-pub scaled : (p s : ℕ) (d₀ d : List ℕ) (i : ℕ) → ScaleIn p s → Filled (length d₀) (λ k. N._*_ (getD d₀ k 0) s % p) d i → length d₀ ≤ i → Scaled p s d₀ d
+pub scaled : (p s : ℕ) (d₀ d : List ℕ) (i : ℕ) → ScaleAsks p s → Filled (length d₀) (λ k. N._*_ (getD d₀ k 0) s % p) d i → length d₀ ≤ i → Scaled p s d₀ d
 scaled p s d₀ d i g h l =
     let f : ℕ → ℕ = (λ k. N._*_ (getD d₀ k 0) s % p) in
     let e : d ≡ tab (length d₀) f = filled-end (length d₀) f d i h l in
@@ -159,7 +159,7 @@ scaled p s d₀ d i g h l =
       law = λ pr. ap (row (reading p pr)) e ∙ scale-law (reading p pr) s d₀;
     }
 
-pub mixed : (p : ℕ) (g x h y d₀ d : List ℕ) (i : ℕ) → MixIn p g h d₀ → Filled (length d₀) (λ k. N._+_ (sumTo (termAt g x k) (length g)) (sumTo (termAt h y k) (length h)) % p) d i → length d₀ ≤ i → Mixed p g x h y d₀ d
+pub mixed : (p : ℕ) (g x h y d₀ d : List ℕ) (i : ℕ) → MixAsks p g h d₀ → Filled (length d₀) (λ k. N._+_ (sumTo (termAt g x k) (length g)) (sumTo (termAt h y k) (length h)) % p) d i → length d₀ ≤ i → Mixed p g x h y d₀ d
 mixed p g x h y d₀ d i m w l =
     let f : ℕ → ℕ = (λ k. N._+_ (sumTo (termAt g x k) (length g)) (sumTo (termAt h y k) (length h)) % p) in
     let e : d ≡ tab (length d₀) f = filled-end (length d₀) f d i w l in
@@ -174,5 +174,5 @@ pub whole : {p : ℕ} {g x h y d r : List ℕ} → N._+_ (length g) (length x) �
     → (pr : Prime p) → let ρ = reading p pr in let o = ρ .𝓥 .L .ops in row ρ r ≡ o .add (o .mul (row ρ g) (row ρ x)) (o .mul (row ρ h) (row ρ y))
 whole {p} {g} {x} {h} {y} a b m pr = whole-law (reading p pr) g x h y a b (m .law pr)
 
-pub timed : (p : ℕ) (x y d r : List ℕ) → TimesIn p x y d → Mixed p x y (0 ∷ []) (0 ∷ []) d r → Times p x y d r
+pub timed : (p : ℕ) (x y d r : List ℕ) → TimesAsks p x y d → Mixed p x y (0 ∷ []) (0 ∷ []) d r → Times p x y d r
 timed p x y d r t m = record { size = m .size; each = m .each; law = λ pr. times-law (reading p pr) x y (t .room) (m .law pr) }

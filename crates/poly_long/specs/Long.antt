@@ -30,7 +30,7 @@ pub record Storable (p : ℕ) : Type 0 where
   pub big : 1 < p
   pub small : p < 65536
 
-pub record SumIn (x : List ℕ) (n k : ℕ) : Type 0 where
+pub record SumAtAsks (x : List ℕ) (n k : ℕ) : Type 0 where
   pub inside : n ≤ length x
   pub most : n ≤ 65536
   pub near : k ≤ 131072
@@ -39,7 +39,7 @@ pub record SumAt (x : List ℕ) (n : ℕ) (y : List ℕ) (k r : ℕ) : Type 0 wh
   pub value : r ≡ sumTo (termAt x y k) n
   pub small : r ≤ n * 4294836225
 
-pub record DigitIn (p : ℕ) (a b c u : List ℕ) (k : ℕ) : Type 0 where
+pub record DigitAsks (p : ℕ) (a b c u : List ℕ) (k : ℕ) : Type 0 where
   pub modulus : Storable p
   pub a-most : length a ≤ 65536
   pub b-most : length b ≤ 65536
@@ -56,7 +56,7 @@ pub record Digit (p : ℕ) (a x b y c z u q : List ℕ) (k r : ℕ) : Type 0 whe
   pub below : r < p
   pub value : r ≡ (termsAt a x b y c z (k + (length u - 1)) + (p - sumTo (termAt u q (k + (length u - 1))) (length u - 1) % p)) % p
 
-pub record QuotientIn (p : ℕ) (a b c u q : List ℕ) : Type 0 where
+pub record QuotientAsks (p : ℕ) (a b c u q : List ℕ) : Type 0 where
   pub modulus : Storable p
   pub a-most : length a ≤ 65536
   pub b-most : length b ≤ 65536
@@ -73,7 +73,7 @@ pub record Quotient (p : ℕ) (a x b y c z u q q′ : List ℕ) : Type 0 where
       → o .mul (row ρ u) (row ρ l) ≡ o .add (o .add (o .mul (row ρ a) (row ρ x)) (o .mul (row ρ b) (row ρ y))) (o .mul (row ρ c) (row ρ z))
       → q′ ≡ l
 
-pub record MixIn (p : ℕ) (g h d : List ℕ) : Type 0 where
+pub record MixAsks (p : ℕ) (g h d : List ℕ) : Type 0 where
   pub modulus : Storable p
   pub g-most : length g ≤ 65536
   pub h-most : length h ≤ 65536
@@ -84,7 +84,7 @@ pub record Mixed (p : ℕ) (g x h y d d′ : List ℕ) : Type 0 where
   pub size : length d′ ≡ length d
   pub law : (pr : Prime p) → let ρ = reading p pr in let o = ρ .𝓥 .L .ops in Low ρ (length d) (o .add (o .mul (row ρ g) (row ρ x)) (o .mul (row ρ h) (row ρ y))) d′
 
-pub record TimesIn (p : ℕ) (x y d : List ℕ) : Type 0 where
+pub record TimesAsks (p : ℕ) (x y d : List ℕ) : Type 0 where
   pub modulus : Storable p
   pub room : length x + length y ≤ length d
   pub d-most : length d ≤ 65536
@@ -94,7 +94,7 @@ pub record Times (p : ℕ) (x y d d′ : List ℕ) : Type 0 where
   pub each : (i : ℕ) → getD d′ i 0 < p
   pub law : (pr : Prime p) → let ρ = reading p pr in row ρ d′ ≡ ρ .𝓥 .L .ops .mul (row ρ x) (row ρ y)
 
-pub record ScaleIn (p s : ℕ) : Type 0 where
+pub record ScaleAsks (p s : ℕ) : Type 0 where
   pub modulus : Storable p
   pub below : s < p
 

@@ -5,7 +5,7 @@ ghost use mathlib.Core.Path.{_≡_};
 ghost use Prim.Native.Nat.{_+_, _*_, _-_, _%_, _<_, _≤_};
 ghost use lib.ListN.{length, getD, replicate};
 ghost use Rattle.math_rows.specs.Row.{Size};
-ghost use Rattle.poly_long.specs.Long.{SumIn, SumAt, DigitIn, Digit, QuotientIn, Quotient, MixIn, Mixed, TimesIn, Times, ScaleIn, Scaled, Stored};
+ghost use Rattle.poly_long.specs.Long.{SumAtAsks, SumAt, DigitAsks, Digit, QuotientAsks, Quotient, MixAsks, Mixed, TimesAsks, Times, ScaleAsks, Scaled, Stored};
 
 // The length without the zeros at the end.
 pub fn size(x: &[u16]) -> usize
@@ -23,7 +23,7 @@ pub fn size(x: &[u16]) -> usize
 
 // The first n terms of coefficient k of x y.
 fn sum_at(x: &[u16], n: usize, y: &[u16], k: usize) -> u64
-    requires { ⌜ SumIn (now x) n k ⌝ }
+    requires { ⌜ SumAtAsks (now x) n k ⌝ }
     ensures { λ r. ⌜ SumAt (now (x .entry)) n (now (y .entry)) k r ⌝ }
 {
     let from = if k < y.len() { 0 } else { k + 1 - y.len() };
@@ -50,7 +50,7 @@ fn digit(
     q: &[u16],
     k: usize,
 ) -> u64
-    requires { ⌜ DigitIn p (now a) (now b) (now c) (now u) k ⌝ }
+    requires { ⌜ DigitAsks p (now a) (now b) (now c) (now u) k ⌝ }
     ensures { λ r. ⌜ Digit p (now (a .entry)) (now (x .entry)) (now (b .entry)) (now (y .entry)) (now (c .entry)) (now (z .entry)) (now (u .entry)) (now (q .entry)) k r ⌝ }
 {
     let m = u.len() - 1;
@@ -73,7 +73,7 @@ pub fn quotient(
     u: &[u16],
     q: &mut [u16],
 )
-    requires { ⌜ QuotientIn p (now a) (now b) (now c) (now u) (now q) ⌝ }
+    requires { ⌜ QuotientAsks p (now a) (now b) (now c) (now u) (now q) ⌝ }
     ensures { λ _. ⌜ Quotient p (now (a .entry)) (now (x .entry)) (now (b .entry)) (now (y .entry)) (now (c .entry)) (now (z .entry)) (now (u .entry)) (now (q .entry)) (now (q .exit)) ⌝ }
 {
     let mut k = q.len();
@@ -86,7 +86,7 @@ pub fn quotient(
 
 // The low coefficients of g x + h y, as many as d holds; zeros at the ends of g and h cost nothing.
 pub fn mix(p: u64, g: &[u16], x: &[u16], h: &[u16], y: &[u16], d: &mut [u16])
-    requires { ⌜ MixIn p (now g) (now h) (now d) ⌝ }
+    requires { ⌜ MixAsks p (now g) (now h) (now d) ⌝ }
     ensures { λ _. ⌜ Mixed p (now (g .entry)) (now (x .entry)) (now (h .entry)) (now (y .entry)) (now (d .entry)) (now (d .exit)) ⌝ }
 {
     let m = size(g);
@@ -102,7 +102,7 @@ pub fn mix(p: u64, g: &[u16], x: &[u16], h: &[u16], y: &[u16], d: &mut [u16])
 
 // x y
 pub fn times(p: u64, x: &[u16], y: &[u16], d: &mut [u16])
-    requires { ⌜ TimesIn p (now x) (now y) (now d) ⌝ }
+    requires { ⌜ TimesAsks p (now x) (now y) (now d) ⌝ }
     ensures { λ _. ⌜ Times p (now (x .entry)) (now (y .entry)) (now (d .entry)) (now (d .exit)) ⌝ }
 {
     let o: [u16; 1] = [0; 1];
@@ -111,7 +111,7 @@ pub fn times(p: u64, x: &[u16], y: &[u16], d: &mut [u16])
 
 // x s mod p; zeros cost no division.
 fn scaled(p: u64, s: u64, x: u16) -> u16
-    requires { ⌜ ScaleIn p s ⌝ }
+    requires { ⌜ ScaleAsks p s ⌝ }
     ensures { λ r. ⌜ r ≡ (x * s) % p ⌝ }
 {
     if x == 0 {
@@ -123,7 +123,7 @@ fn scaled(p: u64, s: u64, x: u16) -> u16
 
 // s d
 pub fn scale(p: u64, s: u64, d: &mut [u16])
-    requires { ⌜ ScaleIn p s ⌝ }
+    requires { ⌜ ScaleAsks p s ⌝ }
     ensures { λ _. ⌜ Scaled p s (now (d .entry)) (now (d .exit)) ⌝ }
 {
     let mut i: usize = 0;
@@ -156,7 +156,7 @@ pub fn copy(s: &[u16], d: &mut [u16])
 }
 
 // A working row as stored coefficients.
-pub fn narrow(x: &[u64; 32]) -> [u16; 32]
+pub fn to_stored(x: &[u64; 32]) -> [u16; 32]
     requires { ⌜ Stored (now x) ⌝ }
     ensures { λ r. ⌜ r ≡ now (x .entry) ⌝ }
 {

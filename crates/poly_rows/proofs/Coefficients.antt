@@ -11,8 +11,8 @@ use Rattle.math_rows.specs.Row.{tab, Row, Size, row}
 use Rattle.math_rows.specs.Sum.{sumTo, termAt}
 use Rattle.math_rows.proofs.Tab.{tab-row, shift-low, shift-high, Begun, begun-end}
 use Rattle.math_rows.proofs.Product.{mul-law, sum-more, sum-skip, sum-none}
-use Rattle.poly_rows.specs.Leaf.{MulIn, Product}
-use Rattle.poly_rows.specs.Coefficients.{PartIn}
+use Rattle.poly_rows.specs.Leaf.{MulAsks, Product}
+use Rattle.poly_rows.specs.Coefficients.{PartAsks}
 
 -- one more term, where s and r are sums up to a multiple of p
 pub part-more : (p : ℕ) (f : ℕ → ℕ) (from i s t r : ℕ) → (sumTo f from + s) % p ≡ sumTo f i % p → r % p ≡ (s + t) % p → t ≡ f i → (sumTo f from + r) % p ≡ sumTo f (i + 1) % p
@@ -49,7 +49,7 @@ placed p x n y m k from to r s a b d h =
     ∙ h
     ∙ ap (λ z. z % p) (sym (sum-skip (termAt x y k) to n b (λ i u v. term-past x y k i (omega arith))))
 
-pub product : (p : ℕ) (x y : List ℕ) (n m k : ℕ) (r : List ℕ) → MulIn p x y → Size x n → Size y m → n + m ≤ k + 1 → Begun 32 (λ k. sumTo (termAt x y k) n % p) r k → Product p x y r
+pub product : (p : ℕ) (x y : List ℕ) (n m k : ℕ) (r : List ℕ) → MulAsks p x y → Size x n → Size y m → n + m ≤ k + 1 → Begun 32 (λ k. sumTo (termAt x y k) n % p) r k → Product p x y r
 product p x y n m k r h sx sy l b =
     let e : r ≡ tab 32 (λ k. sumTo (termAt x y k) n % p) = begun-end 32 _ r k b (λ j u v. ap (λ z. z % p) (sum-none (termAt x y j) n (λ i w. term-none x y m j i sy (omega arith))) ∙ zero-mod p) in
     let g : 1 < p = h .modulus .big in record {
@@ -58,7 +58,7 @@ product p x y n m k r h sx sy l b =
     }
 
 -- each term is at most 2^56 where p is below 2^28
-pub plain-term : {p : ℕ} {x y : List ℕ} {from to k : ℕ} → PartIn p x y from to k → p < 268435456 → (i : ℕ) → getD x i 0 * getD y (k - i) 0 ≤ 72057594037927936
+pub plain-term : {p : ℕ} {x y : List ℕ} {from to k : ℕ} → PartAsks p x y from to k → p < 268435456 → (i : ℕ) → getD x i 0 * getD y (k - i) 0 ≤ 72057594037927936
 plain-term {p} {x} {y} {k = k} h l i =
     let hx : getD x i 0 < p = h .hx .each i in
     let hy : getD y (k - i) 0 < p = h .hy .each (k - i) in

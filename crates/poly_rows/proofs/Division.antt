@@ -23,8 +23,8 @@ use Rattle.math_rows.proofs.Quotient.{Agree, agree-more, agree-end, exact-law, 
 use Rattle.math_rows.proofs.Unique.{row-unique}
 use Rattle.num_mod.specs.Prepared.{Prepared}
 use Rattle.num_mod.specs.declared.Modulus.{Modulus}
-use Rattle.poly_rows.specs.Division.{DivIn, Quotient, Exact, Divided, DigitIn, Digit}
-use Rattle.poly_rows.proofs.Leaf.{size-one, zeros-row}
+use Rattle.poly_rows.specs.Division.{DivisionAsks, Quotient, Exact, Divided, QuotientCoefficientAsks, Digit}
+use Rattle.poly_rows.proofs.Leaf.{size-unique, zeros-row}
 use Rattle.poly_rows.proofs.Coefficients.{term-past}
 
 -- the terms of a product where q is 0
@@ -32,7 +32,7 @@ term-zero : (q b : List ℕ) (k i : ℕ) → getD q i 0 ≡ 0 → termAt q b k i
 term-zero q b k i z = ap (λ x. x * shiftAt b i k) z ∙ zero-mul (shiftAt b i k)
 
 -- the run of terms that the code adds is the whole sum
-pub digit-sum : (s : Modulus) (a q b : List ℕ) (m il top k to r : ℕ) → DigitIn s a q b m il top k → to ≤ 32 → min (k + (m - 1) + 1) top ≤ to
+pub digit-sum : (s : Modulus) (a q b : List ℕ) (m il top k to r : ℕ) → QuotientCoefficientAsks s a q b m il top k → to ≤ 32 → min (k + (m - 1) + 1) top ≤ to
     → (sumTo (termAt q b (k + (m - 1))) (k + 1) + r) % s .p ≡ sumTo (termAt q b (k + (m - 1))) to % s .p → r % s .p ≡ sumTo (termAt q b (k + (m - 1))) 32 % s .p
 digit-sum s a q b m il top k to r h l u g =
     let f = termAt q b (k + (m - 1)) in
@@ -41,7 +41,7 @@ digit-sum s a q b m il top k to r h l u g =
     ∙ g
     ∙ ap (λ z. z % s .p) (sym (sum-skip f to 32 l (λ i v w. elim (decLt (k + (m - 1)) i) [ yes o ↦ term-past q b (k + (m - 1)) i o | no o ↦ term-zero q b (k + (m - 1)) i (h .high i (omega arith)) ])))
 
-pub div-pos : (p : ℕ) (a b : List ℕ) (il m : ℕ) → DivIn p a b il → Size b m → 0 < m
+pub div-pos : (p : ℕ) (a b : List ℕ) (il m : ℕ) → DivisionAsks p a b il → Size b m → 0 < m
 div-pos p a b il zero h s =
     let z : (il * getD b (0 - 1) 0) % p ≡ 0 = ap (λ x. (il * x) % p) (s .above (0 - 1) (omega arith)) ∙ ap (λ x. x % p) (mul-zero il) ∙ zero-mod p in
     let o : (il * getD b (0 - 1) 0) % p ≡ 1 = h .inv 0 s in
@@ -59,7 +59,7 @@ pub record Dividing (p : ℕ) (a b : List ℕ) (il m top : ℕ) (q : List ℕ) (
   pub high : (i : ℕ) → top ≤ i → getD q i 0 ≡ 0
   pub agree : (pr : Prime p) → Agree (reading p pr) a q b (k + (m - 1))
 
-pub dividing-start : (p : ℕ) (a b : List ℕ) (il n m top : ℕ) → DivIn p a b il → Size a n → Size b m → n + 1 ≤ top + m → top + m ≤ 33 → Dividing p a b il m top (replicate 32 0) top
+pub dividing-start : (p : ℕ) (a b : List ℕ) (il n m top : ℕ) → DivisionAsks p a b il → Size a n → Size b m → n + 1 ≤ top + m → top + m ≤ 33 → Dividing p a b il m top (replicate 32 0) top
 dividing-start p a b il n m top h sa sb l fits =
     let pos : 0 < m = div-pos p a b il m h sb in record {
       sb = sb;
@@ -72,7 +72,7 @@ dividing-start p a b il n m top h sa sb l fits =
       agree = λ pr j u. ap (reading p pr .cast) (sa .above j (omega arith) ∙ sym (sum-none (termAt (replicate 32 0) b j) 32 (λ i w. term-zero (replicate 32 0) b j i (zeros-at 32 i))));
     }
 
-pub dividing-digit : {s : Modulus} {a b : List ℕ} {il m top : ℕ} {q : List ℕ} {k : ℕ} → DivIn (s .p) a b il → Dividing (s .p) a b il m top q k → 0 < k → Prepared s → DigitIn s a q b m il top (k - 1)
+pub dividing-digit : {s : Modulus} {a b : List ℕ} {il m top : ℕ} {q : List ℕ} {k : ℕ} → DivisionAsks (s .p) a b il → Dividing (s .p) a b il m top q k → 0 < k → Prepared s → QuotientCoefficientAsks s a q b m il top (k - 1)
 dividing-digit {top = top} {k = k} h d u g = record {
   modulus = g;
   ha = h .ha;
@@ -87,7 +87,7 @@ dividing-digit {top = top} {k = k} h d u g = record {
   high = d .high;
 }
 
-module _ {p : ℕ} {a b : List ℕ} {il m top : ℕ} {q : List ℕ} {k : ℕ} (h : DivIn p a b il) (d : Dividing p a b il m top q k) (u : 0 < k) where
+module _ {p : ℕ} {a b : List ℕ} {il m top : ℕ} {q : List ℕ} {k : ℕ} (h : DivisionAsks p a b il) (d : Dividing p a b il m top q k) (u : 0 < k) where
   pub dividing-turn : (v : ℕ) → Digit p a q b m il (k - 1) v → Dividing p a b il m top (set q (k - 1) v) (k - 1)
   dividing-turn v e =
       let g : 1 < p = h .modulus .big in
@@ -115,10 +115,10 @@ module _ {p : ℕ} {a b : List ℕ} {il m top : ℕ} {q : List ℕ} {k : ℕ} (h
             (λ j w. d .agree pr j (omega arith));
       }
 
-pub dividing-end : (p : ℕ) (a b : List ℕ) (il m top : ℕ) (q : List ℕ) (k : ℕ) → DivIn p a b il → Dividing p a b il m top q k → k ≤ 0 → Quotient p a b q
+pub dividing-end : (p : ℕ) (a b : List ℕ) (il m top : ℕ) (q : List ℕ) (k : ℕ) → DivisionAsks p a b il → Dividing p a b il m top q k → k ≤ 0 → Quotient p a b q
 dividing-end p a b il m top q k h d z = record {
   is-row = d .hq;
-  room = λ n′ m′ sq sb. let e : m′ ≡ m = size-one sb (d .sb) in let f : top + m ≤ 33 = d .fits in elim (decLe n′ top) [ yes l ↦ omega arith | no l ↦ absurd (sq .top (omega arith) (d .high (n′ - 1) (omega arith))) ];
+  room = λ n′ m′ sq sb. let e : m′ ≡ m = size-unique sb (d .sb) in let f : top + m ≤ 33 = d .fits in elim (decLe n′ top) [ yes l ↦ omega arith | no l ↦ absurd (sq .top (omega arith) (d .high (n′ - 1) (omega arith))) ];
   law = λ pr n hn. let R = reading p pr in
       let o : 0 < m = d .pos in
       let f : top + m ≤ 33 = d .fits in
@@ -126,7 +126,7 @@ dividing-end p a b il m top q k h d z = record {
       subst (λ j. Lt (R .𝓥) (R .𝓥 .L .ops .add (row R a) (R .𝓥 .L .ops .neg (R .𝓥 .L .ops .mul (row R q) (row R b)))) j) e (agree-end R a q b (m - 1) (h .ha .size) (d .hq .size) (h .hb .size) (omega arith) (λ j w. d .agree pr j (omega arith)));
 }
 
-pub exact-made : (p : ℕ) (a b : List ℕ) (il : ℕ) (q : List ℕ) → DivIn p a b il → Quotient p a b q → Exact p a b q
+pub exact-made : (p : ℕ) (a b : List ℕ) (il : ℕ) (q : List ℕ) → DivisionAsks p a b il → Quotient p a b q → Exact p a b q
 exact-made p a b il q h g = record {
   is-row = g .is-row;
   law = λ pr w hw e. let R = reading p pr in let (m, s) = sized b in let d = size-has-at R m (h .hb) s (div-pos p a b il m h s) in
@@ -145,7 +145,7 @@ divided p a b q r g h d = record {
 }
 
 -- there is one such pair
-pub divided-unique : (p : ℕ) (pr : Prime p) (a b : List ℕ) (il : ℕ) (q r q′ r′ : List ℕ) → DivIn p a b il → Divided p a b q r → Divided p a b q′ r′ → (q ≡ q′) × (r ≡ r′)
+pub divided-unique : (p : ℕ) (pr : Prime p) (a b : List ℕ) (il : ℕ) (q r q′ r′ : List ℕ) → DivisionAsks p a b il → Divided p a b q r → Divided p a b q′ r′ → (q ≡ q′) × (r ≡ r′)
 divided-unique p pr a b il q r q′ r′ h d e =
     let R = reading p pr in
     let (m, s) = sized b in

@@ -14,7 +14,7 @@ use Rattle.math_rows.specs.Row.{tab, Row, Size, row, coefs, shiftAt}
 use Rattle.math_rows.proofs.Tab.{zeros-at, tab-row, crossAt, cross-row, Filled, filled-start, filled-more, Begun, begun-end, shift-high, shift-small}
 use Rattle.math_rows.proofs.Rows.{sub-law, scale-law, cross-law, row-32, row-upto, psum-ext}
 use Rattle.math_rows.proofs.Floors.{zero-row, sized}
-use Rattle.poly_rows.specs.Leaf.{Given, Opposite, Short, ScaleBy, ScaleOut, CrossBy, CrossOut, Listed}
+use Rattle.poly_rows.specs.Leaf.{Given, Opposite, Short, ScaleInAsks, ScaleInGives, CrossInAsks, CrossInGives, Listed}
 use Rattle.num_mod.specs.Prepared.{Prepared}
 use Rattle.num_mod.specs.declared.Modulus.{Modulus}
 
@@ -55,7 +55,7 @@ swept-more n f r₀ r i v h l e = record { filled = filled-more n f r i v (h .fi
 swept-begun : {p n i : ℕ} {f : ℕ → ℕ} {x r : List ℕ} → Short p x n → n ≤ i → Swept 32 f x r i → Begun 32 f r i
 swept-begun h l s = record { size = s .filled .size; done = s .filled .done; rest = λ k u. s .rest k u ∙ h .above k (omega arith) }
 
-pub scaled : {q : Modulus} {c : ℕ} {x : List ℕ} {n i : ℕ} {r : List ℕ} → ScaleBy q c x n → i ≡ n → Swept 32 (λ i. (c * getD x i 0) % q .p) x r i → ScaleOut (q .p) c x n r
+pub scaled : {q : Modulus} {c : ℕ} {x : List ℕ} {n i : ℕ} {r : List ℕ} → ScaleInAsks q c x n → i ≡ n → Swept 32 (λ i. (c * getD x i 0) % q .p) x r i → ScaleInGives (q .p) c x n r
 scaled {q} {c} {x} {n} {i} {r} h l s =
     let b = swept-begun (h .hx) (omega arith) s in
     let e : r ≡ tab 32 (λ i. (c * getD x i 0) % q .p) = begun-end 32 (λ i. (c * getD x i 0) % q .p) r i b (λ k u v. ap (λ a. (c * a) % q .p) (h .hx .above k (omega arith)) ∙ ap (λ a. a % q .p) (mul-zero c) ∙ zero-mod (q .p)) in
@@ -65,7 +65,7 @@ scaled {q} {c} {x} {n} {i} {r} h l s =
     }
 
 -- what cross_in takes the remainder of, where a and z are the coefficients of x and of t^k y at i
-pub cross-low : {q : Modulus} {s : ℕ} {x : List ℕ} {c k : ℕ} {y : List ℕ} {n : ℕ} → CrossBy q s x c k y n → (i a z : ℕ) → a ≡ getD x i 0 → z ≡ shiftAt y k i → s * a + (q .p - c) * z ≤ 9223372036854775808
+pub cross-low : {q : Modulus} {s : ℕ} {x : List ℕ} {c k : ℕ} {y : List ℕ} {n : ℕ} → CrossInAsks q s x c k y n → (i a z : ℕ) → a ≡ getD x i 0 → z ≡ shiftAt y k i → s * a + (q .p - c) * z ≤ 9223372036854775808
 cross-low {q} {s = s} {x = x} {c = c} {k = k} {y = y} h i a z e f =
     let b : 1 < q .p = h .modulus .big in
     let m : q .p < 2147483648 = h .modulus .small in
@@ -83,7 +83,7 @@ shift-room {y} {m} n k s f l h = elim (decLt 32 (m + k)) [
   | no u ↦ omega arith
 ]
 
-pub crossed : {q : Modulus} {s : ℕ} {x : List ℕ} {c k : ℕ} {y : List ℕ} {n i : ℕ} {r : List ℕ} → CrossBy q s x c k y n → i ≡ n → Swept 32 (crossAt (q .p) s x c k y) x r i → CrossOut (q .p) s x c k y n r
+pub crossed : {q : Modulus} {s : ℕ} {x : List ℕ} {c k : ℕ} {y : List ℕ} {n i : ℕ} {r : List ℕ} → CrossInAsks q s x c k y n → i ≡ n → Swept 32 (crossAt (q .p) s x c k y) x r i → CrossInGives (q .p) s x c k y n r
 crossed {q} {s} {x} {c} {k} {y} {n} {i} {r} h l w =
     let b = swept-begun (h .hx) (omega arith) w in
     let e : r ≡ tab 32 (crossAt (q .p) s x c k y) = begun-end 32 (crossAt (q .p) s x c k y) r i b (λ j u v. none j (omega arith)) in
@@ -102,7 +102,7 @@ size-short : {p : ℕ} {x : List ℕ} {n : ℕ} (m : ℕ) → Row p x → Size x
 size-short m h s l = record { is-row = h; above = λ i u. s .above i (omega arith) }
 
 pub cross-by : {q : Modulus} {s : ℕ} {x : List ℕ} {c k : ℕ} {y : List ℕ} {n m : ℕ} (top : ℕ) → Prepared q → s < q .p → c ≤ q .p → Row (q .p) x → Row (q .p) y → Size x n → Size y m
-    → n ≤ top → m + k ≤ top → top ≤ 32 → CrossBy q s x c k y top
+    → n ≤ top → m + k ≤ top → top ≤ 32 → CrossInAsks q s x c k y top
 cross-by {k = k} {y = y} {n = n} {m = m} top h hs hc hx hy sx sy u v w = record {
   modulus = h;
   hs = hs;
@@ -115,8 +115,8 @@ cross-by {k = k} {y = y} {n = n} {m = m} top h hs hc hx hy sx sy u v w = record 
 }
 
 -- a list has one trimmed length
-pub size-one : {l : List ℕ} {n m : ℕ} → Size l n → Size l m → n ≡ m
-size-one {l} {n} {m} s u = elim (decLt n m) [
+pub size-unique : {l : List ℕ} {n m : ℕ} → Size l n → Size l m → n ≡ m
+size-unique {l} {n} {m} s u = elim (decLt n m) [
   | yes a ↦ absurd (u .top (omega arith) (s .above (m - 1) (omega arith)))
   | no a ↦ elim (decLt m n) [ yes b ↦ absurd (s .top (omega arith) (u .above (n - 1) (omega arith))) | no b ↦ omega arith ]
 ]

@@ -27,7 +27,7 @@ use Rattle.math_rows.proofs.Floors.{sized, zero-row}
 use Rattle.math_rows.proofs.Turn.{lt-scale}
 use Rattle.math_rows.proofs.Unique.{cast-inj}
 use Rattle.poly_rows.specs.Leaf.{Cut, Short, Fits}
-use Rattle.poly_rows.specs.Division.{Inverts, DivIn}
+use Rattle.poly_rows.specs.Division.{Inverts, DivisionAsks}
 
 -- ---- lengths
 pub size-below : {p : ℕ} {l : List ℕ} {m n : ℕ} → Short p l n → Size l m → m ≤ n
@@ -116,7 +116,7 @@ inverts-has {p} pr {b} {il} hb h = go (sized b)
         absurd (omega (arith, f, g))
     go (suc n, s) = (n, size-has (reading p pr) hb s)
 
-pub by-inverse : {p il : ℕ} {a b : List ℕ} → IsModulus p → Row p a → Row p b → Inverts p b il → DivIn p a b il
+pub by-inverse : {p il : ℕ} {a b : List ℕ} → IsModulus p → Row p a → Row p b → Inverts p b il → DivisionAsks p a b il
 by-inverse m ha hb h = record { modulus = m; ha = ha; hb = hb; hi = h .below; inv = h .law }
 
 pub odd-prime : (p : ℕ) → Prime p → 5 ≤ p → p % 2 ≡ 1

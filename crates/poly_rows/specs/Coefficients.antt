@@ -10,7 +10,7 @@ use Rattle.num_mod.specs.declared.Modulus.{Modulus}
 use Rattle.math_rows.specs.Row.{Row, Size}
 use Rattle.math_rows.specs.Sum.{sumTo, termAt}
 
-pub record PartIn (p : ℕ) (x y : List ℕ) (from to k : ℕ) : Type 0 where
+pub record PartAsks (p : ℕ) (x y : List ℕ) (from to k : ℕ) : Type 0 where
   pub modulus : IsModulus p
   pub hx : Row p x
   pub hy : Row p y
@@ -23,7 +23,7 @@ pub record Part (p : ℕ) (x y : List ℕ) (from to k r : ℕ) : Type 0 where
   pub low : r < 9223372036854775808
   pub law : (sumTo (termAt x y k) from + r) % p ≡ sumTo (termAt x y k) to % p
 
-pub record PlaceIn (q : Modulus) (x : List ℕ) (n : ℕ) (y : List ℕ) (m k : ℕ) : Type 0 where
+pub record ProductCoefficientAsks (q : Modulus) (x : List ℕ) (n : ℕ) (y : List ℕ) (m k : ℕ) : Type 0 where
   pub modulus : Prepared q
   pub hx : Row (q .p) x
   pub hy : Row (q .p) y

@@ -21,7 +21,7 @@ pub record Inverts (p : ℕ) (b : List ℕ) (il : ℕ) : Type 0 where
   pub below : il < p
   pub law : (n : ℕ) → Size b n → (il * getD b (n - 1) 0) % p ≡ 1
 
-pub record DivIn (p : ℕ) (a b : List ℕ) (il : ℕ) : Type 0 where
+pub record DivisionAsks (p : ℕ) (a b : List ℕ) (il : ℕ) : Type 0 where
   pub modulus : IsModulus p
   pub ha : Row p a
   pub hb : Row p b
@@ -45,7 +45,7 @@ pub record Divided (p : ℕ) (a b q r : List ℕ) : Type 0 where
   pub low : (pr : Prime p) (n : ℕ) → let ρ = reading p pr in Has (ρ .𝓥) (row ρ b) n → Lt (ρ .𝓥) (row ρ r) n
 
 -- ---- one coefficient of the quotient, q_k, from those above it; the quotient has no more than top
-pub record DigitIn (s : Modulus) (a q b : List ℕ) (m il top k : ℕ) : Type 0 where
+pub record QuotientCoefficientAsks (s : Modulus) (a q b : List ℕ) (m il top k : ℕ) : Type 0 where
   pub modulus : Prepared s
   pub ha : Row (s .p) a
   pub hq : Row (s .p) q

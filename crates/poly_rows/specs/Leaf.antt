@@ -2,8 +2,8 @@
 -- hold for every prime p, the rows are rows for every modulus.
 --   size, size_from   the trimmed length: `Size` of crate math_rows
 --   minus             Opposite: − x
---   scale_in          ScaleOut: c x in place of x, which is Short: 0 from n on, before and after
---   cross_in          CrossOut: s x − c t^k y in place of x, Short too
+--   scale_in          ScaleInGives: c x in place of x, which is Short: 0 from n on, before and after
+--   cross_in          CrossInGives: s x − c t^k y in place of x, Short too
 --   mul               Product: x y, where the product Fits into a row
 --   from_list         Listed: the polynomial of a list
 use mathlib.Core.Path.{_≡_}
@@ -41,13 +41,13 @@ pub record Scaled (p c : ℕ) (x r : List ℕ) : Type 0 where
   pub is-row : Row p r
   pub law : (pr : Prime p) → let ρ = reading p pr in row ρ r ≡ ρ .𝓥 .L .ops .mul (ρ .𝓥 .const (ρ .cast c)) (row ρ x)
 
-pub record ScaleBy (q : Modulus) (c : ℕ) (x : List ℕ) (n : ℕ) : Type 0 where
+pub record ScaleInAsks (q : Modulus) (c : ℕ) (x : List ℕ) (n : ℕ) : Type 0 where
   pub modulus : Prepared q
   pub hc : c < q .p
   pub hx : Short (q .p) x n
   pub fits : n ≤ 32
 
-pub record ScaleOut (p c : ℕ) (x : List ℕ) (n : ℕ) (r : List ℕ) : Type 0 where
+pub record ScaleInGives (p c : ℕ) (x : List ℕ) (n : ℕ) (r : List ℕ) : Type 0 where
   pub short : Short p r n
   pub scaled : Scaled p c x r
 
@@ -56,7 +56,7 @@ pub record Crossed (p s : ℕ) (x : List ℕ) (c k : ℕ) (y r : List ℕ) : Typ
   pub is-row : Row p r
   pub law : (pr : Prime p) → let ρ = reading p pr in row ρ r ≡ comb ρ (ρ .cast s) (ρ .cast c) k (row ρ x) (row ρ y)
 
-pub record CrossBy (q : Modulus) (s : ℕ) (x : List ℕ) (c k : ℕ) (y : List ℕ) (n : ℕ) : Type 0 where
+pub record CrossInAsks (q : Modulus) (s : ℕ) (x : List ℕ) (c k : ℕ) (y : List ℕ) (n : ℕ) : Type 0 where
   pub modulus : Prepared q
   pub hs : s < q .p
   pub hx : Short (q .p) x n
@@ -66,7 +66,7 @@ pub record CrossBy (q : Modulus) (s : ℕ) (x : List ℕ) (c k : ℕ) (y : List 
   pub low : k ≤ 32
   pub above : (i : ℕ) → n ≤ i → shiftAt y k i ≡ 0
 
-pub record CrossOut (p s : ℕ) (x : List ℕ) (c k : ℕ) (y : List ℕ) (n : ℕ) (r : List ℕ) : Type 0 where
+pub record CrossInGives (p s : ℕ) (x : List ℕ) (c k : ℕ) (y : List ℕ) (n : ℕ) (r : List ℕ) : Type 0 where
   pub short : Short p r n
   pub crossed : Crossed p s x c k y r
 
@@ -74,7 +74,7 @@ pub record CrossOut (p s : ℕ) (x : List ℕ) (c k : ℕ) (y : List ℕ) (n : �
 abbrev pub Fits : List ℕ → List ℕ → Type 0
 Fits x y = (n m : ℕ) → Size x n → Size y m → n + m ≤ 33
 
-pub record MulIn (p : ℕ) (x y : List ℕ) : Type 0 where
+pub record MulAsks (p : ℕ) (x y : List ℕ) : Type 0 where
   pub modulus : IsModulus p
   pub hx : Row p x
   pub hy : Row p y

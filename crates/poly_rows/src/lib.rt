@@ -10,10 +10,10 @@ ghost use mathlib.Core.Path.{_≡_};
 ghost use Prim.Native.Nat.{_+_, _*_, _-_, _%_, _<_, _≤_};
 ghost use lib.ListN.{length};
 ghost use Rattle.math_rows.specs.Row.{Size, shiftAt};
-ghost use Rattle.poly_rows.specs.Leaf.{Cut, Given, Opposite, ScaleBy, ScaleOut};
-ghost use Rattle.poly_rows.specs.Leaf.{CrossBy, CrossOut, MulIn, Product, Listed};
-ghost use Rattle.poly_rows.specs.Coefficients.{PartIn, Part, PlaceIn};
-ghost use Rattle.poly_rows.specs.Division.{DigitIn, Digit};
+ghost use Rattle.poly_rows.specs.Leaf.{Cut, Given, Opposite, ScaleInAsks, ScaleInGives};
+ghost use Rattle.poly_rows.specs.Leaf.{CrossInAsks, CrossInGives, MulAsks, Product, Listed};
+ghost use Rattle.poly_rows.specs.Coefficients.{PartAsks, Part, ProductCoefficientAsks};
+ghost use Rattle.poly_rows.specs.Division.{QuotientCoefficientAsks, Digit};
 ghost use Rattle.math_rows.specs.Sum.{sumTo, termAt};
 
 type Row = [u64; 32];
@@ -57,8 +57,8 @@ pub fn minus(p: u64, x: &Row) -> Row
 
 // c x in place of x, which ends before n.
 pub fn scale_in(q: Modulus, c: u64, x: &mut Row, n: usize)
-    requires { ⌜ ScaleBy q c (now x) n ⌝ }
-    ensures { λ _. ⌜ ScaleOut (q .p) c (now (x .entry)) n (now (x .exit)) ⌝ }
+    requires { ⌜ ScaleInAsks q c (now x) n ⌝ }
+    ensures { λ _. ⌜ ScaleInGives (q .p) c (now (x .entry)) n (now (x .exit)) ⌝ }
 {
     let mut i: usize = 0;
     while i < n {
@@ -78,8 +78,8 @@ fn shifted(y: &Row, k: usize, i: usize) -> u64
 
 // s x - c t^k y, of n terms, in place of x.
 pub fn cross_in(q: Modulus, s: u64, x: &mut Row, c: u64, k: usize, y: &Row, n: usize)
-    requires { ⌜ CrossBy q s (now x) c k (now y) n ⌝ }
-    ensures { λ _. ⌜ CrossOut (q .p) s (now (x .entry)) c k (now (y .entry)) n (now (x .exit)) ⌝ }
+    requires { ⌜ CrossInAsks q s (now x) c k (now y) n ⌝ }
+    ensures { λ _. ⌜ CrossInGives (q .p) s (now (x .entry)) c k (now (y .entry)) n (now (x .exit)) ⌝ }
 {
     let d = q.p - c;
     let mut i: usize = 0;
@@ -93,7 +93,7 @@ pub fn cross_in(q: Modulus, s: u64, x: &mut Row, c: u64, k: usize, y: &Row, n: u
 
 // The terms from .. to - 1 of coefficient k of x y, up to a multiple of p.
 fn folded(p: u64, x: &Row, y: &Row, from: usize, to: usize, k: usize) -> u64
-    requires { ⌜ PartIn p (now x) (now y) from to k ⌝ }
+    requires { ⌜ PartAsks p (now x) (now y) from to k ⌝ }
     ensures { λ r. ⌜ Part p (now (x .entry)) (now (y .entry)) from to k r ⌝ }
 {
     let mut s: u64 = 0;
@@ -107,7 +107,7 @@ fn folded(p: u64, x: &Row, y: &Row, from: usize, to: usize, k: usize) -> u64
 
 // The same: below 2^28 the sum fits as it is.
 fn terms(p: u64, x: &Row, y: &Row, from: usize, to: usize, k: usize) -> u64
-    requires { ⌜ PartIn p (now x) (now y) from to k ⌝ }
+    requires { ⌜ PartAsks p (now x) (now y) from to k ⌝ }
     ensures { λ r. ⌜ Part p (now (x .entry)) (now (y .entry)) from to k r ⌝ }
 {
     if p < 268435456 {
@@ -125,7 +125,7 @@ fn terms(p: u64, x: &Row, y: &Row, from: usize, to: usize, k: usize) -> u64
 
 // Coefficient k of x y, from the trimmed lengths n and m.
 fn product_coefficient(q: Modulus, x: &Row, n: usize, y: &Row, m: usize, k: usize) -> u64
-    requires { ⌜ PlaceIn q (now x) n (now y) m k ⌝ }
+    requires { ⌜ ProductCoefficientAsks q (now x) n (now y) m k ⌝ }
     ensures { λ r. ⌜ r ≡ sumTo (termAt (now (x .entry)) (now (y .entry)) k) n % (q .p) ⌝ }
 {
     let from = if k < m { 0 } else { k + 1 - m };
@@ -136,7 +136,7 @@ fn product_coefficient(q: Modulus, x: &Row, n: usize, y: &Row, m: usize, k: usiz
 
 // x y, where the product fits.
 pub fn mul(p: u64, x: &Row, y: &Row) -> Row
-    requires { ⌜ MulIn p (now x) (now y) ⌝ }
+    requires { ⌜ MulAsks p (now x) (now y) ⌝ }
     ensures { λ r. ⌜ Product p (now (x .entry)) (now (y .entry)) r ⌝ }
 {
     let q = prepare(p);
@@ -176,7 +176,7 @@ pub fn quotient_coefficient(
     top: usize,
     k: usize,
 ) -> u64
-    requires { ⌜ DigitIn s (now a) (now q) (now b) m il top k ⌝ }
+    requires { ⌜ QuotientCoefficientAsks s (now a) (now q) (now b) m il top k ⌝ }
     ensures { λ v. ⌜ Digit (s .p) (now (a .entry)) (now (q .entry)) (now (b .entry)) m il k v ⌝ }
 {
     let at = k + (m - 1);

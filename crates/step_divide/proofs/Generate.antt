@@ -1,4 +1,4 @@
--- What `divided` asks of its calls, and what it hands out.
+-- What `next_generators` asks of its calls, and what it hands out.
 --   turn-in            the rows, measured
 --   x-in, turned-r     r m: its coordinates are asked for, and come back
 --   y-in, turned-w     w m
@@ -32,14 +32,14 @@ use Rattle.math_chain.proofs.Room.{d-not-zero}
 use Rattle.field_open.specs.Refusal.{Accepted}
 use Rattle.basis_record.specs.Record.{setting, polyOf}
 use Rattle.poly_rows.proofs.Lengths.{fits-of}
-use Rattle.poly_lent.specs.Sized.{TimesOut}
-use Rattle.poly_content.specs.Common.{four, fourDet, CutIn, TakeIn, Taken}
+use Rattle.poly_lent.specs.Sized.{TimesInGives}
+use Rattle.poly_content.specs.Common.{four, fourDet, CutAsks, WithoutContentAsks, Taken}
 use Rattle.basis_record.specs.Seven.{Seven, rowsOf, Holds, Three, Blank}
-use Rattle.basis_lattice.specs.Coordinates.{Found, CoordsIn, Coordinates}
+use Rattle.basis_lattice.specs.Coordinates.{Found, CoordinatesAsks, Coordinates}
 use Rattle.basis_lattice.specs.declared.Spans.{Spans}
 use Rattle.basis_lattice.specs.declared.Lengths.{Lengths}
-use Rattle.step_divide.specs.Turns.{TurnIn, TurnedR, TurnedW, Negated}
-use Rattle.step_divide.specs.Generated.{GeneratorsIn, Generators, generators, Generated, Divided}
+use Rattle.step_divide.specs.Turns.{TurnAsks, TurnedR, TurnedW, Negated}
+use Rattle.step_divide.specs.Generated.{GeneratorsAsks, Generators, generators, Generated, Divided}
 use Rattle.step_divide.specs.declared.Cuts.{Cuts}
 use Rattle.step_divide.proofs.Coordinates.{Narrow, r-narrow, w-narrow}
 use Rattle.step_divide.proofs.Products.{Sizes, sizes, modulus, g-lt, h-lt, by-e, by-u, quot-r, quot-w}
@@ -47,7 +47,7 @@ use Rattle.step_divide.proofs.Products.{Sizes, sizes, modulus, g-lt, h-
 abbrev of : ℕ → ℕ → ℕ → Modulus
 of p mul lim = record { p = p; m = mul; lim = lim }
 
-module _ {p cap : ℕ} {g h gh : List ℕ} {ie : ℕ} {b : Seven} (i : GeneratorsIn p cap g h gh ie b) where
+module _ {p cap : ℕ} {g h gh : List ℕ} {ie : ℕ} {b : Seven} (i : GeneratorsAsks p cap g h gh ie b) where
   abbrev ρ : Reading p
   ρ = reading p (i .σ .prime)
 
@@ -66,11 +66,11 @@ module _ {p cap : ℕ} {g h gh : List ℕ} {ie : ℕ} {b : Seven} (i : Generator
   w-near : Narrow (setting (i .σ)) (rowsOf (i .σ) b) (small (setting (i .σ)) (rowsOf (i .σ) b) (i .good)) (setting (i .σ) .roots .dw) (k .of-w .α) (k .of-w .β) (k .of-w .γ)
   w-near = w-narrow (setting (i .σ)) (rowsOf (i .σ) b) (small (setting (i .σ)) (rowsOf (i .σ) b) (i .good)) (i .good) (k .of-w)
 
-  pub turn-in : {mul lim lk : ℕ} {e : List ℕ} {l : Lengths} {o : Three} → Prepared (of p mul lim) → Size gh lk → Found p b e l → Blank o → TurnIn (of p mul lim) g h gh lk b l e ie o
+  pub turn-in : {mul lim lk : ℕ} {e : List ℕ} {l : Lengths} {o : Three} → Prepared (of p mul lim) → Size gh lk → Found p b e l → Blank o → TurnAsks (of p mul lim) g h gh lk b l e ie o
   turn-in r s f k = record { cap = cap; inp = i; modulus = r; sk = s; found = f; blank = k }
 
   -- ---- r m
-  module _ {e : List ℕ} {l : Lengths} (f : Found p b e l) {xx zz : List ℕ} {nx nz : ℕ} (tx : TimesOut p (b .m2) gh xx nx) (tz : TimesOut p (b .m1) h zz nz) where
+  module _ {e : List ℕ} {l : Lengths} (f : Found p b e l) {xx zz : List ℕ} {nx nz : ℕ} (tx : TimesInGives p (b .m2) gh xx nx) (tz : TimesInGives p (b .m1) h zz nz) where
     abbrev hx : Product p (b .m2) gh xx
     hx = tx .product
 
@@ -80,7 +80,7 @@ module _ {p cap : ℕ} {g h gh : List ℕ} {ie : ℕ} {b : Seven} (i : Generator
     z-lt : Lt (ρ .𝓥) (row ρ zz) (suc (setting (i .σ) .roots .dr + setting (i .σ) .roots .dr))
     z-lt = d.lt-eq (ρ .𝓥) (d.lt-up (ρ .𝓥) (suc (setting (i .σ) .roots .dr + setting (i .σ) .roots .dr)) (lt-mul-sharp (ρ .𝓥) (z .rows 1) (h-lt i)) (omega (arith, z .two-r))) (sym (hz .law (i .σ .prime)))
 
-    pub x-in : {mul lim : ℕ} {o : Three} → Prepared (of p mul lim) → Blank o → CoordsIn (of p mul lim) xx nx (b .m0) (l .m0) zz nz b l e ie o
+    pub x-in : {mul lim : ℕ} {o : Three} → Prepared (of p mul lim) → Blank o → CoordinatesAsks (of p mul lim) xx nx (b .m0) (l .m0) zz nz b l e ie o
     x-in w t = record {
       inp = record {
         modulus = w;
@@ -122,7 +122,7 @@ module _ {p cap : ℕ} {g h gh : List ℕ} {ie : ℕ} {b : Seven} (i : Generator
     }
 
   -- ---- w m
-  module _ {e : List ℕ} {l : Lengths} (f : Found p b e l) {xx yy : List ℕ} {nx ny : ℕ} (tx : TimesOut p (b .m1) gh xx nx) (ty : TimesOut p (b .m2) g yy ny) where
+  module _ {e : List ℕ} {l : Lengths} (f : Found p b e l) {xx yy : List ℕ} {nx ny : ℕ} (tx : TimesInGives p (b .m1) gh xx nx) (ty : TimesInGives p (b .m2) g yy ny) where
     abbrev kx : Product p (b .m1) gh xx
     kx = tx .product
 
@@ -132,7 +132,7 @@ module _ {p cap : ℕ} {g h gh : List ℕ} {ie : ℕ} {b : Seven} (i : Generator
     y-lt : Lt (ρ .𝓥) (row ρ yy) (suc (setting (i .σ) .roots .dw + setting (i .σ) .roots .dw))
     y-lt = d.lt-eq (ρ .𝓥) (d.lt-up (ρ .𝓥) (suc (setting (i .σ) .roots .dw + setting (i .σ) .roots .dw)) (lt-mul-sharp (ρ .𝓥) (z .rows 2) (g-lt i)) (omega (arith, z .two-r, z .both))) (sym (hy .law (i .σ .prime)))
 
-    pub y-in : {mul lim : ℕ} {o : Three} → Prepared (of p mul lim) → Blank o → CoordsIn (of p mul lim) xx nx yy ny (b .m0) (l .m0) b l e ie o
+    pub y-in : {mul lim : ℕ} {o : Three} → Prepared (of p mul lim) → Blank o → CoordinatesAsks (of p mul lim) xx nx yy ny (b .m0) (l .m0) b l e ie o
     y-in w t = record {
       inp = record {
         modulus = w;
@@ -188,7 +188,7 @@ module _ {p cap : ℕ} {g h gh : List ℕ} {ie : ℕ} {b : Seven} (i : Generator
         (ap₂ (λ s t. R .ops .add (R .ops .mul (w (x .c)) (w (y .a))) (R .ops .neg (R .ops .mul s t))) (na .opposite .law pr) (nc .opposite .law pr)
         ∙ solve R (var 0 :* var 1 :+ minus (minus (var 2) :* minus (var 3))) (var 0 :* var 1 :+ minus (var 2 :* var 3)) tt (w (x .c) ∷ w (y .a) ∷ w (x .a) ∷ w (y .c) ∷ []))
 
-    cut-in : CutIn p xa (x .c) (y .a) yc
+    cut-in : CutAsks p xa (x .c) (y .a) yc
     cut-in =
         let (ea, eb, ec) = tx .law (i .σ) (i .holds) (k .of-r) in
         let (fa, fb, fc) = ty .law (i .σ) (i .holds) (k .of-w) in
@@ -204,7 +204,7 @@ module _ {p cap : ℕ} {g h gh : List ℕ} {ie : ℕ} {b : Seven} (i : Generator
               ap (λ s. s .0) (ap₂ (λ s u. o .add s (o .neg u)) (ap₂ (o .mul) (sym ec) (sym fa)) (ap₂ (o .mul) (sym ea) (sym fc)) ∙ sym (signs (i .σ .prime))) ∙ t);
         }
 
-    pub take-in : {mul lim : ℕ} {d : List ℕ} → Prepared (of p mul lim) → d ≡ replicate 32 0 → TakeIn (of p mul lim) xa (ox .a) (x .c) (ox .c) (y .a) (oy .a) yc (oy .c) d
+    pub take-in : {mul lim : ℕ} {d : List ℕ} → Prepared (of p mul lim) → d ≡ replicate 32 0 → WithoutContentAsks (of p mul lim) xa (ox .a) (x .c) (ox .c) (y .a) (oy .a) yc (oy .c) d
     take-in r e = record { inp = cut-in; modulus = r; sx0 = na .size; sx2 = tx .spans .sc; sy0 = ty .spans .sa; sy2 = nc .size; blank = e }
 
     -- ---- the generators

@@ -20,7 +20,7 @@ use Rattle.num_mod.specs.Prepared.{Prepared}
 use Rattle.num_mod.specs.declared.Modulus.{Modulus}
 use Rattle.poly_rows.specs.Division.{Inverts}
 use Rattle.poly_rows.proofs.Lengths.{one-mod, fits-of, monic-inverts}
-use Rattle.poly_lent.specs.Sized.{TimesBy, DetOut}
+use Rattle.poly_lent.specs.Sized.{TimesInAsks, DetInGives}
 use Rattle.math_ideals.specs.Setting.{Setting, dGH}
 use Rattle.math_ideals.specs.Basis.{Good}
 use Rattle.math_ideals.proofs.Values.{dr-dw, dr-eq, dr-pos, dw-pos}
@@ -30,9 +30,9 @@ use Rattle.math_ideals.proofs.Degrees.{Small, small, det-lead}
 use Rattle.field_open.specs.Refusal.{Accepted}
 use Rattle.basis_record.specs.Record.{setting}
 use Rattle.basis_record.specs.Seven.{Seven, rowAt, rowsOf, Holds}
-use Rattle.basis_lattice.specs.Coordinates.{Quotients, LengthsIn}
+use Rattle.basis_lattice.specs.Coordinates.{Quotients, LengthsOfAsks}
 use Rattle.basis_lattice.proofs.Elements.{quot-of, times-g-is, times-h-is, times-gh-is}
-use Rattle.step_divide.specs.Generated.{GeneratorsIn}
+use Rattle.step_divide.specs.Generated.{GeneratorsAsks}
 
 -- how large the i-th row of a good basis can be
 abbrev of : ℕ → ℕ → ℕ → Modulus
@@ -89,8 +89,8 @@ module _ {p : ℕ} {G H : List ℕ} (σ : Accepted p G H) (b : Seven) where
     pub sizes : Sizes
     sizes = record { rows = row-bound; two-r = dr-eq (setting σ); both = both; r-pos = dr-pos (setting σ); w-pos = dw-pos (setting σ); all = σ .sum }
 
--- ---- the products that `divided` makes
-module _ {p cap : ℕ} {g h gh : List ℕ} {ie : ℕ} {b : Seven} (i : GeneratorsIn p cap g h gh ie b) where
+-- ---- the products that `next_generators` makes
+module _ {p cap : ℕ} {g h gh : List ℕ} {ie : ℕ} {b : Seven} (i : GeneratorsAsks p cap g h gh ie b) where
   abbrev ρ : Reading p
   ρ = reading p (i .σ .prime)
 
@@ -124,13 +124,13 @@ module _ {p cap : ℕ} {g h gh : List ℕ} {ie : ℕ} {b : Seven} (i : Generator
   by-gh = record { is-row = i .hgh; low = d.has-up (ρ .𝓥) (suc (i .σ .degG + i .σ .degH)) gh-has (omega arith) }
 
   times-by : {mul lim : ℕ} {x y r : List ℕ} {n m : ℕ} (j k : ℕ) → Prepared (of p mul lim) → Row p x → Factor y → Lt (ρ .𝓥) (row ρ x) j → suc (i .σ .degG + i .σ .degH) ≤ k → j + k ≤ 33
-      → Size x n → Size y m → r ≡ replicate 32 0 → TimesBy (of p mul lim) x n y m r
+      → Size x n → Size y m → r ≡ replicate 32 0 → TimesInAsks (of p mul lim) x n y m r
   times-by j k w hx f lx u l sx sy t = record { modulus = w; hx = hx; hy = f .is-row; sx = sx; sy = sy; fits = fits-of ρ j k hx (f .is-row) lx (d.lt-up (ρ .𝓥) k (f .low) u) l _ _ sx sy; blank = t }
 
-  pub m1-by : {mul lim : ℕ} {y r : List ℕ} {n m : ℕ} → Prepared (of p mul lim) → Factor y → Size (b .m1) n → Size y m → r ≡ replicate 32 0 → TimesBy (of p mul lim) (b .m1) n y m r
+  pub m1-by : {mul lim : ℕ} {y r : List ℕ} {n m : ℕ} → Prepared (of p mul lim) → Factor y → Size (b .m1) n → Size y m → r ≡ replicate 32 0 → TimesInAsks (of p mul lim) (b .m1) n y m r
   m1-by w f = times-by (suc (setting (i .σ) .roots .dw)) (suc (i .σ .degG + i .σ .degH)) w (i .rows 1) f (z .rows 1) (omega arith) (omega (arith, z .both, z .r-pos, z .all))
 
-  pub m2-by : {mul lim : ℕ} {y r : List ℕ} {n m : ℕ} → Prepared (of p mul lim) → Factor y → Size (b .m2) n → Size y m → r ≡ replicate 32 0 → TimesBy (of p mul lim) (b .m2) n y m r
+  pub m2-by : {mul lim : ℕ} {y r : List ℕ} {n m : ℕ} → Prepared (of p mul lim) → Factor y → Size (b .m2) n → Size y m → r ≡ replicate 32 0 → TimesInAsks (of p mul lim) (b .m2) n y m r
   m2-by w f = times-by (suc (setting (i .σ) .roots .dr)) (suc (i .σ .degG + i .σ .degH)) w (i .rows 2) f (z .rows 2) (omega arith) (omega (arith, z .both, z .w-pos, z .all))
 
   -- ---- every row ends before cap
@@ -140,7 +140,7 @@ module _ {p cap : ℕ} {g h gh : List ℕ} {ie : ℕ} {b : Seven} (i : Generator
       let q : n ≤ bound (setting (i .σ)) j = size-le ρ (bound (setting (i .σ)) j) (i .rows j) s (z .rows j) in
       record { size = i .rows j .size; fits = i .fits; above = λ k w. s .above k (omega (arith, bound-low (setting (i .σ)) j, i .past)) }
 
-  pub lengths-in : {mul lim : ℕ} {e : List ℕ} → Prepared (of p mul lim) → e ≡ replicate 32 0 → LengthsIn (of p mul lim) cap b e
+  pub lengths-in : {mul lim : ℕ} {e : List ℕ} → Prepared (of p mul lim) → e ≡ replicate 32 0 → LengthsOfAsks (of p mul lim) cap b e
   lengths-in w t = record {
     modulus = w;
     rows = i .rows;
@@ -151,7 +151,7 @@ module _ {p cap : ℕ} {g h gh : List ℕ} {ie : ℕ} {b : Seven} (i : Generator
   }
 
   -- ---- division by e and by U
-  pub by-e : {e : List ℕ} {k : ℕ} → DetOut p (b .m1) (b .n2) (b .m2) (b .n1) e k → Inverts p e ie
+  pub by-e : {e : List ℕ} {k : ℕ} → DetInGives p (b .m1) (b .n2) (b .m2) (b .n1) e k → Inverts p e ie
   by-e {e} de = go (sized gh)
     where
       law-at : (n : ℕ) → Size gh (suc n) → (m : ℕ) → Size e m → (ie * getD e (m - 1) 0) % p ≡ 1
@@ -188,7 +188,7 @@ module _ {p cap : ℕ} {g h gh : List ℕ} {ie : ℕ} {b : Seven} (i : Generator
   by-u = monic-inverts (i .σ .prime) (i .rows 6) (i .good .scaled .monic)
 
 -- ---- r m and w m
-module _ {p : ℕ} {G H : List ℕ} (σ : Accepted p G H) {g h gh : List ℕ} (k : Holds σ g h gh) (b : Seven) {e : List ℕ} {n : ℕ} (de : DetOut p (b .m1) (b .n2) (b .m2) (b .n1) e n) where
+module _ {p : ℕ} {G H : List ℕ} (σ : Accepted p G H) {g h gh : List ℕ} (k : Holds σ g h gh) (b : Seven) {e : List ℕ} {n : ℕ} (de : DetInGives p (b .m1) (b .n2) (b .m2) (b .n1) e n) where
   pub quot-r : {v c : List ℕ} → Product p (b .m2) gh v → Product p (b .m1) h c → (q : Coords (setting σ) (rowsOf σ b) (times-r (setting σ) (rowsOf σ b .M)))
       → Quotients (σ .prime) v (b .m0) c b e (q .α .0) (q .β .0) (q .γ .0)
   quot-r hv hc q = quot-of σ b de _ (times-gh-is σ k hv) refl (times-h-is σ k hc) q

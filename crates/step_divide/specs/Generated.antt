@@ -1,10 +1,10 @@
 -- The generators of the next ideal: from the seven rows of a good basis, x1, y1, the pairs (−y2, x2)/g, (y0, −x0)/g and
 -- their denominator d/g.
 --   Generators       seven rows: x1, y1, the two pairs, their denominator; and the degree of what was taken off
---   GeneratorsIn     the rows hold the field of some G, H and a good basis of it; ie = −lead(GH) is the inverse of the leading coefficient of e;
+--   GeneratorsAsks     the rows hold the field of some G, H and a good basis of it; ie = −lead(GH) is the inverse of the leading coefficient of e;
 --                    cap is past the degree of G H, and so past every row
 --   Generated σ b o  o holds the parts of r m and w m and the pairs without their common factor (crate math_chain)
---   divided          DividedIn, Divided: with seven zero rows to write into, and the lengths of x1, y1 and of the denominator
+--   divided          NextGeneratorsAsks, Divided: with seven zero rows to write into, and the lengths of x1, y1 and of the denominator
 use mathlib.Core.Path.{_≡_}
 use mathlib.Core.List.{List}
 use Prim.Native.Nat.{ℕ, _+_, _-_, _<_, _≤_}
@@ -33,7 +33,7 @@ pub record Generators : Type 0 where
 abbrev pub generators : List ℕ → List ℕ → List ℕ → List ℕ → List ℕ → List ℕ → List ℕ → ℕ → Generators
 generators x y mb mc nb nc u cut = record { x = x; y = y; mb = mb; mc = mc; nb = nb; nc = nc; u = u; cut = cut }
 
-pub record GeneratorsIn (p cap : ℕ) (g h gh : List ℕ) (ie : ℕ) (b : Seven) : Type 0 where
+pub record GeneratorsAsks (p cap : ℕ) (g h gh : List ℕ) (ie : ℕ) (b : Seven) : Type 0 where
   pub hg : Row p g
   pub hh : Row p h
   pub hgh : Row p gh
@@ -70,8 +70,8 @@ pub record AreGenerators (p : ℕ) (g h gh : List ℕ) (b : Seven) (o : Generato
   pub hu : Row p (o .u)
   pub each : {G H : List ℕ} (σ : Accepted p G H) → Holds σ g h gh → Good (setting σ) (rowsOf σ b) → Generated σ b o
 
-pub record DividedIn (q : Modulus) (cap : ℕ) (g : List ℕ) (lg : ℕ) (h : List ℕ) (lh : ℕ) (gh : List ℕ) (ie : ℕ) (b : Seven) (x y : Three) (d : List ℕ) : Type 0 where
-  pub inp : GeneratorsIn (q .p) cap g h gh ie b
+pub record NextGeneratorsAsks (q : Modulus) (cap : ℕ) (g : List ℕ) (lg : ℕ) (h : List ℕ) (lh : ℕ) (gh : List ℕ) (ie : ℕ) (b : Seven) (x y : Three) (d : List ℕ) : Type 0 where
+  pub inp : GeneratorsAsks (q .p) cap g h gh ie b
   pub modulus : Prepared q
   pub sg : Size g lg
   pub sh : Size h lh

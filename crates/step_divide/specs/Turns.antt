@@ -1,5 +1,5 @@
 -- r m and w m in coordinates, from the rows of a good basis.
---   TurnIn              the rows of `GeneratorsIn`, their lengths, and three zero rows to write into
+--   TurnAsks              the rows of `GeneratorsAsks`, their lengths, and three zero rows to write into
 --   Says σ b v t        the rows t hold every coordinates of v
 --   turned_r, turned_w  TurnedR, TurnedW: the coordinates of r m and w m, with their lengths
 --   negate              Negated: − x, of the same length
@@ -19,21 +19,21 @@ use Rattle.basis_record.specs.Seven.{Seven, rowsOf, Holds, Three, Blank}
 use Rattle.basis_lattice.specs.Coordinates.{Found, AreSpans}
 use Rattle.basis_lattice.specs.declared.Spans.{Spans}
 use Rattle.basis_lattice.specs.declared.Lengths.{Lengths}
-use Rattle.step_divide.specs.Generated.{GeneratorsIn}
+use Rattle.step_divide.specs.Generated.{GeneratorsAsks}
 
-pub record TurnIn (q : Modulus) (g h gh : List ℕ) (lk : ℕ) (b : Seven) (l : Lengths) (e : List ℕ) (ie : ℕ) (o : Three) : Type 0 where
+pub record TurnAsks (q : Modulus) (g h gh : List ℕ) (lk : ℕ) (b : Seven) (l : Lengths) (e : List ℕ) (ie : ℕ) (o : Three) : Type 0 where
   pub cap : ℕ
-  pub inp : GeneratorsIn (q .p) cap g h gh ie b
+  pub inp : GeneratorsAsks (q .p) cap g h gh ie b
   pub modulus : Prepared q
   pub sk : Size gh lk
   pub found : Found (q .p) b e l
   pub blank : Blank o
 
-abbrev pub TurnRIn : (q : Modulus) (h : List ℕ) (lh : ℕ) (gh : List ℕ) → ℕ → Seven → Lengths → List ℕ → ℕ → Three → Type 0
-TurnRIn q h lh gh lk b l e ie o = (g : List ℕ) × TurnIn q g h gh lk b l e ie o × Size h lh
+abbrev pub CoordinatesOfRmAsks : (q : Modulus) (h : List ℕ) (lh : ℕ) (gh : List ℕ) → ℕ → Seven → Lengths → List ℕ → ℕ → Three → Type 0
+CoordinatesOfRmAsks q h lh gh lk b l e ie o = (g : List ℕ) × TurnAsks q g h gh lk b l e ie o × Size h lh
 
-abbrev pub TurnWIn : (q : Modulus) (g : List ℕ) (lg : ℕ) (gh : List ℕ) → ℕ → Seven → Lengths → List ℕ → ℕ → Three → Type 0
-TurnWIn q g lg gh lk b l e ie o = (h : List ℕ) × TurnIn q g h gh lk b l e ie o × Size g lg
+abbrev pub CoordinatesOfWmAsks : (q : Modulus) (g : List ℕ) (lg : ℕ) (gh : List ℕ) → ℕ → Seven → Lengths → List ℕ → ℕ → Three → Type 0
+CoordinatesOfWmAsks q g lg gh lk b l e ie o = (h : List ℕ) × TurnAsks q g h gh lk b l e ie o × Size g lg
 
 abbrev pub Says : {p : ℕ} {G H : List ℕ} (σ : Accepted p G H) (b : Seven) → O (setting σ) .El → Three → Type 0
 Says σ b v t = (q : Coords (setting σ) (rowsOf σ b) v) → (polyOf σ (t .a) ≡ q .α) × (polyOf σ (t .b) ≡ q .β) × (polyOf σ (t .c) ≡ q .γ)
@@ -47,7 +47,7 @@ pub record TurnedW (p : ℕ) (g gh : List ℕ) (b : Seven) (t : Three) (o : Span
   pub law : {G H h : List ℕ} (σ : Accepted p G H) → Holds σ g h gh → Says σ b (times-w (setting σ) (rowsOf σ b .M)) t
 
 -- ---- in place
-pub record NegateIn (p : ℕ) (x : List ℕ) (n : ℕ) : Type 0 where
+pub record NegateAsks (p : ℕ) (x : List ℕ) (n : ℕ) : Type 0 where
   pub modulus : IsModulus p
   pub hx : Row p x
   pub sx : Size x n

@@ -5,15 +5,15 @@ use basis_lattice::coordinates;
 use basis_lattice::lengths_of;
 use num_mod::Modulus;
 use num_mod::reduce_once;
-use poly_content::taken_off;
+use poly_content::without_content;
 use poly_lent::times_in;
 ghost use mathlib.Core.Path.{_≡_};
 ghost use Rattle.basis_record.specs.Seven.{seven, three};
-ghost use Rattle.step_divide.specs.Turns.{TurnRIn, TurnedR, TurnWIn, TurnedW, NegateIn, Negated};
-ghost use Rattle.step_divide.specs.Generated.{generators, DividedIn, Divided};
+ghost use Rattle.step_divide.specs.Turns.{CoordinatesOfRmAsks, TurnedR, CoordinatesOfWmAsks, TurnedW, NegateAsks, Negated};
+ghost use Rattle.step_divide.specs.Generated.{generators, NextGeneratorsAsks, Divided};
 
 // r m = M2 G H + M0 r + M1 H w in coordinates.
-fn turned_r(
+fn coordinates_of_rm(
     q: Modulus,
     h: &[u64; 32],
     lh: usize,
@@ -33,7 +33,7 @@ fn turned_r(
     b: &mut [u64; 32],
     c: &mut [u64; 32],
 ) -> Spans
-    requires { ⌜ TurnRIn q (now h) lh (now gh) lk (seven (now m0) (now m1) (now m2) (now n0) (now n1) (now n2) (now u)) l (now e) ie (three (now a) (now b) (now c)) ⌝ }
+    requires { ⌜ CoordinatesOfRmAsks q (now h) lh (now gh) lk (seven (now m0) (now m1) (now m2) (now n0) (now n1) (now n2) (now u)) l (now e) ie (three (now a) (now b) (now c)) ⌝ }
     ensures { λ o. ⌜ TurnedR (q .p) (now (h .entry)) (now (gh .entry)) (seven (now (m0 .entry)) (now (m1 .entry)) (now (m2 .entry)) (now (n0 .entry)) (now (n1 .entry)) (now (n2 .entry)) (now (u .entry))) (three (now (a .exit)) (now (b .exit)) (now (c .exit))) o ⌝ }
 {
     let mut x: [u64; 32] = [0; 32];
@@ -65,7 +65,7 @@ fn turned_r(
 }
 
 // w m = M1 G H + M2 G r + M0 w in coordinates.
-fn turned_w(
+fn coordinates_of_wm(
     q: Modulus,
     g: &[u64; 32],
     lg: usize,
@@ -85,7 +85,7 @@ fn turned_w(
     b: &mut [u64; 32],
     c: &mut [u64; 32],
 ) -> Spans
-    requires { ⌜ TurnWIn q (now g) lg (now gh) lk (seven (now m0) (now m1) (now m2) (now n0) (now n1) (now n2) (now u)) l (now e) ie (three (now a) (now b) (now c)) ⌝ }
+    requires { ⌜ CoordinatesOfWmAsks q (now g) lg (now gh) lk (seven (now m0) (now m1) (now m2) (now n0) (now n1) (now n2) (now u)) l (now e) ie (three (now a) (now b) (now c)) ⌝ }
     ensures { λ o. ⌜ TurnedW (q .p) (now (g .entry)) (now (gh .entry)) (seven (now (m0 .entry)) (now (m1 .entry)) (now (m2 .entry)) (now (n0 .entry)) (now (n1 .entry)) (now (n2 .entry)) (now (u .entry))) (three (now (a .exit)) (now (b .exit)) (now (c .exit))) o ⌝ }
 {
     let mut x: [u64; 32] = [0; 32];
@@ -118,7 +118,7 @@ fn turned_w(
 
 // - x in place of x, whose length is n.
 fn negate(p: u64, x: &mut [u64; 32], n: usize)
-    requires { ⌜ NegateIn p (now x) n ⌝ }
+    requires { ⌜ NegateAsks p (now x) n ⌝ }
     ensures { λ _. ⌜ Negated p (now (x .entry)) (now (x .exit)) n ⌝ }
 {
     let mut i: usize = 0;
@@ -142,7 +142,7 @@ pub struct Cuts {
 // r m = x0 + x1 m + x2 n and w m = y0 + y1 m + y2 n, into seven zero rows: -x0/k, x1, x2/k, y0/k, y1, -y2/k, where k is what x0, x2, y0, y2
 // have in common, and the denominator d = (x2 y0 - x0 y2)/k. The pairs (-y2, x2)/k and (y0, -x0)/k are the generators P and Q. lg, lh and
 // cap are the lengths of G, H and G H, and all rows lent end before cap; ie = -lead(G H) is the inverse of the leading coefficient of e.
-pub fn divided(
+pub fn next_generators(
     q: Modulus,
     cap: usize,
     g: &[u64; 32],
@@ -166,12 +166,12 @@ pub fn divided(
     yc: &mut [u64; 32],
     d: &mut [u64; 32],
 ) -> Cuts
-    requires { ⌜ DividedIn q cap (now g) lg (now h) lh (now gh) ie (seven (now m0) (now m1) (now m2) (now n0) (now n1) (now n2) (now u)) (three (now xa) (now xb) (now xc)) (three (now ya) (now yb) (now yc)) (now d) ⌝ }
+    requires { ⌜ NextGeneratorsAsks q cap (now g) lg (now h) lh (now gh) ie (seven (now m0) (now m1) (now m2) (now n0) (now n1) (now n2) (now u)) (three (now xa) (now xb) (now xc)) (three (now ya) (now yb) (now yc)) (now d) ⌝ }
     ensures { λ o. ⌜ Divided (q .p) (now (g .entry)) (now (h .entry)) (now (gh .entry)) (seven (now (m0 .entry)) (now (m1 .entry)) (now (m2 .entry)) (now (n0 .entry)) (now (n1 .entry)) (now (n2 .entry)) (now (u .entry))) (generators (now (xb .exit)) (now (yb .exit)) (now (yc .exit)) (now (xc .exit)) (now (ya .exit)) (now (xa .exit)) (now (d .exit)) (o .cut)) o ⌝ }
 {
     let mut e: [u64; 32] = [0; 32];
     let l = lengths_of(q, cap, m0, m1, m2, n0, n1, n2, u, &mut e);
-    let x = turned_r(
+    let x = coordinates_of_rm(
         q,
         h,
         lh,
@@ -191,7 +191,7 @@ pub fn divided(
         xb,
         xc,
     );
-    let y = turned_w(
+    let y = coordinates_of_wm(
         q,
         g,
         lg,
@@ -213,7 +213,7 @@ pub fn divided(
     );
     negate(q.p, xa, x.a);
     negate(q.p, yc, y.c);
-    let o = taken_off(q, xa, x.a, xc, x.c, ya, y.a, yc, y.c, d);
+    let o = without_content(q, xa, x.a, xc, x.c, ya, y.a, yc, y.c, d);
     Cuts {
         cut: o.cut,
         x: x.b,

@@ -1,4 +1,4 @@
--- What `advanced` makes is the step: the rows that are loaded, the seven polynomials that come back, and the degree of m.
+-- What `step_on_rows` makes is the step: the rows that are loaded, the seven polynomials that come back, and the degree of m.
 use mathlib.Core.Path.{_≡_, sym, ap, _∙_, subst}
 use mathlib.Core.List.{List}
 use Prim.Native.Nat.{ℕ, suc, _+_, _*_, _-_, _<_, _≤_}
@@ -12,7 +12,7 @@ use Rattle.num_mod.specs.Prepared.{PreparedOf, ready}
 use Rattle.num_mod.specs.declared.Modulus.{Modulus}
 use Rattle.math_rows.specs.Made.{reading}
 use Rattle.math_rows.specs.Row.{Size}
-use Rattle.poly_rows.proofs.Leaf.{size-one}
+use Rattle.poly_rows.proofs.Leaf.{size-unique}
 use Rattle.poly_rows.proofs.Lengths.{size-of}
 use Rattle.field_open.specs.Refusal.{Accepted}
 use Rattle.math_ideals.specs.Ideal.{Basis}
@@ -28,16 +28,16 @@ use Rattle.math_chain.proofs.Correct.{base-framed, step-correct}
 use Rattle.basis_record.specs.Record.{setting, polyOf, basisOf}
 use Rattle.basis_record.specs.Seven.{Seven, seven, AreRows, rowsOf}
 use Rattle.step_divide.proofs.Products.{sizes}
-use Rattle.step_divide.specs.Generated.{Generators, Generated, GeneratorsIn, AreGenerators}
+use Rattle.step_divide.specs.Generated.{Generators, Generated, GeneratorsAsks, AreGenerators}
 use Rattle.basis_parts.specs.Frame.{frame}
 use Rattle.basis_reduce.specs.Clear as reduced
 use Rattle.basis_record.specs.Store.{SevenLoaded}
-use Rattle.basis_scale.specs.Based.{BasisIn, BasedAt, Based}
+use Rattle.basis_scale.specs.Based.{BasisAsks, BasedAt, Based}
 use Rattle.basis_record.proofs.Loads.{rows-are, rows-path, rows-good}
 use Rattle.field_series.specs.Keeps.{Keeps}
 use Rattle.basis_field.proofs.Keeps.{dr-is, dw-is, degrees, room, g-row, h-row, gh-row, holds-of}
-use Rattle.step_next.specs.Steps.{AdvanceIn, Advanced}
-use Rattle.step_next.specs.declared.Advance.{Advance}
+use Rattle.step_next.specs.Steps.{StepOnRowsAsks, Advanced}
+use Rattle.step_next.specs.declared.StepTaken.{StepTaken}
 use Rattle.step_next.proofs.Reduction.{pairOf, RowsOf, meaning, cut-low, basis-in}
 
 -- ---- from the end of the reduction to the next basis
@@ -88,27 +88,27 @@ pub degree-of : {p : ℕ} {G H : List ℕ} (A : Accepted p G H) (b : Seven) → 
     → (lu ≤ lm) × Degree (setting A) (rowsOf A b) (lm - lu)
 degree-of {p} A b rows good lm lu sm su =
     let s = small (setting A) (rowsOf A b) good in
-    let e : lm ≡ suc (s .x) = size-one sm (size-of (reading p (A .prime)) (rows 0) (s .M0)) in
-    let f : lu ≡ suc (s .u) = size-one su (size-of (reading p (A .prime)) (rows 6) (s .U-has)) in
+    let e : lm ≡ suc (s .x) = size-unique sm (size-of (reading p (A .prime)) (rows 0) (s .M0)) in
+    let f : lu ≡ suc (s .u) = size-unique su (size-of (reading p (A .prime)) (rows 6) (s .U-has)) in
     let l : s .u < s .x = s .u<x in
     (omega arith, record { x = s .x; u = s .u; M-deg = ev-M (setting A) (rowsOf A b) s; U-deg = s .U-has; eq = omega arith })
 
--- ---- what `advanced` asks and makes
+-- ---- what `step_on_rows` asks and makes
 -- the prepared modulus in place of its number
 module _ {q : Modulus} (e : PreparedOf (q .p) q) {r w : List ℕ} {dr dw : ℕ} {o : reduced.Pair} {d x y : List ℕ} where
-  pub basis-by : {top : ℕ} → BasisIn (frame (ready (q .p)) r w dr dw) o top d x y → BasisIn (frame q r w dr dw) o top d x y
-  basis-by {top} h = subst (λ m. BasisIn (frame m r w dr dw) o top d x y) (sym (e .same)) h
+  pub basis-by : {top : ℕ} → BasisAsks (frame (ready (q .p)) r w dr dw) o top d x y → BasisAsks (frame q r w dr dw) o top d x y
+  basis-by {top} h = subst (λ m. BasisAsks (frame m r w dr dw) o top d x y) (sym (e .same)) h
 
   pub based-by : {B : List ℕ} → Based (frame q r w dr dw) o d x y B → Based (frame (ready (q .p)) r w dr dw) o d x y B
   based-by {B} h = subst (λ m. Based (frame m r w dr dw) o d x y B) (e .same) h
 
-pub advance-by : {p : ℕ} {q : Modulus} {g h gh : List ℕ} {dr dw : ℕ} {r w B : List ℕ} → PreparedOf p q → AdvanceIn p g h gh dr dw r w B → AdvanceIn (q .p) g h gh dr dw r w B
-advance-by {g = g} {h = h} {gh = gh} {dr = dr} {dw = dw} {r = r} {w = w} {B = B} e i = subst (λ p. AdvanceIn p g h gh dr dw r w B) (sym (e .is)) i
+pub advance-by : {p : ℕ} {q : Modulus} {g h gh : List ℕ} {dr dw : ℕ} {r w B : List ℕ} → PreparedOf p q → StepOnRowsAsks p g h gh dr dw r w B → StepOnRowsAsks (q .p) g h gh dr dw r w B
+advance-by {g = g} {h = h} {gh = gh} {dr = dr} {dw = dw} {r = r} {w = w} {B = B} e i = subst (λ p. StepOnRowsAsks p g h gh dr dw r w B) (sym (e .is)) i
 
-pub advanced-by : {p : ℕ} {q : Modulus} {g h gh : List ℕ} {dr dw : ℕ} {r w B : List ℕ} {a : Advance} → PreparedOf p q → Advanced (q .p) g h gh dr dw r w B a → Advanced p g h gh dr dw r w B a
+pub advanced-by : {p : ℕ} {q : Modulus} {g h gh : List ℕ} {dr dw : ℕ} {r w B : List ℕ} {a : StepTaken} → PreparedOf p q → Advanced (q .p) g h gh dr dw r w B a → Advanced p g h gh dr dw r w B a
 advanced-by {g = g} {h = h} {gh = gh} {dr = dr} {dw = dw} {r = r} {w = w} {B = B} {a = a} e i = subst (λ p. Advanced p g h gh dr dw r w B a) (e .is) i
 
-module _ {p : ℕ} {g h gh : List ℕ} {n dr dw : ℕ} {r w B : List ℕ} (i : AdvanceIn p g h gh dr dw r w B) (n-is : n ≡ dr + dw) {b : Seven} (l : SevenLoaded B b) where
+module _ {p : ℕ} {g h gh : List ℕ} {n dr dw : ℕ} {r w B : List ℕ} (i : StepOnRowsAsks p g h gh dr dw r w B) (n-is : n ≡ dr + dw) {b : Seven} (l : SevenLoaded B b) where
   abbrev A : Accepted p (i .G) (i .H)
   A = i .keeps .accepted
 
@@ -130,12 +130,12 @@ module _ {p : ℕ} {g h gh : List ℕ} {n dr dw : ℕ} {r w B : List ℕ} (i : A
 
   -- G H leads at n
   lead-at : (m : ℕ) → Size gh m → getD gh n 0 ≡ getD gh (m - 1) 0
-  lead-at m s = let e : m ≡ n + 1 = size-one s gh-size in ap (λ j. getD gh j 0) (let w : n ≡ m - 1 = omega arith in w)
+  lead-at m s = let e : m ≡ n + 1 = size-unique s gh-size in ap (λ j. getD gh j 0) (let w : n ≡ m - 1 = omega arith in w)
 
   pub lead-low : getD gh n 0 ≤ p
   lead-low = let t : getD gh n 0 < p = gh-row (i .keeps) .each n in omega arith
 
-  pub divided-in : GeneratorsIn p (n + 1) g h gh (p - getD gh n 0) b
+  pub divided-in : GeneratorsAsks p (n + 1) g h gh (p - getD gh n 0) b
   divided-in = record {
     hg = g-row (i .keeps);
     hh = h-row (i .keeps);
@@ -178,11 +178,11 @@ module _ {p : ℕ} {g h gh : List ℕ} {n dr dw : ℕ} {r w B : List ℕ} (i : A
   pub cut-fits : {o : Generators} → AreGenerators p g h gh b o → o .cut ≤ n
   cut-fits ho = cut-low A (i .keeps) n-is b good-rows (generator-rows ho) (ho .each A (holds-of (i .keeps) A) good-rows)
 
-  pub reduced-in : {o : Generators} → AreGenerators p g h gh b o → BasisIn (frame (ready p) r w dr dw) (pairOf o) (n + 1 - o .cut) (o .u) (o .x) (o .y)
+  pub reduced-in : {o : Generators} → AreGenerators p g h gh b o → BasisAsks (frame (ready p) r w dr dw) (pairOf o) (n + 1 - o .cut) (o .u) (o .x) (o .y)
   reduced-in ho = basis-in A (i .keeps) n-is b good-rows (generator-rows ho) (ho .each A (holds-of (i .keeps) A) good-rows)
 
   pub advanced-of : {o : Generators} → AreGenerators p g h gh b o → (lm lu : ℕ) → Size (b .m0) lm → Size (b .u) lu
-      → (a : Advance) → Based (frame (ready p) r w dr dw) (pairOf o) (o .u) (o .x) (o .y) (a .basis) → a .degree ≡ lm - lu → Advanced p g h gh dr dw r w B a
+      → (a : StepTaken) → Based (frame (ready p) r w dr dw) (pairOf o) (o .u) (o .x) (o .y) (a .basis) → a .degree ≡ lm - lu → Advanced p g h gh dr dw r w B a
   advanced-of {o} ho lm lu sm su a hb e = λ G H kp rec.
       let goodAt : (A : Accepted p G H) → Good (setting A) (rowsOf A b) = λ A. rows-good A l (rec .good A) in
       let step : (A : Accepted p G H) → Good (setting A) (basisOf A (a .basis)) × Next (setting A) (rowsOf A b) (basisOf A (a .basis)) =

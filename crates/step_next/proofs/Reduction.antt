@@ -30,8 +30,8 @@ use Rattle.step_divide.specs.Generated.{Generators, Generated}
 use Rattle.step_divide.proofs.Coordinates.{r-narrow, w-narrow}
 use Rattle.step_divide.proofs.Products.{sizes}
 use Rattle.basis_parts.specs.Frame.{frame, Meaning, Short}
-use Rattle.basis_reduce.specs.Clear.{Pair, pair, ClearIn}
-use Rattle.basis_scale.specs.Based.{BasisIn}
+use Rattle.basis_reduce.specs.Clear.{Pair, pair, ClearYAsks}
+use Rattle.basis_scale.specs.Based.{BasisAsks}
 use Rattle.poly_rows.proofs.Lengths.{row-short, size-of, odd-prime}
 use Rattle.field_series.specs.Keeps.{Keeps}
 use Rattle.basis_field.proofs.Keeps.{dr-is, dw-is, degrees, r-reads, w-reads, r-row, w-row}
@@ -196,7 +196,7 @@ module _ {p : ℕ} {G H : List ℕ} (A : Accepted p G H) {g h gh : List ℕ} {n 
   short-c x y {i} hy l lx ly = row-short ρ (suc (rm .s) - dw) hy
       (c-lt ρ (setting A .roots .r) (setting A .roots .w) {a = at x y} dw (suc (rm .s) - dw) (setting A .roots .two≢) (μ .w-deg) lx ly (let q : dw ≤ suc (rm .s) = dw-low in omega arith))
 
-  clear-in : ClearIn (frame (ready p) r w dr dw) (pairOf o) (suc (rm .s)) (suc (rm .u))
+  clear-in : ClearYAsks (frame (ready p) r w dr dw) (pairOf o) (suc (rm .s)) (suc (rm .u))
   clear-in = record {
     room = record {
       fine = record {
@@ -236,7 +236,7 @@ module _ {p : ℕ} {G H : List ℕ} (A : Accepted p G H) {g h gh : List ℕ} {n 
   u-has : Has (ρ .𝓥) (row ρ (o .u)) (rm .u)
   u-has = d.has-eq (ρ .𝓥) (rm .d-has) (sym (ap (λ t. t .0) (m .u-is)))
 
-  basis-in′ : BasisIn (frame (ready p) r w dr dw) (pairOf o) (suc (rm .s)) (o .u) (o .x) (o .y)
+  basis-in′ : BasisAsks (frame (ready p) r w dr dw) (pairOf o) (suc (rm .s)) (o .u) (o .x) (o .y)
   basis-in′ =
       let nx = r-narrow (setting A) (rowsOf A b) (small (setting A) (rowsOf A b) good) good (m .k .of-r) in
       let ny = w-narrow (setting A) (rowsOf A b) (small (setting A) (rowsOf A b) good) good (m .k .of-w) in
@@ -256,5 +256,5 @@ module _ {p : ℕ} {G H : List ℕ} (A : Accepted p G H) {g h gh : List ℕ} {n 
         clear = clear-in;
       }
 
-  pub basis-in : BasisIn (frame (ready p) r w dr dw) (pairOf o) (n + 1 - o .cut) (o .u) (o .x) (o .y)
-  basis-in = subst (λ j. BasisIn (frame (ready p) r w dr dw) (pairOf o) j (o .u) (o .x) (o .y)) whole basis-in′
+  pub basis-in : BasisAsks (frame (ready p) r w dr dw) (pairOf o) (n + 1 - o .cut) (o .u) (o .x) (o .y)
+  basis-in = subst (λ j. BasisAsks (frame (ready p) r w dr dw) (pairOf o) j (o .u) (o .x) (o .y)) whole basis-in′

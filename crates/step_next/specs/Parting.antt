@@ -1,6 +1,6 @@
 -- A step on rows, and its first half: from the record to the generators of the ideal divided by m.
---   AdvanceOn   what `advanced` asks, the modulus prepared, with n = deg GH, and seven zero rows
---   PartIn      the same for some series r, w of the degrees dr, dw
+--   StepInAsks   what `step_on_rows` asks, the modulus prepared, with n = deg GH, and seven zero rows
+--   PartedAsks      the same for some series r, w of the degrees dr, dw
 --   Parting     the generators (`Divided` of crate step_divide) of the seven rows of the record, and the degree of m
 use mathlib.Core.Path.{_≡_}
 use mathlib.Core.List.{List}
@@ -11,21 +11,21 @@ use Rattle.num_mod.specs.declared.Modulus.{Modulus}
 use Rattle.basis_record.specs.Seven.{Seven, Three, Blank}
 use Rattle.step_divide.specs.Generated.{Generators, Divided}
 use Rattle.basis_record.specs.Store.{SevenLoaded}
-use Rattle.step_next.specs.Steps.{AdvanceIn}
+use Rattle.step_next.specs.Steps.{StepOnRowsAsks}
 use Rattle.step_next.specs.declared.Measures.{Measures}
 
-pub record AdvanceOn (q : Modulus) (g h gh : List ℕ) (n dr dw : ℕ) (r w B : List ℕ) (x y : Three) (d : List ℕ) : Type 0 where
-  pub inp : AdvanceIn (q .p) g h gh dr dw r w B
+pub record StepInAsks (q : Modulus) (g h gh : List ℕ) (n dr dw : ℕ) (r w B : List ℕ) (x y : Three) (d : List ℕ) : Type 0 where
+  pub inp : StepOnRowsAsks (q .p) g h gh dr dw r w B
   pub n-is : n ≡ dr + dw
   pub modulus : PreparedOf (q .p) q
   pub blank-x : Blank x
   pub blank-y : Blank y
   pub blank-d : d ≡ replicate 32 0
 
-pub record PartIn (q : Modulus) (g h gh : List ℕ) (n dr dw : ℕ) (B : List ℕ) (x y : Three) (d : List ℕ) : Type 0 where
+pub record PartedAsks (q : Modulus) (g h gh : List ℕ) (n dr dw : ℕ) (B : List ℕ) (x y : Three) (d : List ℕ) : Type 0 where
   pub r : List ℕ
   pub w : List ℕ
-  pub on : AdvanceOn q g h gh n dr dw r w B x y d
+  pub on : StepInAsks q g h gh n dr dw r w B x y d
 
 pub record Parting (p : ℕ) (g h gh B : List ℕ) (o : Generators) (k : Measures) : Type 0 where
   pub b : Seven

@@ -1,8 +1,8 @@
 -- One step of the chain, on records.
 --   Steps p G H B o   o is the step from the record B: the record of the ideal divided by m, and the degree of m
---   AdvanceIn         what `advanced` asks: an opened field (`Keeps` of crate field_series) and a record of it
+--   StepOnRowsAsks         what `step_on_rows` asks: an opened field (`Keeps` of crate field_series) and a record of it
 --   Advanced          what it hands out, whatever accepted G, H the field is opened from
--- The step is settled: `steps-one` in proofs/Once.antt.
+-- The step is settled: `steps-unique` in proofs/Once.antt.
 use mathlib.Core.List.{List}
 use Prim.Native.Nat.{ℕ}
 use Rattle.field_open.specs.Refusal.{Accepted}
@@ -10,19 +10,19 @@ use Rattle.math_ideals.specs.Next.{Next}
 use Rattle.math_chain.specs.Chain.{Degree}
 use Rattle.basis_record.specs.Record.{setting, basisOf, IsRecord}
 use Rattle.field_series.specs.Keeps.{Keeps}
-use Rattle.step_next.specs.declared.Advance.{Advance}
+use Rattle.step_next.specs.declared.StepTaken.{StepTaken}
 
-pub record AdvanceIn (p : ℕ) (g h gh : List ℕ) (dr dw : ℕ) (r w B : List ℕ) : Type 0 where
+pub record StepOnRowsAsks (p : ℕ) (g h gh : List ℕ) (dr dw : ℕ) (r w B : List ℕ) : Type 0 where
   pub G : List ℕ
   pub H : List ℕ
   pub keeps : Keeps p G H g h gh dr dw r w
   pub is-record : IsRecord p G H B
 
 -- "From a reduced ideal with basis 1, m, n to that ideal divided by m, in its scaled reduced basis; also the degree of m"
-pub record Steps (p : ℕ) (G H B : List ℕ) (o : Advance) : Type 0 where
+pub record Steps (p : ℕ) (G H B : List ℕ) (o : StepTaken) : Type 0 where
   pub is-record : IsRecord p G H (o .basis)
   pub next : (A : Accepted p G H) → Next (setting A) (basisOf A B) (basisOf A (o .basis))
   pub degree : (A : Accepted p G H) → Degree (setting A) (basisOf A B) (o .degree)
 
-abbrev pub Advanced : (p : ℕ) (g h gh : List ℕ) (dr dw : ℕ) (r w B : List ℕ) → Advance → Type 0
+abbrev pub Advanced : (p : ℕ) (g h gh : List ℕ) (dr dw : ℕ) (r w B : List ℕ) → StepTaken → Type 0
 Advanced p g h gh dr dw r w B o = (G H : List ℕ) → Keeps p G H g h gh dr dw r w → IsRecord p G H B → Steps p G H B o

@@ -4,12 +4,12 @@ use basis_record::load;
 use basis_scale::reduced_basis;
 use num_mod::Modulus;
 use num_mod::prepare;
-use step_divide::divided;
+use step_divide::next_generators;
 ghost use Rattle.basis_record.specs.Seven.{three};
 ghost use Rattle.step_divide.specs.Generated.{generators};
-ghost use Rattle.step_next.specs.Steps.{AdvanceIn, Advanced};
-ghost use Rattle.step_next.specs.Parting.{PartIn, Parting, AdvanceOn};
-ghost use Rattle.step_next.specs.InField.{NextIn, NextOut};
+ghost use Rattle.step_next.specs.Steps.{StepOnRowsAsks, Advanced};
+ghost use Rattle.step_next.specs.Parting.{PartedAsks, Parting, StepInAsks};
+ghost use Rattle.step_next.specs.InField.{StepInFieldAsks, StepInFieldGives};
 
 // The degree of m, the degree of what the generators had in common, and the lengths of x1, y1 and of the denominator.
 pub struct Measures {
@@ -39,7 +39,7 @@ fn parted(
     mb: &mut [u64; 32],
     d: &mut [u64; 32],
 ) -> Measures
-    requires { ⌜ PartIn q (now g) (now h) (now gh) n dr dw (now b) (three (now nc) (now x) (now mc)) (three (now nb) (now y) (now mb)) (now d) ⌝ }
+    requires { ⌜ PartedAsks q (now g) (now h) (now gh) n dr dw (now b) (three (now nc) (now x) (now mc)) (three (now nb) (now y) (now mb)) (now d) ⌝ }
     ensures { λ o. ⌜ Parting (q .p) (now (g .entry)) (now (h .entry)) (now (gh .entry)) (now (b .entry)) (generators (now (x .exit)) (now (y .exit)) (now (mb .exit)) (now (mc .exit)) (now (nb .exit)) (now (nc .exit)) (now (d .exit)) (o .cut)) o ⌝ }
 {
     let m0 = load(b, 0);
@@ -50,7 +50,7 @@ fn parted(
     let n2 = load(b, 5);
     let u = load(b, 6);
     let l = gh[n];
-    let k = divided(
+    let k = next_generators(
         q,
         n + 1,
         g,
@@ -84,13 +84,13 @@ fn parted(
 }
 
 // The degree of the m divided by, and the next record.
-pub struct Advance {
+pub struct StepTaken {
     pub degree: u64,
     pub basis: [u16; 119],
 }
 
 // The step, on seven zero rows for the generators, which are turned in place.
-fn advance_in(
+fn step_in(
     q: Modulus,
     g: &[u64; 32],
     h: &[u64; 32],
@@ -108,8 +108,8 @@ fn advance_in(
     y: &mut [u64; 32],
     mb: &mut [u64; 32],
     d: &mut [u64; 32],
-) -> Advance
-    requires { ⌜ AdvanceOn q (now g) (now h) (now gh) n dr dw (now r) (now w) (now b) (three (now nc) (now x) (now mc)) (three (now nb) (now y) (now mb)) (now d) ⌝ }
+) -> StepTaken
+    requires { ⌜ StepInAsks q (now g) (now h) (now gh) n dr dw (now r) (now w) (now b) (three (now nc) (now x) (now mc)) (three (now nb) (now y) (now mb)) (now d) ⌝ }
     ensures { λ o. ⌜ Advanced (q .p) (now (g .entry)) (now (h .entry)) (now (gh .entry)) dr dw (now (r .entry)) (now (w .entry)) (now (b .entry)) o ⌝ }
 {
     let k = parted(q, g, h, gh, n, dr, dw, b, nc, x, mc, nb, y, mb, d);
@@ -120,14 +120,14 @@ fn advance_in(
         top: n + 1 - k.cut,
     };
     let o = reduced_basis(f, r, w, mb, mc, nb, nc, d, k.d, x, k.x, y, k.y);
-    Advance {
+    StepTaken {
         degree: k.degree as u64,
         basis: o,
     }
 }
 
 // What a field keeps from step to step is lent: G, H and G·H, the degrees of r and w and their first 32 coefficients.
-pub fn advanced(
+pub fn step_on_rows(
     p: u64,
     g: &[u64; 32],
     h: &[u64; 32],
@@ -137,8 +137,8 @@ pub fn advanced(
     r: &[u64; 32],
     w: &[u64; 32],
     b: &[u16; 119],
-) -> Advance
-    requires { ⌜ AdvanceIn p (now g) (now h) (now gh) dr dw (now r) (now w) (now b) ⌝ }
+) -> StepTaken
+    requires { ⌜ StepOnRowsAsks p (now g) (now h) (now gh) dr dw (now r) (now w) (now b) ⌝ }
     ensures { λ o. ⌜ Advanced p (now (g .entry)) (now (h .entry)) (now (gh .entry)) dr dw (now (r .entry)) (now (w .entry)) (now (b .entry)) o ⌝ }
 {
     let q = prepare(p);
@@ -150,7 +150,7 @@ pub fn advanced(
     let mut y: [u64; 32] = [0; 32];
     let mut mb: [u64; 32] = [0; 32];
     let mut d: [u64; 32] = [0; 32];
-    advance_in(
+    step_in(
         q,
         g,
         h,
@@ -172,9 +172,9 @@ pub fn advanced(
 }
 
 // The step in an opened field.
-pub fn next_in_field(c: field_series::Cubic, b: [u16; 119]) -> Advance
-    requires { ⌜ NextIn c b ⌝ }
-    ensures { λ o. ⌜ NextOut c b o ⌝ }
+pub fn step_in_field(c: field_series::OpenedField, b: [u16; 119]) -> StepTaken
+    requires { ⌜ StepInFieldAsks c b ⌝ }
+    ensures { λ o. ⌜ StepInFieldGives c b o ⌝ }
 {
     let f = c.field;
     let r = c.r;
@@ -182,5 +182,5 @@ pub fn next_in_field(c: field_series::Cubic, b: [u16; 119]) -> Advance
     let g = f.g;
     let h = f.h;
     let gh = f.gh;
-    advanced(f.p, &g, &h, &gh, f.dr, f.dw, &r, &w, &b)
+    step_on_rows(f.p, &g, &h, &gh, f.dr, f.dw, &r, &w, &b)
 }

@@ -1,5 +1,5 @@
 -- Whatever the pieces in which the input arrives, the lines met are those of the input.
---   fed-lines   of a program that goes through its input by `cut`: the lines met, and what is pending, are lines-of the input so far
+--   fed-lines   of a program that goes through its input by `next_line`: the lines met, and what is pending, are lines-of the input so far
 --   fed-output  the same for what is written, with a slice of 255 bytes
 --   fed-same    two such programs with slices of one length meet the same lines in the same input, whatever the pieces
 use mathlib.Core.Path.{_≡_, refl, sym, ap, _∙_, subst}

@@ -1,4 +1,4 @@
--- A program's step: `cut`, and the answer to the line that ended, if one did.
+-- A program's step: `next_line`, and the answer to the line that ended, if one did.
 --   served-none      nothing
 --   served-whole     a whole line ended, and its answer is put
 --   served-broken    a line that is too long ended, and is refused

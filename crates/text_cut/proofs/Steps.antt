@@ -1,7 +1,7 @@
--- One step of `cut`, in the terms of its contract.
+-- One step of `next_line`, in the terms of its contract.
 --   carried-upTo    what is carried up to the newline, or to the end
 --   cut-nothing     past the end nothing is carried
---   whole-step, broken-step   what a caller of `cut` learns of places
+--   whole-step, broken-step   what a caller of `next_line` learns of places
 --   cut-unique      two outcomes are equal
 use mathlib.Core.Path.{_≡_, sym, ap, _∙_, subst}
 use mathlib.Core.List.{List}

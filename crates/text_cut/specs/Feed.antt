@@ -1,4 +1,4 @@
--- A program that goes through its input by `cut`, where the input arrives in pieces of any sizes.
+-- A program that goes through its input by `next_line`, where the input arrives in pieces of any sizes.
 --   Fed earlier s at lines k m   the program has passed the pieces `earlier`, joined, and the first `at` bytes of the piece s; it has
 --                                met `lines` in them; its slice is k, and m bytes of the next line are pending
 --   at-end m                     what is pending when the input ends: nothing, or a line without its newline
@@ -9,7 +9,7 @@
 --   Served A k m s at d to k' m' at' d' to'   a step, or several: from the slice k with m bytes pending, at the place `at` of the piece
 --                                s, to k', m', at'; the answers to the lines met are put into d at `to`, which gives d' and to'
 -- The theorems are fed-lines and fed-output of proofs/Feeds: lines and output are those of the input so far, whatever the pieces.
--- How a step is made from `cut` and an answer: proofs/Serves.
+-- How a step is made from `next_line` and an answer: proofs/Serves.
 use mathlib.Core.List.{List, [], _∷_, _++_}
 use Prim.Native.Nat.{ℕ, zero, suc, _≤_}
 use lib.ListN.{length, take}

@@ -3,7 +3,7 @@
 --   lines-of n input   the lines of the input, where a whole line has at most n bytes; the lister's n is 255
 --   Kept k n x         the slice k and the number n stand for the bytes x, begun and not ended: n counts them, up to one more
 --                      than k has room for, and k begins with them where it has room
--- Laws: proofs/Feeds: a program that goes through its input by `cut`, in pieces of any size, meets exactly lines-of.
+-- Laws: proofs/Feeds: a program that goes through its input by `next_line`, in pieces of any size, meets exactly lines-of.
 use mathlib.Core.Path.{_≡_}
 use mathlib.Core.Bool.{true, false}
 use mathlib.Core.List.{List, [], _∷_}

@@ -1,4 +1,4 @@
--- What `cut` and the functions under it say.
+-- What `next_line` and the functions under it say.
 --   Carried k n x r k'       x goes behind n pending bytes: k' is k with x from n on, as far as k reaches; r counts, as Kept does
 --   upTo s at                the bytes of s from `at` on, up to the newline if there is one
 --   CutTells k n s at r k'   one step through the input, in the bytes of s from `at` on, by cases (CutAt: a line ends)

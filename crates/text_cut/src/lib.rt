@@ -59,7 +59,7 @@ fn carry(kept: &mut [u8], n: usize, s: &[u8]) -> usize
 }
 
 // Goes on with a line of which n bytes are pending, in the bytes of s from `at` on.
-pub fn cut(kept: &mut [u8], n: usize, s: &[u8], at: usize) -> Step
+pub fn next_line(kept: &mut [u8], n: usize, s: &[u8], at: usize) -> Step
     ensures { λ r. ⌜ CutTells (now (kept .entry)) n (now (s .entry)) at r (now (kept .exit)) ⌝ }
 {
     if s.len() <= at {

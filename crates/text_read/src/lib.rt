@@ -5,8 +5,8 @@ ghost use Rattle.text_put.specs.Print.{comma};
 ghost use Rattle.text_cut.specs.Pieces.{pieces};
 ghost use Rattle.text_read.specs.Inner.{ValueOf, Filled, FieldsTell, ShapeTells};
 ghost use Rattle.text_read.specs.Tells.{ParseTells};
-use text_number::Numeral;
 use text_number::Entries;
+use text_number::Numeral;
 
 // Where a line's two semicolons stand.
 enum Split {

@@ -11,12 +11,12 @@ use Rattle.math_rows.specs.Reading.{Reading}
 use Rattle.math_rows.specs.Made.{reading}
 use Rattle.math_rows.specs.Row.{row, tpow}
 use Rattle.math_rows.proofs.Rows.{row-poly}
-use Rattle.poly_long.specs.Long.{Low, MixIn, Mixed}
+use Rattle.poly_long.specs.Long.{Low, MixAsks, Mixed}
 use Rattle.poly_long.proofs.Low.{low-mix, alone}
 use Rattle.base_lists.specs.Pieces.{cut, between}
 use Rattle.base_lists.proofs.Pieces.{between-length, between-cut, cut-same}
 use Rattle.base_lists.proofs.Puts.{Around, put-back, around-cut}
-use Rattle.unit_inverse.specs.Inverse.{PairIn, Pair, CofactorIn, Cofactor, NormIn, Norm}
+use Rattle.unit_inverse.specs.Inverse.{PairAsks, Pair, CofactorAsks, Cofactor, NormAsks, Norm}
 
 low-eq : {p : ℕ} (ρ : Reading p) {n m : ℕ} {z y : ρ .𝓥 .L .El} {l k : List ℕ} → Low ρ n z l → n ≡ m → z ≡ y → l ≡ k → Low ρ m y k
 low-eq ρ {n} {m} {z} {y} {l} {k} h e f g = subst (λ i. Low ρ i y k) e (subst (λ i. Low ρ n i k) f (subst (λ i. Low ρ n z i) g h))
@@ -45,8 +45,8 @@ row-long at c l u = between-length at (at + c) l (omega arith) u ∙ (let o : at
 back : (at k : ℕ) (l q : List ℕ) (m : ℕ) → m ≡ k → at + k ≤ length l → length q ≡ k → Around at k l q (take at l ++ (q ++ drop m (drop at l)))
 back at k l q m e u s = subst (λ j. Around at k l q (take at l ++ (q ++ drop j (drop at l)))) (sym e) (put-back at k l q u s)
 
-module _ (p c k x y v w : ℕ) (rows s : List ℕ) (h : PairIn p c k x y v w rows s) where
-  pub pair-asks : (at f t : ℕ) (r : List ℕ) → at + c ≤ length rows → f ≤ t → t - f ≤ c → t ≤ length r → MixIn p (between at (at + c) rows) (0 ∷ []) (between f t r)
+module _ (p c k x y v w : ℕ) (rows s : List ℕ) (h : PairAsks p c k x y v w rows s) where
+  pub pair-asks : (at f t : ℕ) (r : List ℕ) → at + c ≤ length rows → f ≤ t → t - f ≤ c → t ≤ length r → MixAsks p (between at (at + c) rows) (0 ∷ []) (between f t r)
   pair-asks at f t r u a b d = record {
     modulus = h .modulus;
     g-most = let o : length (between at (at + c) rows) ≡ c = row-long at c rows u in let m : c ≤ 4096 = h .most in omega arith;
@@ -91,11 +91,11 @@ module _ (p c k x y v w : ℕ) (rows s : List ℕ) (h : PairIn p c k x y v w row
         second = λ pr. low-eq (reading p pr) (M₂ .law pr) (sym (M₂ .size) ∙ long₂) (product pr v w (h .v-room) (h .w-room)) (sym (around-cut put₂ long₂));
       }
 
-module _ (p c k x y v w : ℕ) (g f : List ℕ) (at : ℕ) (rows s s₁ : List ℕ) (h : CofactorIn p c k x y v w g f at rows s) (P : Pair p c k x y v w rows s s₁) where
+module _ (p c k x y v w : ℕ) (g f : List ℕ) (at : ℕ) (rows s s₁ : List ℕ) (h : CofactorAsks p c k x y v w g f at rows s) (P : Pair p c k x y v w rows s s₁) where
   both : k + k ≤ length s₁
   both = let o : k + k ≤ length s = h .pair .s-room in let u : length s₁ ≡ length s = P .size in omega arith
 
-  pub cofactor-asks : MixIn p g f (between at (at + k) rows)
+  pub cofactor-asks : MixAsks p g f (between at (at + k) rows)
   cofactor-asks = record {
     modulus = h .pair .modulus;
     g-most = let o : length g ≤ 4096 = h .g-most in omega arith;
@@ -123,7 +123,7 @@ module _ (p c k x y v w : ℕ) (g f : List ℕ) (at : ℕ) (rows s s₁ : List �
 single : (l : List ℕ) → length l ≡ 1 → l ≡ getD l 0 0 ∷ []
 single l e = ext-getD 0 l (getD l 0 0 ∷ []) e (λ i u. let z : i ≡ 0 = omega arith in ap (λ j. getD l j 0) z ∙ sym (ap (λ j. getD (getD l 0 0 ∷ []) j 0) z))
 
-module _ (p c : ℕ) (gh rows : List ℕ) (h : NormIn p c gh rows) where
+module _ (p c : ℕ) (gh rows : List ℕ) (h : NormAsks p c gh rows) where
   pub norm-long : (at : ℕ) → at + c ≤ c + c + c + c + c + c → length (between at (at + c) rows) ≤ 65536
   norm-long at u = let r : length rows ≡ c + c + c + c + c + c = h .room in let o : length (between at (at + c) rows) ≡ c = row-long at c rows (omega arith) in let m : c ≤ 4096 = h .most in omega arith
 

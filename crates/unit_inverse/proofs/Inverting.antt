@@ -26,7 +26,7 @@ use Rattle.base_lists.specs.Pieces.{cut, between}
 use Rattle.base_lists.proofs.Pieces.{between-length, cut-same}
 use Rattle.base_lists.proofs.Puts.{Around, put-back}
 use Rattle.unit_rows.proofs.Multiply.{row-grow}
-use Rattle.unit_inverse.specs.Inverse.{PairIn, CofactorIn, Cofactor, NormIn, Norm, element, InvertIn, Inverted}
+use Rattle.unit_inverse.specs.Inverse.{PairAsks, CofactorAsks, Cofactor, NormAsks, Norm, element, InvertAsks, Inverted}
 
 -- one number
 pub row-one : {p : ℕ} (ρ : Reading p) (v : ℕ) → row ρ (v ∷ []) ≡ ρ .𝓥 .const (ρ .cast v)
@@ -42,12 +42,12 @@ row-scaled {p} ρ s at c l z h =
     ∙ sym (at-tab (length (cut at c l)) (λ i. (getD (cut at c l) i 0 * s) % p) i (omega arith))))
     ∙ scale-law ρ s (cut at c l)
 
-module _ (p c k : ℕ) (g h gh ngh rows s : List ℕ) (t : InvertIn p c k g h gh ngh rows s) where
+module _ (p c k : ℕ) (g h gh ngh rows s : List ℕ) (t : InvertAsks p c k g h gh ngh rows s) where
   pos : 0 < p
   pos = let o : 1 < p = t .modulus .big in omega arith
 
   pub invert-asks : (x y v w at : ℕ) (u f r z : List ℕ) → x + c ≤ c + c + c → y + c ≤ c + c + c → v + c ≤ c + c + c → w + c ≤ c + c + c → at + c ≤ c + c + c + c + c + c → length u ≤ 4096 → length f ≤ 4096 → length r ≡ length rows → length z ≡ length s
-      → CofactorIn p c k x y v w u f at r z
+      → CofactorAsks p c k x y v w u f at r z
   invert-asks x y v w at u f r z lx ly lv lw la lu lf er ez =
       let o : length rows ≡ c + c + c + c + c + c = t .room in
       let q : length s ≡ length rows = t .s-room in
@@ -168,7 +168,7 @@ module _ (p c k : ℕ) (g h gh ngh rows s : List ℕ) (t : InvertIn p c k g h gh
           tt (row ρ g ∷ row ρ h ∷ E .a ∷ E .b ∷ E .c ∷ []) in
           sym (row-one ρ v) ∙ low-unique ρ (N .law pr) (lt-eq (ρ .𝓥) (ρ .𝓥 .lead-up 1 0 (ρ .𝓥 .const-lead κ) (omega arith)) (sym (whole ∙ e))) ∙ whole
 
-    pub norm-asks : NormIn p c gh r₃
+    pub norm-asks : NormAsks p c gh r₃
     norm-asks = record { modulus = t .modulus; most = t .most; gh-most = t .gh-most; room = D .size ∙ B .size ∙ A .size ∙ t .room }
 
     pub inverse-asks : (v : ℕ) → Norm p c gh r₃ v → Nonzero p v

@@ -19,7 +19,7 @@ use Rattle.math_rows.specs.Row.{row}
 use Rattle.poly_long.specs.Long.{Storable, Low}
 use Rattle.base_lists.specs.Pieces.{cut}
 
-pub record PairIn (p c k x y v w : ℕ) (rows s : List ℕ) : Type 0 where
+pub record PairAsks (p c k x y v w : ℕ) (rows s : List ℕ) : Type 0 where
   pub modulus : Storable p
   pub most : c ≤ longest
   pub upto : k ≤ c
@@ -35,8 +35,8 @@ pub record Pair (p c k x y v w : ℕ) (rows s s′ : List ℕ) : Type 0 where
   pub first : (pr : Prime p) → let ρ = reading p pr in Low ρ k (ρ .𝓥 .L .ops .mul (row ρ (cut x c rows)) (row ρ (cut y c rows))) (cut 0 k s′)
   pub second : (pr : Prime p) → let ρ = reading p pr in Low ρ k (ρ .𝓥 .L .ops .mul (row ρ (cut v c rows)) (row ρ (cut w c rows))) (cut k k s′)
 
-pub record CofactorIn (p c k x y v w : ℕ) (g f : List ℕ) (at : ℕ) (rows s : List ℕ) : Type 0 where
-  pub pair : PairIn p c k x y v w rows s
+pub record CofactorAsks (p c k x y v w : ℕ) (g f : List ℕ) (at : ℕ) (rows s : List ℕ) : Type 0 where
+  pub pair : PairAsks p c k x y v w rows s
   pub g-most : length g ≤ longest
   pub f-most : length f ≤ longest
   pub room : at + k ≤ length rows
@@ -50,7 +50,7 @@ pub record Cofactor (p c k x y v w : ℕ) (g f : List ℕ) (at : ℕ) (rows s ro
   pub law : (pr : Prime p) → let ρ = reading p pr in let o = ρ .𝓥 .L .ops in
       Low ρ k (o .add (o .mul (row ρ g) (o .mul (row ρ (cut x c rows)) (row ρ (cut y c rows)))) (o .mul (row ρ f) (o .mul (row ρ (cut v c rows)) (row ρ (cut w c rows))))) (cut at k rows′)
 
-pub record NormIn (p c : ℕ) (gh rows : List ℕ) : Type 0 where
+pub record NormAsks (p c : ℕ) (gh rows : List ℕ) : Type 0 where
   pub modulus : Storable p
   pub most : c ≤ longest
   pub gh-most : length gh ≤ longest
@@ -66,7 +66,7 @@ pub record Norm (p c : ℕ) (gh rows : List ℕ) (r : ℕ) : Type 0 where
 abbrev pub element : {p : ℕ} (ρ : Reading p) (at c : ℕ) → List ℕ → Tri (ρ .𝓥 .L .El)
 element ρ at c l = record { a = row ρ (cut at c l); b = row ρ (cut (at + c) c l); c = row ρ (cut (at + c + c) c l) }
 
-pub record InvertIn (p c k : ℕ) (g h gh ngh rows s : List ℕ) : Type 0 where
+pub record InvertAsks (p c k : ℕ) (g h gh ngh rows s : List ℕ) : Type 0 where
   pub modulus : Storable p
   pub prime : Prime p
   pub most : c ≤ longest

@@ -4,7 +4,7 @@ use num_mod::inverse;
 use poly_long::clear;
 use poly_long::mix;
 use poly_long::scale;
-ghost use Rattle.unit_inverse.specs.Inverse.{PairIn, Pair, CofactorIn, Cofactor, NormIn, Norm, InvertIn, Inverted};
+ghost use Rattle.unit_inverse.specs.Inverse.{PairAsks, Pair, CofactorAsks, Cofactor, NormAsks, Norm, InvertAsks, Inverted};
 
 // The low k coefficients of the products of the rows at x and y and of those at v and w, one after the other.
 fn pair(
@@ -18,7 +18,7 @@ fn pair(
     rows: &[u16],
     s: &mut [u16],
 )
-    requires { ⌜ PairIn p c k x y v w (now rows) (now s) ⌝ }
+    requires { ⌜ PairAsks p c k x y v w (now rows) (now s) ⌝ }
     ensures { λ _. ⌜ Pair p c k x y v w (now (rows .entry)) (now (s .entry)) (now (s .exit)) ⌝ }
 {
     let o: [u16; 1] = [0; 1];
@@ -47,7 +47,7 @@ fn cofactor(
     rows: &mut [u16],
     s: &mut [u16],
 )
-    requires { ⌜ CofactorIn p c k x y v w (now g) (now f) at (now rows) (now s) ⌝ }
+    requires { ⌜ CofactorAsks p c k x y v w (now g) (now f) at (now rows) (now s) ⌝ }
     ensures { λ _. ⌜ Cofactor p c k x y v w (now (g .entry)) (now (f .entry)) at (now (rows .entry)) (now (s .entry)) (now (rows .exit)) (now (s .exit)) ⌝ }
 {
     pair(p, c, k, x, y, v, w, rows, s);
@@ -59,7 +59,7 @@ fn cofactor(
 
 // The constant coefficient of E0 C0 + G H (E1 C2 + E2 C1), where C stands after E.
 fn norm(p: u64, c: usize, gh: &[u16], rows: &[u16]) -> u64
-    requires { ⌜ NormIn p c (now gh) (now rows) ⌝ }
+    requires { ⌜ NormAsks p c (now gh) (now rows) ⌝ }
     ensures { λ r. ⌜ Norm p c (now (gh .entry)) (now (rows .entry)) r ⌝ }
 {
     let z: usize = 0;
@@ -94,7 +94,7 @@ pub fn invert(
     rows: &mut [u16],
     s: &mut [u16],
 )
-    requires { ⌜ InvertIn p c k (now g) (now h) (now gh) (now ngh) (now rows) (now s) ⌝ }
+    requires { ⌜ InvertAsks p c k (now g) (now h) (now gh) (now ngh) (now rows) (now s) ⌝ }
     ensures { λ _. ⌜ Inverted p c (now (g .entry)) (now (h .entry)) (now (rows .entry)) (now (s .entry)) (now (rows .exit)) (now (s .exit)) ⌝ }
 {
     let one: [u16; 1] = [1; 1];

@@ -19,7 +19,7 @@ use Rattle.field_open.proofs.Accept.{with-prime}
 use Rattle.math_ideals.specs.Element.{O, sc, norm, cof}
 use Rattle.math_ideals.proofs.Sizes.{sc-a, sc-b, sc-c}
 use Rattle.basis_record.specs.Record.{setting}
-use Rattle.field_series.specs.declared.Cubic.{Cubic}
+use Rattle.field_series.specs.declared.OpenedField.{OpenedField}
 use Rattle.field_series.specs.Keeps.{Keeps}
 use Rattle.basis_field.proofs.Keeps.{modulus}
 use Rattle.basis_field.proofs.Keeps as keeps
@@ -27,9 +27,9 @@ use Rattle.poly_rows.specs.Leaf.{Given, Opposite}
 use Rattle.poly_long.specs.Long.{Stored}
 use Rattle.unit_rows.specs.Six.{cut}
 use Rattle.unit_rows.proofs.Multiply.{cut-same}
-use Rattle.unit_inverse.specs.Inverse.{element, InvertIn, Inverted}
+use Rattle.unit_inverse.specs.Inverse.{element, InvertAsks, Inverted}
 use Rattle.unit_make.specs.Rows.{six}
-use Rattle.unit_make.specs.Making.{InverseIn, Inverses}
+use Rattle.unit_make.specs.Making.{InvertedAsks, Inverses}
 use Rattle.unit_make.proofs.Turning.{storable, row-stored, six-path}
 
 -- - G H
@@ -39,8 +39,8 @@ minus-in k = record { modulus = modulus k; hx = keeps.gh-row k }
 pub stored-minus : {p : ℕ} {G H x m : List ℕ} → Accepted p G H → Opposite p x m → Stored m
 stored-minus A o = row-stored (storable A) (o .is-row)
 
-module _ (f : Cubic) (c k : ℕ) (rows s g h gh m ngh : List ℕ) (eg : g ≡ f .field .g) (eh : h ≡ f .field .h) (egh : gh ≡ f .field .gh) (em : ngh ≡ m) (opposite : Opposite (f .field .p) (f .field .gh) m) where
-  module _ (i : InverseIn f c k rows s) where
+module _ (f : OpenedField) (c k : ℕ) (rows s g h gh m ngh : List ℕ) (eg : g ≡ f .field .g) (eh : h ≡ f .field .h) (egh : gh ≡ f .field .gh) (em : ngh ≡ m) (opposite : Opposite (f .field .p) (f .field .gh) m) where
+  module _ (i : InvertedAsks f c k rows s) where
     abbrev p : ℕ
     p = f .field .p
 
@@ -77,7 +77,7 @@ module _ (f : Cubic) (c k : ℕ) (rows s g h gh m ngh : List ℕ) (eg : g ≡ f 
             ap₂ (λ x y. normT (ρ .𝓥 .L .ops) x y (element ρ 0 c rows)) g-row h-row ∙ ap (λ z. z .0) (const-path (ρ .𝓥) {a = norm (setting A′) (six A′ c 0 rows)} {b = (ρ .𝓥 .const κ, ρ .𝓥 .const-poly κ)} l (ρ .𝓥 .const-lead κ)),
           )
 
-    pub invert-in : InvertIn (f .field .p) c k g h gh ngh rows s
+    pub invert-in : InvertAsks (f .field .p) c k g h gh ngh rows s
     invert-in = record {
       modulus = storable A;
       prime = A .prime;

@@ -12,14 +12,14 @@ use Rattle.field_open.specs.Refusal.{Accepted}
 use Rattle.math_chain.specs.Unit.{UnitOf}
 use Rattle.math_chain.proofs.Closing.{start-unique}
 use Rattle.basis_record.specs.Record.{setting, basisOf}
-use Rattle.unit_rows.specs.Six.{MonicIn, MonicMade}
-use Rattle.field_series.specs.declared.Cubic.{Cubic}
+use Rattle.unit_rows.specs.Six.{MonicAsks, MonicMade}
+use Rattle.field_series.specs.declared.OpenedField.{OpenedField}
 use Rattle.unit_make.specs.Rows.{six, Holds}
-use Rattle.unit_make.specs.Making.{InverseIn, Inverses, FinishIn, Finishes}
+use Rattle.unit_make.specs.Making.{InvertedAsks, Inverses, FinishedAsks, Finishes}
 use Rattle.unit_make.proofs.Turning.{storable}
 use Rattle.unit_make.proofs.Ending.{top-some, fits-at, unit-at, unit-of}
 
-module _ (f : Cubic) (c d : ℕ) (rows s : List ℕ) (t : FinishIn f c d rows s) where
+module _ (f : OpenedField) (c d : ℕ) (rows s : List ℕ) (t : FinishedAsks f c d rows s) where
   abbrev p : ℕ
   p = f .field .p
 
@@ -35,7 +35,7 @@ module _ (f : Cubic) (c d : ℕ) (rows s : List ℕ) (t : FinishIn f c d rows s)
   top-at : 0 < getD rows (d + 1 - 1) 0
   top-at = subst (λ j. 0 < getD rows j 0) (let o : d ≡ d + 1 - 1 = omega arith in o) (top-some A (t .along) (t .task .is-first .start A) (t .task .closes .closing A) (t .task .room))
 
-  pub monic-in : MonicIn (f .field .p) c (d + 1) rows
+  pub monic-in : MonicAsks (f .field .p) c (d + 1) rows
   monic-in = record {
     modulus = storable A;
     prime = A .prime;
@@ -51,7 +51,7 @@ module _ (f : Cubic) (c d : ℕ) (rows s : List ℕ) (t : FinishIn f c d rows s)
     one-at : (getD rows d 0 * made .by) % p ≡ 1
     one-at = ap (λ j. (getD rows j 0 * made .by) % p) (let o : d ≡ d + 1 - 1 = omega arith in o) ∙ made .one
 
-    pub inverse-in : (s₁ : List ℕ) → length s₁ ≡ length s → InverseIn f c (d / 2 + 1) rows₁ s₁
+    pub inverse-in : (s₁ : List ℕ) → length s₁ ≡ length s → InvertedAsks f c (d / 2 + 1) rows₁ s₁
     inverse-in s₁ es = record {
       known = t .task .known;
       space = record { most = t .task .most; whole = made .size ∙ t .along .whole; even = es ∙ t .even ∙ sym (made .size) };
@@ -80,7 +80,7 @@ module _ (f : Cubic) (c d : ℕ) (rows s : List ℕ) (t : FinishIn f c d rows s)
     }
 
 -- what `finished` hands out
-pub finishes : (f : Cubic) (c d : ℕ) (rows s rows₁ rows₂ s₂ : List ℕ) → MonicMade (f .field .p) c (d + 1) rows rows₁ → Inverses f c rows₁ s rows₂ s₂ → Finishes f c d rows s rows₂ s₂
+pub finishes : (f : OpenedField) (c d : ℕ) (rows s rows₁ rows₂ s₂ : List ℕ) → MonicMade (f .field .p) c (d + 1) rows rows₁ → Inverses f c rows₁ s rows₂ s₂ → Finishes f c d rows s rows₂ s₂
 finishes f c d rows s rows₁ rows₂ s₂ m i = record {
   size = i .size ∙ m .size;
   blank = i .blank;

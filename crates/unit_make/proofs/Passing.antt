@@ -34,7 +34,7 @@ use Rattle.basis_field.specs.First.{IsFirst}
 use Rattle.walk_chain.specs.Walk.{Closes}
 use Rattle.walk_chain.proofs.One.{one-of}
 use Rattle.step_next.specs.Steps.{Steps}
-use Rattle.step_next.specs.declared.Advance.{Advance}
+use Rattle.step_next.specs.declared.StepTaken.{StepTaken}
 use Rattle.unit_rows.specs.Six.{cut}
 use Rattle.unit_make.specs.Rows.{six}
 use Rattle.unit_make.specs.Making.{Along}
@@ -124,7 +124,7 @@ module _ (p : ℕ) (G H B : List ℕ) (first : IsFirst p G H B) (c : ℕ) where
         let (e, f) = same-chain S (basisOf A B) (first .start A .good) (h .product A .0) k refl in
         omega arith
 
-    pub step-below : Accepted p G H → {i d : ℕ} {b rows : List ℕ} → i < l → Along p G H B c i d b rows → (o : Advance) → Steps p G H b o → d + o .degree ≤ all
+    pub step-below : Accepted p G H → {i d : ℕ} {b rows : List ℕ} → i < l → Along p G H B c i d b rows → (o : StepTaken) → Steps p G H b o → d + o .degree ≤ all
     step-below A {i} {d} {b} u h o s =
         let S = setting A in
         let (n, B′, k, w) = prefix S (basisOf A B) (closes .closing A .chain) (suc i) (omega arith) in
@@ -139,7 +139,7 @@ module _ (p : ℕ) (G H B : List ℕ) (first : IsFirst p G H B) (c : ℕ) where
         subst (λ n. Along p G H B c l n last rows) e (subst (λ z. Along p G H B c l d z rows) g h)
 
   -- one step more
-  pub along-more : {i d : ℕ} {b rows : List ℕ} → Along p G H B c i d b rows → (o : Advance) → Steps p G H b o → (rows′ : List ℕ) → length rows′ ≡ length rows
+  pub along-more : {i d : ℕ} {b rows : List ℕ} → Along p G H B c i d b rows → (o : StepTaken) → Steps p G H b o → (rows′ : List ℕ) → length rows′ ≡ length rows
       → ((j : ℕ) → j < c + c + c → getD rows′ j 0 < p) → ((j : ℕ) → c + c + c ≤ j → getD rows′ j 0 ≡ getD rows j 0)
       → ((A : Accepted p G H) → let S = setting A in (E′ : O S .El) → Fit S (d + o .degree + 1) E′ → O S .ops .mul (six A c 0 rows) (basisOf A b .M) ≡ O S .ops .mul (sc S (basisOf A b .U)) E′ → six A c 0 rows′ ≡ E′)
       → Along p G H B c (suc i) (d + o .degree) (o .basis) rows′

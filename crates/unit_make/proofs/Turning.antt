@@ -1,4 +1,4 @@
--- One multiplication: the opened field meets what `unit_rows::turn` asks, and what it hands out is the exact division of E M by U.
+-- One multiplication: the opened field meets what `unit_rows::multiply_by_m` asks, and what it hands out is the exact division of E M by U.
 --   stored           its rows of G, H, G H fit 16 bits
 --   monic-part       the row U of a record ends in 1
 --   turn-in          what `turn` asks
@@ -25,12 +25,12 @@ use Rattle.math_ideals.proofs.Sizes.{O-path, sc-a, sc-b, sc-c}
 use Rattle.math_valued.proofs.Polynomial.{P-path}
 use Rattle.basis_record.specs.Record.{setting, basisOf, IsRecord}
 use Rattle.field_series.specs.Keeps.{Keeps}
-use Rattle.field_series.specs.declared.Cubic.{Cubic}
+use Rattle.field_series.specs.declared.OpenedField.{OpenedField}
 use Rattle.basis_field.proofs.Keeps.{g-row, h-row, gh-row, holds-of}
 use Rattle.poly_long.specs.Long.{Storable, Stored}
-use Rattle.unit_rows.specs.Six.{cut, Monic, TurnIn, Turn}
+use Rattle.unit_rows.specs.Six.{cut, Monic, MultiplyByMAsks, Turn}
 use Rattle.unit_make.specs.Rows.{six}
-use Rattle.unit_make.specs.Making.{Blank, MultiplyIn, Multiplies}
+use Rattle.unit_make.specs.Making.{Blank, MultipliedAsks, Multiplies}
 use Rattle.unit_make.proofs.Rows.{cut-below}
 
 pub storable : {p : ℕ} {G H : List ℕ} → Accepted p G H → Storable p
@@ -75,8 +75,8 @@ module _ {p : ℕ} {G H : List ℕ} (A : Accepted p G H) where
   pub six-path : (c at : ℕ) (l : List ℕ) (v : O (setting A) .El) → let ρ = reading p (A .prime) in row ρ (cut at c l) ≡ v .a .0 → row ρ (cut (at + c) c l) ≡ v .b .0 → row ρ (cut (at + c + c) c l) ≡ v .c .0 → six A c at l ≡ v
   six-path c at l v x y z = O-path (setting A) (P-path (setting A .𝓥) x) (P-path (setting A .𝓥) y) (P-path (setting A .𝓥) z)
 
-module _ (f : Cubic) (c n : ℕ) (b rows s g h gh : List ℕ) (eg : g ≡ f .field .g) (eh : h ≡ f .field .h) (egh : gh ≡ f .field .gh) where
-  pub turn-in : MultiplyIn f c n b rows s → TurnIn (f .field .p) c n g h gh b rows s
+module _ (f : OpenedField) (c n : ℕ) (b rows s g h gh : List ℕ) (eg : g ≡ f .field .g) (eh : h ≡ f .field .h) (egh : gh ≡ f .field .gh) where
+  pub turn-in : MultipliedAsks f c n b rows s → MultiplyByMAsks (f .field .p) c n g h gh b rows s
   turn-in i = let k = i .known .kept in
       let w : length rows ≡ 6 * c = i .space .whole in
       let v : length s ≡ length rows = i .space .even in

@@ -6,24 +6,24 @@ use mathlib.Core.List.{List}
 use Prim.Native.Nat.{ℕ, _*_, _-_, _<_, _≤_}
 use native.Mathlib.Omega.{arith}
 use lib.ListN.{length, replicate, length-set, length-replicate}
-use Rattle.field_series.specs.declared.Cubic.{Cubic}
-use Rattle.unit_make.specs.Making.{Along, StartIn, Starts, ProductIn, ProductOf, FinishIn, Finishes, MakeIn, Making}
+use Rattle.field_series.specs.declared.OpenedField.{OpenedField}
+use Rattle.unit_make.specs.Making.{Along, StartedAsks, Starts, ProductAsks, ProductOf, FinishedAsks, Finishes, MakeAsks, Making}
 use Rattle.unit_make.proofs.Passing.{begun, along-start}
 use Rattle.unit_make.proofs.Stepping.{blank-as}
 
-module _ (f : Cubic) (B : List ℕ) (l d c : ℕ) (rows s : List ℕ) where
-  pub make-start : MakeIn f B l d c rows s → StartIn rows
+module _ (f : OpenedField) (B : List ℕ) (l d c : ℕ) (rows s : List ℕ) where
+  pub make-start : MakeAsks f B l d c rows s → StartedAsks rows
   make-start t = let w : length rows ≡ 6 * c = t .whole in let r : d < c = t .task .room in record { some = omega arith }
 
   module _ (rows₁ s₁ : List ℕ) (a : Starts rows s rows₁ s₁) where
-    pub make-product : MakeIn f B l d c rows s → ProductIn f c B l rows₁ s₁
+    pub make-product : MakeAsks f B l d c rows s → ProductAsks f c B l rows₁ s₁
     make-product t = let k = t .task .known in
         let (x, y) = blank-as s s₁ (a .blank) in
         let h : Along (f .field .p) (k .G) (k .H) B c 0 0 B rows₁ = along-start (f .field .p) (k .G) (k .H) B (t .task .is-first) c (let q : 5 ≤ f .field .p = k .kept .accepted .low in omega arith) (let r : d < c = t .task .room in omega arith) rows₁ (a .one ∙ ap begun (t .whole)) in
         record { d = d; task = t .task; along = h; even = y ∙ t .even ∙ t .whole ∙ sym (h .whole); blank = x }
 
     module _ (rows₂ s₂ : List ℕ) (b : ProductOf f c B l rows₁ s₁ rows₂ s₂) where
-      pub make-finish : MakeIn f B l d c rows s → FinishIn f c d rows₂ s₂
+      pub make-finish : MakeAsks f B l d c rows s → FinishedAsks f c d rows₂ s₂
       unfolding make-product
       make-finish t = record {
         B = B;

@@ -22,9 +22,9 @@ use Rattle.math_chain.specs.Chain.{Chain, Product}
 use Rattle.math_chain.specs.Unit.{Fit}
 use Rattle.basis_record.specs.Record.{setting, basisOf, IsRecord}
 use Rattle.field_series.specs.Keeps.{Kept, Known}
-use Rattle.field_series.specs.declared.Cubic.{Cubic}
+use Rattle.field_series.specs.declared.OpenedField.{OpenedField}
 use Rattle.basis_field.specs.First.{IsFirst}
-use Rattle.step_next.specs.declared.Advance.{Advance}
+use Rattle.step_next.specs.declared.StepTaken.{StepTaken}
 use Rattle.walk_chain.specs.Walk.{Closes}
 use Rattle.unit_make.specs.Rows.{six, Holds}
 use Rattle.base_answers.specs.Limits.{longest}
@@ -39,14 +39,14 @@ pub record Space (c : ℕ) (rows s : List ℕ) : Type 0 where
   pub even : length s ≡ length rows
 
 -- ---- E times m
-pub record MultiplyIn (f : Cubic) (c n : ℕ) (b rows s : List ℕ) : Type 0 where
+pub record MultipliedAsks (f : OpenedField) (c n : ℕ) (b rows s : List ℕ) : Type 0 where
   pub known : Known f
   pub is-record : IsRecord (f .field .p) (known .G) (known .H) b
   pub space : Space c rows s
   pub upto : n ≤ c
   pub blank : Blank s
 
-pub record Multiplies (f : Cubic) (c n : ℕ) (b rows s rows′ s′ : List ℕ) : Type 0 where
+pub record Multiplies (f : OpenedField) (c n : ℕ) (b rows s rows′ s′ : List ℕ) : Type 0 where
   pub size : length rows′ ≡ length rows
   pub blank : s′ ≡ replicate (length s) 0
   pub each : (i : ℕ) → i < c + c + c → getD rows′ i 0 < f .field .p
@@ -55,7 +55,7 @@ pub record Multiplies (f : Cubic) (c n : ℕ) (b rows s rows′ s′ : List ℕ)
       → O S .ops .mul (six A c 0 rows) (basisOf A b .M) ≡ O S .ops .mul (sc S (basisOf A b .U)) E′ → six A c 0 rows′ ≡ E′
 
 -- ---- the product of the m passed
-pub record Task (f : Cubic) (B : List ℕ) (c l d : ℕ) : Type 0 where
+pub record Task (f : OpenedField) (B : List ℕ) (c l d : ℕ) : Type 0 where
   pub known : Known f
   pub is-first : IsFirst (f .field .p) (known .G) (known .H) B
   pub last : List ℕ
@@ -70,14 +70,14 @@ pub record Along (p : ℕ) (G H B : List ℕ) (c i d : ℕ) (b rows : List ℕ) 
   pub rest : (j : ℕ) → c + c + c ≤ j → getD rows j 0 ≡ 0
   pub product : (A : Accepted p G H) → (k : Chain (setting A) (basisOf A B) i d (basisOf A b)) × Product (setting A) k (six A c 0 rows)
 
-pub record StartIn (rows : List ℕ) : Type 0 where
+pub record StartedAsks (rows : List ℕ) : Type 0 where
   pub some : 0 < length rows
 
 pub record Starts (rows s rows′ s′ : List ℕ) : Type 0 where
   pub one : rows′ ≡ set (replicate (length rows) 0) 0 1
   pub blank : s′ ≡ replicate (length s) 0
 
-pub record FurtherIn (f : Cubic) (c d : ℕ) (b rows s : List ℕ) : Type 0 where
+pub record StepAndMultiplyAsks (f : OpenedField) (c d : ℕ) (b rows s : List ℕ) : Type 0 where
   pub B : List ℕ
   pub l : ℕ
   pub all : ℕ
@@ -88,25 +88,25 @@ pub record FurtherIn (f : Cubic) (c d : ℕ) (b rows s : List ℕ) : Type 0 wher
   pub even : length s ≡ length rows
   pub blank : Blank s
 
-pub record Further (f : Cubic) (c d : ℕ) (b rows s : List ℕ) (o : Advance) (rows′ s′ : List ℕ) : Type 0 where
+pub record Further (f : OpenedField) (c d : ℕ) (b rows s : List ℕ) (o : StepTaken) (rows′ s′ : List ℕ) : Type 0 where
   pub size : length rows′ ≡ length rows
   pub blank : s′ ≡ replicate (length s) 0
-  pub goes : (t : FurtherIn f c d b rows s) → Along (f .field .p) (t .task .known .G) (t .task .known .H) (t .B) c (suc (t .i)) (d + o .degree) (o .basis) rows′
+  pub goes : (t : StepAndMultiplyAsks f c d b rows s) → Along (f .field .p) (t .task .known .G) (t .task .known .H) (t .B) c (suc (t .i)) (d + o .degree) (o .basis) rows′
 
-pub record ProductIn (f : Cubic) (c : ℕ) (B : List ℕ) (l : ℕ) (rows s : List ℕ) : Type 0 where
+pub record ProductAsks (f : OpenedField) (c : ℕ) (B : List ℕ) (l : ℕ) (rows s : List ℕ) : Type 0 where
   pub d : ℕ
   pub task : Task f B c l d
   pub along : Along (f .field .p) (task .known .G) (task .known .H) B c 0 0 B rows
   pub even : length s ≡ length rows
   pub blank : Blank s
 
-pub record ProductOf (f : Cubic) (c : ℕ) (B : List ℕ) (l : ℕ) (rows s rows′ s′ : List ℕ) : Type 0 where
+pub record ProductOf (f : OpenedField) (c : ℕ) (B : List ℕ) (l : ℕ) (rows s rows′ s′ : List ℕ) : Type 0 where
   pub size : length rows′ ≡ length rows
   pub blank : s′ ≡ replicate (length s) 0
-  pub goes : (t : ProductIn f c B l rows s) → Along (f .field .p) (t .task .known .G) (t .task .known .H) B c l (t .d) (t .task .last) rows′
+  pub goes : (t : ProductAsks f c B l rows s) → Along (f .field .p) (t .task .known .G) (t .task .known .H) B c l (t .d) (t .task .last) rows′
 
 -- ---- the inverse, and the end
-pub record InverseIn (f : Cubic) (c k : ℕ) (rows s : List ℕ) : Type 0 where
+pub record InvertedAsks (f : OpenedField) (c k : ℕ) (rows s : List ℕ) : Type 0 where
   pub known : Known f
   pub space : Space c rows s
   pub upto : k ≤ c
@@ -115,7 +115,7 @@ pub record InverseIn (f : Cubic) (c k : ℕ) (rows s : List ℕ) : Type 0 where
   pub fits : (A : Accepted (f .field .p) (known .G) (known .H)) → Fit (setting A) k (cof (setting A) (six A c 0 rows))
   pub unit : (A : Accepted (f .field .p) (known .G) (known .H)) → IsUnit (setting A .𝓥) (norm (setting A) (six A c 0 rows))
 
-pub record Inverses (f : Cubic) (c : ℕ) (rows s rows′ s′ : List ℕ) : Type 0 where
+pub record Inverses (f : OpenedField) (c : ℕ) (rows s rows′ s′ : List ℕ) : Type 0 where
   pub size : length rows′ ≡ length rows
   pub blank : s′ ≡ replicate (length s) 0
   pub each : (i : ℕ) → getD rows′ i 0 < f .field .p
@@ -123,24 +123,24 @@ pub record Inverses (f : Cubic) (c : ℕ) (rows s rows′ s′ : List ℕ) : Typ
       → polys (S .𝓥) .ops .𝟏 ≡ polys (S .𝓥) .ops .mul (norm S (six A c 0 rows)) ν
       → (six A c 0 rows′ ≡ six A c 0 rows) × (six A c (c + c + c) rows′ ≡ O S .ops .mul (sc S ν) (cof S (six A c 0 rows)))
 
-pub record FinishIn (f : Cubic) (c d : ℕ) (rows s : List ℕ) : Type 0 where
+pub record FinishedAsks (f : OpenedField) (c d : ℕ) (rows s : List ℕ) : Type 0 where
   pub B : List ℕ
   pub l : ℕ
   pub task : Task f B c l d
   pub along : Along (f .field .p) (task .known .G) (task .known .H) B c l d (task .last) rows
   pub even : length s ≡ length rows
 
-pub record Finishes (f : Cubic) (c d : ℕ) (rows s rows′ s′ : List ℕ) : Type 0 where
+pub record Finishes (f : OpenedField) (c d : ℕ) (rows s rows′ s′ : List ℕ) : Type 0 where
   pub size : length rows′ ≡ length rows
   pub blank : s′ ≡ replicate (length s) 0
-  pub goes : (t : FinishIn f c d rows s) → Holds (f .field .p) (t .task .known .G) (t .task .known .H) (t .l) d c rows′
+  pub goes : (t : FinishedAsks f c d rows s) → Holds (f .field .p) (t .task .known .G) (t .task .known .H) (t .l) d c rows′
 
-pub record MakeIn (f : Cubic) (B : List ℕ) (l d c : ℕ) (rows s : List ℕ) : Type 0 where
+pub record MakeAsks (f : OpenedField) (B : List ℕ) (l d c : ℕ) (rows s : List ℕ) : Type 0 where
   pub task : Task f B c l d
   pub whole : length rows ≡ 6 * c
   pub even : length s ≡ length rows
 
-pub record Making (f : Cubic) (B : List ℕ) (l d c : ℕ) (rows s rows′ s′ : List ℕ) : Type 0 where
+pub record Making (f : OpenedField) (B : List ℕ) (l d c : ℕ) (rows s rows′ s′ : List ℕ) : Type 0 where
   pub size : length rows′ ≡ length rows
   pub blank : s′ ≡ replicate (length s) 0
-  pub goes : (t : MakeIn f B l d c rows s) → Holds (f .field .p) (t .task .known .G) (t .task .known .H) l d c rows′
+  pub goes : (t : MakeAsks f B l d c rows s) → Holds (f .field .p) (t .task .known .G) (t .task .known .H) l d c rows′

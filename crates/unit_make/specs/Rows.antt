@@ -1,7 +1,7 @@
 -- The six rows of a unit.
 --   six c at l              the element whose rows are the three rows of c numbers of l from place at on
 --   Holds p G H l d c rows  E0, E1, E2, F0, F1, F2 of the unit that closes after l steps with degree sum d, each c coefficients with zeros above
--- `rows-one` in proofs/Rows.antt: the field settles the rows.
+-- `rows-unique` in proofs/Rows.antt: the field settles the rows.
 use mathlib.Core.Path.{_≡_}
 use mathlib.Core.List.{List}
 use Prim.Native.Nat.{ℕ, _+_, _*_, _<_}

@@ -1,48 +1,55 @@
 // The unit of an opened field and its inverse, from the walk that closes. specs/Making.antt says what each part asks and does; the door is
 // crate door_unit.
-use field_series::Cubic;
+use field_series::OpenedField;
 use poly_long::clear;
-use poly_long::narrow;
-use step_next::Advance;
-use step_next::next_in_field;
-ghost use Rattle.unit_make.specs.Making.{MultiplyIn, Multiplies, StartIn, Starts, FurtherIn, Further, ProductIn, ProductOf, InverseIn, Inverses, FinishIn, Finishes, MakeIn, Making};
+use poly_long::to_stored;
+use step_next::StepTaken;
+use step_next::step_in_field;
+ghost use Rattle.unit_make.specs.Making.{MultipliedAsks, Multiplies, StartedAsks, Starts, StepAndMultiplyAsks, Further, ProductAsks, ProductOf, InvertedAsks, Inverses, FinishedAsks, Finishes, MakeAsks, Making};
 
 // E times m in place, n coefficients of each row; b is the record of m.
-fn multiplied(f: Cubic, c: usize, n: usize, b: [u16; 119], rows: &mut [u16], s: &mut [u16])
-    requires { ⌜ MultiplyIn f c n b (now rows) (now s) ⌝ }
+fn multiplied(f: OpenedField, c: usize, n: usize, b: [u16; 119], rows: &mut [u16], s: &mut [u16])
+    requires { ⌜ MultipliedAsks f c n b (now rows) (now s) ⌝ }
     ensures { λ _. ⌜ Multiplies f c n b (now (rows .entry)) (now (s .entry)) (now (rows .exit)) (now (s .exit)) ⌝ }
 {
     let k = f.field;
     let x = k.g;
     let y = k.h;
     let z = k.gh;
-    let g = narrow(&x);
-    let h = narrow(&y);
-    let gh = narrow(&z);
-    unit_rows::turn(k.p, c, n, &g, &h, &gh, &b, rows, s);
+    let g = to_stored(&x);
+    let h = to_stored(&y);
+    let gh = to_stored(&z);
+    unit_rows::multiply_by_m(k.p, c, n, &g, &h, &gh, &b, rows, s);
 }
 
 // The step from the record b, and E times its m. E has degree d before.
-fn further(f: Cubic, c: usize, d: usize, b: [u16; 119], rows: &mut [u16], s: &mut [u16]) -> Advance
-    requires { ⌜ FurtherIn f c d b (now rows) (now s) ⌝ }
+fn step_and_multiply(
+    f: OpenedField,
+    c: usize,
+    d: usize,
+    b: [u16; 119],
+    rows: &mut [u16],
+    s: &mut [u16],
+) -> StepTaken
+    requires { ⌜ StepAndMultiplyAsks f c d b (now rows) (now s) ⌝ }
     ensures { λ o. ⌜ Further f c d b (now (rows .entry)) (now (s .entry)) o (now (rows .exit)) (now (s .exit)) ⌝ }
 {
-    let o = next_in_field(f, b);
+    let o = step_in_field(f, b);
     let k = o.degree;
     multiplied(f, c, d + (k as usize) + 1, b, rows, s);
     o
 }
 
 // The product of the m passed in `steps` steps from the record b, where E is 1.
-fn product(f: Cubic, c: usize, from: [u16; 119], steps: u64, rows: &mut [u16], s: &mut [u16])
-    requires { ⌜ ProductIn f c from steps (now rows) (now s) ⌝ }
+fn product(f: OpenedField, c: usize, from: [u16; 119], steps: u64, rows: &mut [u16], s: &mut [u16])
+    requires { ⌜ ProductAsks f c from steps (now rows) (now s) ⌝ }
     ensures { λ _. ⌜ ProductOf f c from steps (now (rows .entry)) (now (s .entry)) (now (rows .exit)) (now (s .exit)) ⌝ }
 {
     let mut b = from;
     let mut d: usize = 0;
     let mut i: u64 = 0;
     while i < steps {
-        let o = further(f, c, d, b, rows, s);
+        let o = step_and_multiply(f, c, d, b, rows, s);
         let k = o.degree;
         let t = o.basis;
         d += k as usize;
@@ -53,7 +60,7 @@ fn product(f: Cubic, c: usize, from: [u16; 119], steps: u64, rows: &mut [u16], s
 
 // Zeros, and 1 for E0.
 fn started(rows: &mut [u16], s: &mut [u16])
-    requires { ⌜ StartIn (now rows) ⌝ }
+    requires { ⌜ StartedAsks (now rows) ⌝ }
     ensures { λ _. ⌜ Starts (now (rows .entry)) (now (s .entry)) (now (rows .exit)) (now (s .exit)) ⌝ }
 {
     clear(rows);
@@ -62,8 +69,8 @@ fn started(rows: &mut [u16], s: &mut [u16])
 }
 
 // The inverse after E, from the k low coefficients of the cofactor.
-fn inverted(f: Cubic, c: usize, k: usize, rows: &mut [u16], s: &mut [u16])
-    requires { ⌜ InverseIn f c k (now rows) (now s) ⌝ }
+fn inverted(f: OpenedField, c: usize, k: usize, rows: &mut [u16], s: &mut [u16])
+    requires { ⌜ InvertedAsks f c k (now rows) (now s) ⌝ }
     ensures { λ _. ⌜ Inverses f c (now (rows .entry)) (now (s .entry)) (now (rows .exit)) (now (s .exit)) ⌝ }
 {
     let q = f.field;
@@ -71,16 +78,16 @@ fn inverted(f: Cubic, c: usize, k: usize, rows: &mut [u16], s: &mut [u16])
     let y = q.h;
     let z = q.gh;
     let m = poly_rows::minus(q.p, &z);
-    let g = narrow(&x);
-    let h = narrow(&y);
-    let gh = narrow(&z);
-    let ngh = narrow(&m);
+    let g = to_stored(&x);
+    let h = to_stored(&y);
+    let gh = to_stored(&z);
+    let ngh = to_stored(&m);
     unit_inverse::invert(q.p, c, k, &g, &h, &gh, &ngh, rows, s);
 }
 
 // E made monic, and its inverse; E has degree d.
-fn finished(f: Cubic, c: usize, d: usize, rows: &mut [u16], s: &mut [u16])
-    requires { ⌜ FinishIn f c d (now rows) (now s) ⌝ }
+fn finished(f: OpenedField, c: usize, d: usize, rows: &mut [u16], s: &mut [u16])
+    requires { ⌜ FinishedAsks f c d (now rows) (now s) ⌝ }
     ensures { λ _. ⌜ Finishes f c d (now (rows .entry)) (now (s .entry)) (now (rows .exit)) (now (s .exit)) ⌝ }
 {
     let q = f.field;
@@ -90,7 +97,7 @@ fn finished(f: Cubic, c: usize, d: usize, rows: &mut [u16], s: &mut [u16])
 
 // The unit of degree d that closes after `steps` steps from the order's record b, and its inverse.
 pub fn make(
-    f: Cubic,
+    f: OpenedField,
     b: [u16; 119],
     steps: u64,
     d: usize,
@@ -98,7 +105,7 @@ pub fn make(
     rows: &mut [u16],
     s: &mut [u16],
 )
-    requires { ⌜ MakeIn f b steps d c (now rows) (now s) ⌝ }
+    requires { ⌜ MakeAsks f b steps d c (now rows) (now s) ⌝ }
     ensures { λ _. ⌜ Making f b steps d c (now (rows .entry)) (now (s .entry)) (now (rows .exit)) (now (s .exit)) ⌝ }
 {
     started(rows, s);

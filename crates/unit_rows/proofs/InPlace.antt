@@ -1,4 +1,4 @@
--- What `turn` and `monic` leave in the slice: the first three rows are new, the others as they were.
+-- What `multiply_by_m` and `monic` leave in the slice: the first three rows are new, the others as they were.
 use mathlib.Core.Path.{_≡_, refl, sym, ap, ap₂, _∙_, subst}
 use mathlib.Core.List.{List, _++_}
 use Prim.Native.Nat.{ℕ, zero, suc, _+_, _*_, _-_, _%_, _<_, _≤_}
@@ -10,7 +10,7 @@ use Rattle.math_rows.specs.Row.{row}
 use Rattle.num_mod.specs.Residue.{Inverse, Nonzero}
 use Rattle.poly_long.specs.Long.{Scaled}
 use Rattle.base_lists.specs.Pieces.{cut, between}
-use Rattle.unit_rows.specs.Six.{TimesIn, Times, TurnIn, Turn, MonicIn, MonicMade}
+use Rattle.unit_rows.specs.Six.{TimesAsks, Times, MultiplyByMAsks, Turn, MonicAsks, MonicMade}
 use Rattle.base_lists.proofs.Pieces.{between-length, cut-same}
 use Rattle.base_lists.proofs.Puts.{Around, put-back}
 
@@ -22,7 +22,7 @@ mid-at k l i u = getD-take (k - 0) (drop 0 l) i 0 (omega arith) ∙ getD-drop 0 
 front : (k : ℕ) (l q : List ℕ) (m : ℕ) → m ≡ k → k ≤ length l → length q ≡ k → Around 0 k l q (take 0 l ++ (q ++ drop m (drop 0 l)))
 front k l q m e u s = subst (λ j. Around 0 k l q (take 0 l ++ (q ++ drop j (drop 0 l)))) (sym e) (put-back 0 k l q (omega arith) s)
 
-module _ (p c n : ℕ) (g h gh b rows s s₁ : List ℕ) (t : TurnIn p c n g h gh b rows s) (T : Times p c n g h gh b rows s s₁) where
+module _ (p c n : ℕ) (g h gh b rows s s₁ : List ℕ) (t : MultiplyByMAsks p c n g h gh b rows s) (T : Times p c n g h gh b rows s s₁) where
   pub turn-asks : length (between 0 (c + c + c) s₁) ≡ length (between 0 (c + c + c) rows)
   turn-asks =
       between-length 0 (c + c + c) s₁ (omega arith) (let o : length s₁ ≡ length s = T .size in let u : c + c + c ≤ length s = t .times .s-room in omega arith)
@@ -47,7 +47,7 @@ module _ (p c n : ℕ) (g h gh b rows s s₁ : List ℕ) (t : TurnIn p c n g h g
         blank = es ∙ ap (λ k. replicate k 0) (T .size);
       }
 
-module _ (p c n : ℕ) (rows : List ℕ) (h : MonicIn p c n rows) (v : ℕ) (e : v ≡ getD rows (n - 1) 0) where
+module _ (p c n : ℕ) (rows : List ℕ) (h : MonicAsks p c n rows) (v : ℕ) (e : v ≡ getD rows (n - 1) 0) where
   pub monic-asks : Nonzero p v
   monic-asks = record {
     modulus = record { big = h .modulus .big; small = let o : p < 65536 = h .modulus .small in omega arith };

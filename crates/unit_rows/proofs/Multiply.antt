@@ -15,7 +15,7 @@ use Rattle.math_rows.specs.Row.{tab, row, psum, coefs}
 use Rattle.math_rows.proofs.Tab.{at-tab, past-tab}
 use Rattle.math_rows.proofs.Rows.{psum-ext, row-tab, row-upto}
 use Rattle.base_lists.specs.Pieces.{cut, between}
-use Rattle.unit_rows.specs.Six.{Monic, By, CoordinateIn, Coordinate, TimesIn, Times}
+use Rattle.unit_rows.specs.Six.{Monic, By, CoordinateAsks, Coordinate, TimesAsks, Times}
 pub use Rattle.base_lists.proofs.Pieces.{cut-same}
 use Rattle.base_lists.proofs.Pieces.{between-length, between-cut}
 
@@ -41,7 +41,7 @@ module _ {p c n : ℕ} {a b d u e : List ℕ} {at : ℕ} {s s′ : List ℕ} (C 
   pub lay-row : (pr : Prime p) → row (reading p pr) (cut at c z) ≡ row (reading p pr) (cut at n s′)
   lay-row pr = row-grow (reading p pr) at n c z l above ∙ ap (row (reading p pr)) (cut-same at n z s′ (λ i f. keep i (omega arith)))
 
-module _ (p c n : ℕ) (g h gh b e s : List ℕ) (t : TimesIn p c n g h gh b e s) where
+module _ (p c n : ℕ) (g h gh b e s : List ℕ) (t : TimesAsks p c n g h gh b e s) where
   -- the four rows of the record
   pub piece-length : (f k : ℕ) → f ≤ k → k ≤ 119 → length (between f k b) ≡ k - f
   piece-length f k u v = between-length f k b u (let o : length b ≡ 119 = t .b-size in omega arith)
@@ -49,7 +49,7 @@ module _ (p c n : ℕ) (g h gh b e s : List ℕ) (t : TimesIn p c n g h gh b e s
   piece-cut : (f k : ℕ) → f ≤ k → k ≤ 119 → between f k b ≡ cut f (k - f) b
   piece-cut f k u v = between-cut f k b u (let o : length b ≡ 119 = t .b-size in omega arith)
 
-  pub times-asks : (x y z : List ℕ) (at : ℕ) (r : List ℕ) → length x ≤ 4096 → length y ≤ 4096 → length z ≤ 4096 → at + n ≤ length r → CoordinateIn p c n x y z (between 102 119 b) e at r
+  pub times-asks : (x y z : List ℕ) (at : ℕ) (r : List ℕ) → length x ≤ 4096 → length y ≤ 4096 → length z ≤ 4096 → at + n ≤ length r → CoordinateAsks p c n x y z (between 102 119 b) e at r
   times-asks x y z at r lx ly lz lr = record {
     modulus = t .modulus;
     a-most = lx;

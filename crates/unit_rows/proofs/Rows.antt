@@ -9,9 +9,9 @@ use Rattle.math_rows.specs.Reading.{Reading}
 use Rattle.math_rows.specs.Made.{reading}
 use Rattle.math_rows.specs.Row.{row, Size}
 use Rattle.math_rows.proofs.Unique.{list-exists}
-use Rattle.poly_long.specs.Long.{QuotientIn, Quotient}
+use Rattle.poly_long.specs.Long.{QuotientAsks, Quotient}
 use Rattle.base_lists.specs.Pieces.{cut, between}
-use Rattle.unit_rows.specs.Six.{CoordinateIn, Coordinate}
+use Rattle.unit_rows.specs.Six.{CoordinateAsks, Coordinate}
 use Rattle.base_lists.proofs.Pieces.{between-length, between-cut}
 use Rattle.base_lists.proofs.Puts.{Around, put-back, around-cut}
 use Rattle.math_rows.proofs.Trims.{row-front}
@@ -20,7 +20,7 @@ use Rattle.math_rows.proofs.Trims.{row-front}
 row-lent : {p : ℕ} (ρ : Reading p) (l : List ℕ) (m : ℕ) → Size l m → row ρ (between 0 m l) ≡ row ρ l
 row-lent ρ l m s = ap (λ k. row ρ (take k l)) (let o : m - 0 ≡ m = omega arith in o) ∙ row-front ρ l m s
 
-module _ (p c n : ℕ) (a b d u e : List ℕ) (at : ℕ) (s : List ℕ) (la lb ld lu : ℕ) (h : CoordinateIn p c n a b d u e at s) (sa : Size a la) (sb : Size b lb) (sd : Size d ld) (su : Size u lu) where
+module _ (p c n : ℕ) (a b d u e : List ℕ) (at : ℕ) (s : List ℕ) (la lb ld lu : ℕ) (h : CoordinateAsks p c n a b d u e at s) (sa : Size a la) (sb : Size b lb) (sd : Size d ld) (su : Size u lu) where
   trim : (l : List ℕ) (m : ℕ) → Size l m → length l ≤ 4096 → length (between 0 m l) ≤ 65536
   trim l m z k = let o : length (between 0 m l) ≡ m - 0 = between-length 0 m l (omega arith) (z .fits) in let f : m ≤ length l = z .fits in omega arith
 
@@ -34,7 +34,7 @@ module _ (p c n : ℕ) (a b d u e : List ℕ) (at : ℕ) (s : List ℕ) (la lb l
   place : length (between at (at + n) s) ≡ n
   place = between-length at (at + n) s (omega arith) (h .s-room) ∙ (let q : at + n - at ≡ n = omega arith in q)
 
-  pub coordinate-asks : QuotientIn p (between 0 la a) (between 0 lb b) (between 0 ld d) (between 0 lu u) (between at (at + n) s)
+  pub coordinate-asks : QuotientAsks p (between 0 la a) (between 0 lb b) (between 0 ld d) (between 0 lu u) (between at (at + n) s)
   coordinate-asks = record {
     modulus = h .modulus;
     a-most = trim a la sa (h .a-most);

@@ -10,7 +10,7 @@ use Rattle.math_rows.specs.Row.{row, Size}
 pub use Rattle.base_lists.specs.Pieces.{cut}
 use Rattle.poly_long.specs.Long.{Storable}
 
-pub record ByIn (p : ℕ) (x y : List ℕ) : Type 0 where
+pub record ByAsks (p : ℕ) (x y : List ℕ) : Type 0 where
   pub modulus : Storable p
   pub room : length x + length y ≤ 50
 
@@ -23,7 +23,7 @@ pub record By (p : ℕ) (x y r : List ℕ) : Type 0 where
 abbrev pub Monic : List ℕ → Type 0
 Monic u = (m : ℕ) → Size u m → (0 < m) × (getD u (m - 1) 0 ≡ 1)
 
-pub record CoordinateIn (p c n : ℕ) (a b d u e : List ℕ) (at : ℕ) (s : List ℕ) : Type 0 where
+pub record CoordinateAsks (p c n : ℕ) (a b d u e : List ℕ) (at : ℕ) (s : List ℕ) : Type 0 where
   pub modulus : Storable p
   pub a-most : length a ≤ 4096
   pub b-most : length b ≤ 4096
@@ -46,7 +46,7 @@ pub record Coordinate (p c n : ℕ) (a b d u e : List ℕ) (at : ℕ) (s s′ : 
 
 -- E m from E and the record of m. The scratch is blank before; the rows written are those of E′ with U E′ = E M, if there is one and
 -- n coefficients hold it.
-pub record TimesIn (p c n : ℕ) (g h gh b e s : List ℕ) : Type 0 where
+pub record TimesAsks (p c n : ℕ) (g h gh b e s : List ℕ) : Type 0 where
   pub modulus : Storable p
   pub g-most : length g ≤ 33
   pub h-most : length h ≤ 33
@@ -73,8 +73,8 @@ pub record Times (p c n : ℕ) (g h gh b e s s′ : List ℕ) : Type 0 where
       → (row ρ (cut 0 c s′) ≡ x) × (row ρ (cut c c s′) ≡ y) × (row ρ (cut (c + c) c s′) ≡ z)
 
 -- E m in the place of E
-pub record TurnIn (p c n : ℕ) (g h gh b rows s : List ℕ) : Type 0 where
-  pub times : TimesIn p c n g h gh b rows s
+pub record MultiplyByMAsks (p c n : ℕ) (g h gh b rows s : List ℕ) : Type 0 where
+  pub times : TimesAsks p c n g h gh b rows s
 
 pub record Turn (p c n : ℕ) (g h gh b rows s rows′ s′ : List ℕ) : Type 0 where
   pub size : length rows′ ≡ length rows
@@ -91,7 +91,7 @@ pub record Turn (p c n : ℕ) (g h gh b rows s rows′ s′ : List ℕ) : Type 0
   pub blank : s′ ≡ replicate (length s) 0
 
 -- the first three rows, times the inverse of the coefficient n − 1 of the first
-pub record MonicIn (p c n : ℕ) (rows : List ℕ) : Type 0 where
+pub record MonicAsks (p c n : ℕ) (rows : List ℕ) : Type 0 where
   pub modulus : Storable p
   pub prime : Prime p
   pub some : 0 < n

@@ -7,12 +7,12 @@ use poly_long::quotient;
 use poly_long::scale;
 use poly_long::size;
 ghost use mathlib.Core.Path.{_≡_};
-ghost use Rattle.unit_rows.specs.Six.{ByIn, By, CoordinateIn, Coordinate, TimesIn, Times, TurnIn, Turn, MonicIn, MonicMade};
+ghost use Rattle.unit_rows.specs.Six.{ByAsks, By, CoordinateAsks, Coordinate, TimesAsks, Times, MultiplyByMAsks, Turn, MonicAsks, MonicMade};
 ghost use lib.ListN.{length, replicate};
 
 // x y, for two short ones
 fn by(p: u64, x: &[u16], y: &[u16]) -> [u16; 50]
-    requires { ⌜ ByIn p (now x) (now y) ⌝ }
+    requires { ⌜ ByAsks p (now x) (now y) ⌝ }
     ensures { λ r. ⌜ By p (now (x .entry)) (now (y .entry)) r ⌝ }
 {
     let mut d: [u16; 50] = [0; 50];
@@ -33,7 +33,7 @@ fn coordinate(
     at: usize,
     s: &mut [u16],
 )
-    requires { ⌜ CoordinateIn p c n (now a) (now b) (now d) (now u) (now e) at (now s) ⌝ }
+    requires { ⌜ CoordinateAsks p c n (now a) (now b) (now d) (now u) (now e) at (now s) ⌝ }
     ensures { λ _. ⌜ Coordinate p c n (now (a .entry)) (now (b .entry)) (now (d .entry)) (now (u .entry)) (now (e .entry)) at (now (s .entry)) (now (s .exit)) ⌝ }
 {
     let la = size(a);
@@ -69,7 +69,7 @@ fn times(
     e: &[u16],
     s: &mut [u16],
 )
-    requires { ⌜ TimesIn p c n (now g) (now h) (now gh) (now b) (now e) (now s) ⌝ }
+    requires { ⌜ TimesAsks p c n (now g) (now h) (now gh) (now b) (now e) (now s) ⌝ }
     ensures { λ _. ⌜ Times p c n (now (g .entry)) (now (h .entry)) (now (gh .entry)) (now (b .entry)) (now (e .entry)) (now (s .entry)) (now (s .exit)) ⌝ }
 {
     let i0: usize = 0;
@@ -92,7 +92,7 @@ fn times(
 }
 
 // E times m in place; the scratch is blank before and after.
-pub fn turn(
+pub fn multiply_by_m(
     p: u64,
     c: usize,
     n: usize,
@@ -103,7 +103,7 @@ pub fn turn(
     rows: &mut [u16],
     s: &mut [u16],
 )
-    requires { ⌜ TurnIn p c n (now g) (now h) (now gh) (now b) (now rows) (now s) ⌝ }
+    requires { ⌜ MultiplyByMAsks p c n (now g) (now h) (now gh) (now b) (now rows) (now s) ⌝ }
     ensures { λ _. ⌜ Turn p c n (now (g .entry)) (now (h .entry)) (now (gh .entry)) (now (b .entry)) (now (rows .entry)) (now (s .entry)) (now (rows .exit)) (now (s .exit)) ⌝ }
 {
     times(p, c, n, g, h, gh, b, rows, s);
@@ -115,7 +115,7 @@ pub fn turn(
 
 // E scaled so that E0, of n coefficients, is monic.
 pub fn monic(p: u64, c: usize, n: usize, rows: &mut [u16])
-    requires { ⌜ MonicIn p c n (now rows) ⌝ }
+    requires { ⌜ MonicAsks p c n (now rows) ⌝ }
     ensures { λ _. ⌜ MonicMade p c n (now (rows .entry)) (now (rows .exit)) ⌝ }
 {
     let q = inverse(p, wide(rows[n - 1]));

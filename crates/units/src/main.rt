@@ -35,7 +35,7 @@ fn serve(kept: &mut [u8], s: &[u8], out: &mut [u8], n: usize) -> Standing
 }
 
 // Reads once, and answers what came.
-fn turn(kept: &mut [u8], buf: &mut [u8], out: &mut [u8], n: usize) -> Standing
+fn read_once(kept: &mut [u8], buf: &mut [u8], out: &mut [u8], n: usize) -> Standing
     requires { ⌜ room ≤ length (now out) ⌝ }
 {
     let got = libc::read(STDIN_FILENO, buf);
@@ -47,14 +47,14 @@ fn turn(kept: &mut [u8], buf: &mut [u8], out: &mut [u8], n: usize) -> Standing
 }
 
 // Turn after turn to the input's end. A proved loop has to end, so the turns are counted down, from a number that no input uses up.
-fn turns(kept: &mut [u8], buf: &mut [u8], out: &mut [u8]) -> usize
+fn read_all(kept: &mut [u8], buf: &mut [u8], out: &mut [u8]) -> usize
     requires { ⌜ room ≤ length (now out) ⌝ }
 {
     let mut left = u64::MAX;
     let mut t = Standing { on: true, n: 0 };
     while t.on && left > 0 {
         let n = t.n;
-        let q = turn(kept, buf, out, n);
+        let q = read_once(kept, buf, out, n);
         t = q;
         left -= 1;
     }
@@ -67,7 +67,7 @@ fn run(out: &mut [u8])
 {
     let mut kept = [0u8; 255];
     let mut buf = io::large_buffer();
-    let n = turns(&mut kept, &mut buf, out);
+    let n = read_all(&mut kept, &mut buf, out);
     let to = lister_print::finish(out, n);
     io::write_all(STDOUT_FILENO, &out[..to]);
 }

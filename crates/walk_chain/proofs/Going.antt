@@ -14,12 +14,12 @@ use Rattle.math_chain.proofs.Walk.{degree-of, degree-unique, open-none, closes,
 use Rattle.basis_record.specs.Record.{setting, basisOf, IsRecord}
 use Rattle.field_series.specs.Keeps.{Keeps}
 use Rattle.step_next.specs.Steps.{Steps, Advanced}
-use Rattle.step_next.specs.declared.Advance.{Advance}
-use Rattle.walk_chain.specs.declared.Walked.{Walked}
-use Rattle.walk_chain.specs.Closed.{ClosedIn, OnePart}
+use Rattle.step_next.specs.declared.StepTaken.{StepTaken}
+use Rattle.walk_chain.specs.declared.WalkAnswer.{WalkAnswer}
+use Rattle.walk_chain.specs.Closed.{IsClosedAsks, OnePart}
 use Rattle.walk_chain.specs.Walk.{Reaches, Closes, StaysOpen, Closed, Spent}
 use Rattle.base_answers.specs.Limits.{most}
-use Rattle.walk_chain.specs.Going.{GoIn, Gone, Going}
+use Rattle.walk_chain.specs.Going.{WalkOnRowsAsks, Gone, Going}
 
 -- U = 1, of numbers and of polynomials
 module _ {p : ℕ} {G H : List ℕ} (A : Accepted p G H) (b : List ℕ) where
@@ -29,11 +29,11 @@ module _ {p : ℕ} {G H : List ℕ} (A : Accepted p G H) (b : List ℕ) where
   U-other : OnePart p b false → basisOf A b .U ≢ polys (setting A .𝓥) .ops .𝟏
   U-other f e = f (A .prime) (ap (λ x. x .0) e)
 
-pub closed-in : (p : ℕ) (G H b : List ℕ) → IsRecord p G H b → ClosedIn p b
+pub closed-in : (p : ℕ) (G H b : List ℕ) → IsRecord p G H b → IsClosedAsks p b
 closed-in p G H b h = record { size = h .size; each = h .each }
 
 -- one step more
-module _ (p : ℕ) (G H B b : List ℕ) (s d : ℕ) (reaches : Reaches p G H B s d b) (o : Advance) (step : Steps p G H b o) where
+module _ (p : ℕ) (G H B b : List ℕ) (s d : ℕ) (reaches : Reaches p G H B s d b) (o : StepTaken) (step : Steps p G H b o) where
   pub reaches-more : Reaches p G H B (suc s) (d + o .degree) (o .basis)
   reaches-more = record {
     is-record = step .is-record;
@@ -57,7 +57,7 @@ module _ (p : ℕ) (g h gh : List ℕ) (dr dw : ℕ) (r w B : List ℕ) (budget 
     free = λ G H k is A. open-none (setting A) (basisOf A B);
   }
 
-  module _ (i : GoIn p g h gh dr dw r w B budget) (b : List ℕ) (s d : ℕ) (st : Going p g h gh dr dw r w B budget b s d) where
+  module _ (i : WalkOnRowsAsks p g h gh dr dw r w B budget) (b : List ℕ) (s d : ℕ) (st : Going p g h gh dr dw r w B budget b s d) where
     pub record-at : IsRecord p (i .G) (i .H) b
     record-at = st .reaches (i .G) (i .H) (i .keeps) (i .is-record) .is-record
 
@@ -70,14 +70,14 @@ module _ (p : ℕ) (g h gh : List ℕ) (dr dw : ℕ) (r w B : List ℕ) (budget 
       reaches = subst (λ m. Reaches p G H B m d b) e (st .reaches G H k is);
     })
 
-    module _ (o : Advance) (adv : Advanced p g h gh dr dw r w b o) where
+    module _ (o : StepTaken) (adv : Advanced p g h gh dr dw r w b o) where
       more : (G H : List ℕ) → Keeps p G H g h gh dr dw r w → IsRecord p G H B → Reaches p G H B (suc s) (d + o .degree) (o .basis)
       more G H k is = reaches-more p G H B b s d (st .reaches G H k is) o (adv G H k (st .reaches G H k is .is-record))
 
       pub degree-at : o .degree ≤ 16
       degree-at = degree-small p (i .G) (i .H) B b s d (st .reaches (i .G) (i .H) (i .keeps) (i .is-record)) o (adv (i .G) (i .H) (i .keeps) record-at) (i .keeps .accepted)
 
-      pub closed-at : ClosedIn p (o .basis)
+      pub closed-at : IsClosedAsks p (o .basis)
       closed-at = closed-in p (i .G) (i .H) (o .basis) (adv (i .G) (i .H) (i .keeps) record-at .is-record)
 
       -- it closes

@@ -18,7 +18,7 @@ use Rattle.math_rows.proofs.Unique.{list-unique}
 use Rattle.math_rows.specs.Made.{reading}
 use Rattle.basis_record.specs.Record.{part}
 use Rattle.basis_record.proofs.Unique.{part-below}
-use Rattle.walk_chain.specs.Closed.{ClosedIn, OnePart}
+use Rattle.walk_chain.specs.Closed.{IsClosedAsks, OnePart}
 use mathlib.Core.Bool.{true, false}
 
 module _ {p : ℕ} (ρ : Reading p) (l : List ℕ) where
@@ -49,7 +49,7 @@ module _ (p : ℕ) (B : List ℕ) where
       above j l = elim (decLt j 17) [ yes w ↦ at j w ∙ z (102 + j) (omega arith) (omega arith) | no w ↦ past-tab 17 (λ j. getD B (17 * 6 + j) 0) j (omega arith) ]
 
   -- a row of 17 numbers that is the polynomial 1 is 1, 0, .., 0
-  is-unit : ClosedIn p B → (pr : Prime p) → row (reading p pr) (part 6 B) ≡ reading p pr .𝓥 .L .ops .𝟏 → part 6 B ≡ unit17
+  is-unit : IsClosedAsks p B → (pr : Prime p) → row (reading p pr) (part 6 B) ≡ reading p pr .𝓥 .L .ops .𝟏 → part 6 B ≡ unit17
   is-unit h pr e = list-unique (reading p pr) (part 6 B) unit17 (length-tab 17 (λ j. getD B (17 * 6 + j) 0)) (part-below B (h .each) 6) small
       (e ∙ sym (one-of (reading p pr) unit17 (record { fits = omega arith; above = tail; top = λ l q. let z : _≡_ {A = ℕ} 1 0 = q in absurd (omega arith) }) refl))
     where
@@ -61,8 +61,8 @@ module _ (p : ℕ) (B : List ℕ) where
       small zero = pr .big
       small (suc j) = let z : getD unit17 (suc j) 0 ≡ 0 = zeros-at 16 j in let b : 1 < p = pr .big in omega arith
 
-  pub first-other : ClosedIn p B → getD B 102 0 ≢ 1 → OnePart p B false
+  pub first-other : IsClosedAsks p B → getD B 102 0 ≢ 1 → OnePart p B false
   first-other h f pr e = f (sym (at 0 (omega arith)) ∙ ap (λ l. getD l 0 0) (is-unit h pr e))
 
-  pub later-other : ClosedIn p B → (k : ℕ) → 103 ≤ k → k < 119 → getD B k 0 ≢ 0 → OnePart p B false
+  pub later-other : IsClosedAsks p B → (k : ℕ) → 103 ≤ k → k < 119 → getD B k 0 ≢ 0 → OnePart p B false
   later-other h k l u f pr e = f (ap (λ m. getD B m 0) (let q : k ≡ 102 + suc (k - 103) = omega arith in q) ∙ sym (at (suc (k - 103)) (omega arith)) ∙ ap (λ l. getD l (suc (k - 103)) 0) (is-unit h pr e) ∙ zeros-at 16 (k - 103))

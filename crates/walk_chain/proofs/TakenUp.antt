@@ -14,9 +14,9 @@ use Rattle.math_ideals.specs.Ideal.{Basis}
 use Rattle.math_ideals.specs.Basis.{Good}
 use Rattle.math_chain.specs.Chain.{Chain, Closing, Open}
 use Rattle.math_chain.proofs.Walk.{same-chain, chain-then, prefix}
-use Rattle.field_open.proofs.Stages.{refusal-one, numbered}
+use Rattle.field_open.proofs.Stages.{refusal-unique, numbered}
 use Rattle.basis_record.specs.Record.{setting, basisOf, IsRecord}
-use Rattle.walk_chain.specs.declared.Walked.{Walked}
+use Rattle.walk_chain.specs.declared.WalkAnswer.{WalkAnswer}
 use Rattle.walk_chain.specs.Walk.{refused, Closed, Spent, Goes, budget, no-record, closed, spent, Walks}
 use Rattle.base_answers.specs.Limits.{most}
 
@@ -53,9 +53,9 @@ module _ (S : Setting) (B₀ B₁ : Basis S) (good : Good S B₀) {n d : ℕ} (c
           later j (s - 1) e B a (omega arith) (omega arith) (λ i e′ B′ u v w. k .none i e′ B′ u (omega arith) w) (k .chain) (omega arith)
 
 -- ---- of records
-module _ (p : ℕ) (G H : List ℕ) (n m : ℕ) (B : List ℕ) (is : IsRecord p G H B) (v : Walked) (first : Spent p G H n B v) where
+module _ (p : ℕ) (G H : List ℕ) (n m : ℕ) (B : List ℕ) (is : IsRecord p G H B) (v : WalkAnswer) (first : Spent p G H n B v) where
   -- taken up and closed: steps and degrees add up
-  pub closed-later : (w : Walked) → Closed p G H m (v .basis) w → Closed p G H (n + m) B (record { refusal = 0; steps = n + w .steps; sum = v .sum + w .sum; basis = w .basis })
+  pub closed-later : (w : WalkAnswer) → Closed p G H m (v .basis) w → Closed p G H (n + m) B (record { refusal = 0; steps = n + w .steps; sum = v .sum + w .sum; basis = w .basis })
   closed-later w k = record {
     within = (let l : w .steps ≤ m = k .within in omega arith);
     number = refl;
@@ -66,7 +66,7 @@ module _ (p : ℕ) (G H : List ℕ) (n m : ℕ) (B : List ℕ) (is : IsRecord p 
   }
 
   -- taken up and spent again
-  pub spent-later : (w : Walked) → Spent p G H m (v .basis) w → Spent p G H (n + m) B (record { refusal = 10; steps = n + m; sum = v .sum + w .sum; basis = w .basis })
+  pub spent-later : (w : WalkAnswer) → Spent p G H m (v .basis) w → Spent p G H (n + m) B (record { refusal = 10; steps = n + m; sum = v .sum + w .sum; basis = w .basis })
   spent-later w k = record {
     number = refl;
     all = refl;
@@ -79,10 +79,10 @@ module _ (p : ℕ) (G H : List ℕ) (n m : ℕ) (B : List ℕ) (is : IsRecord p 
 
 -- ---- of answers
 -- the answer to the long walk
-abbrev pub joined : ℕ → Walked → Walked → Walked
+abbrev pub joined : ℕ → WalkAnswer → WalkAnswer → WalkAnswer
 joined n v w = record { refusal = w .refusal; steps = n + w .steps; sum = v .sum + w .sum; basis = w .basis }
 
-module _ (p : ℕ) (G H : List ℕ) (n m : ℕ) (B : List ℕ) (v w : Walked) (within : n + m ≤ most) where
+module _ (p : ℕ) (G H : List ℕ) (n m : ℕ) (B : List ℕ) (v w : WalkAnswer) (within : n + m ≤ most) where
   -- 10 is the budget's
   was-spent : Goes p G H n B v → v .refusal ≡ 10 → IsRecord p G H B × Spent p G H n B v
   was-spent (budget l e) t = absurd (let q : 14 ≡ 10 = sym (ap (λ z. z .refusal) e) ∙ t in omega arith)
@@ -105,5 +105,5 @@ module _ (p : ℕ) (G H : List ℕ) (n m : ℕ) (B : List ℕ) (v w : Walked) (w
         let l : a .no ≤ 8 = numbered p G H (a .no) (a .first) in
         let e : a .no ≡ 10 = sym (ap (λ z. z .refusal) (a .none f)) ∙ t in
         omega arith);
-    goes = λ z. let (rec, sp) = was-spent (a .goes z) t in goes-later rec sp (b .goes (refusal-one p G H (b .no) (a .no) (b .first) (a .first) ∙ z));
+    goes = λ z. let (rec, sp) = was-spent (a .goes z) t in goes-later rec sp (b .goes (refusal-unique p G H (b .no) (a .no) (b .first) (a .first) ∙ z));
   }

@@ -1,6 +1,6 @@
 -- The test at which a walk stops.
 --   OnePart p B r   r says whether the row U of the record B is the polynomial 1
---   ClosedIn p B    119 numbers below p
+--   IsClosedAsks p B    119 numbers below p
 -- The laws are in proofs/One.antt.
 use mathlib.Core.Path.{_≡_}
 use mathlib.Core.Logic.{_≢_}
@@ -13,7 +13,7 @@ use Rattle.math_rows.specs.Made.{reading}
 use Rattle.math_rows.specs.Row.{row}
 use Rattle.basis_record.specs.Record.{part}
 
-pub record ClosedIn (p : ℕ) (B : List ℕ) : Type 0 where
+pub record IsClosedAsks (p : ℕ) (B : List ℕ) : Type 0 where
   pub size : length B ≡ 119
   pub each : (k : ℕ) → getD B k 0 < p
 

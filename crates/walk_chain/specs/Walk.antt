@@ -4,7 +4,7 @@
 --   StaysOpen p G H B n         no count from 1 to n closes
 --   refused n                   the answer beside the refusal n: zeros
 --   Walks p G H n B w           the whole answer to a walk from B with the budget n
--- `walks-one` in proofs/Walk.antt: two answers that meet it are equal. `taken-up`: a walk that is taken up again where refusal 10 left it
+-- `walks-unique` in proofs/Walk.antt: two answers that meet it are equal. `taken-up`: a walk that is taken up again where refusal 10 left it
 -- gives what one long walk gives.
 use mathlib.Core.Path.{_≡_}
 use mathlib.Core.List.{List}
@@ -14,7 +14,7 @@ use Rattle.field_open.specs.Refusal.{Accepted}
 use Rattle.field_open.specs.Door.{Door}
 use Rattle.math_chain.specs.Chain.{Chain, Closing, Open}
 use Rattle.basis_record.specs.Record.{setting, basisOf, IsRecord}
-use Rattle.walk_chain.specs.declared.Walked.{Walked}
+use Rattle.walk_chain.specs.declared.WalkAnswer.{WalkAnswer}
 
 module _ (p : ℕ) (G H B : List ℕ) where
   pub record Reaches (s d : ℕ) (B′ : List ℕ) : Type 0 where
@@ -29,29 +29,29 @@ module _ (p : ℕ) (G H B : List ℕ) where
   abbrev pub StaysOpen : ℕ → Type 0
   StaysOpen n = (A : Accepted p G H) → Open (setting A) (basisOf A B) n
 
-abbrev pub refused : ℕ → Walked
+abbrev pub refused : ℕ → WalkAnswer
 refused n = record { refusal = n; steps = 0; sum = 0; basis = blank }
 
 module _ (p : ℕ) (G H : List ℕ) (n : ℕ) (B : List ℕ) where
   -- closing within the budget: "Its answer holds steps taken, sum of the degrees of m, and last basis"
-  pub record Closed (w : Walked) : Type 0 where
+  pub record Closed (w : WalkAnswer) : Type 0 where
     pub within : w .steps ≤ n
     pub number : w .refusal ≡ 0
     pub closes : Closes p G H B (w .steps) (w .sum) (w .basis)
 
   -- "10 is given exactly when no count from 1 to B closes .. returns B, the degree sum and the basis reached"
-  pub record Spent (w : Walked) : Type 0 where
+  pub record Spent (w : WalkAnswer) : Type 0 where
     pub number : w .refusal ≡ 10
     pub all : w .steps ≡ n
     pub none : StaysOpen p G H B n
     pub reaches : Reaches p G H B n (w .sum) (w .basis)
 
   -- an accepted field: 14 for the budget, then 9 for the record, then the walk itself
-  pub data Goes (w : Walked) : Type 0 where
+  pub data Goes (w : WalkAnswer) : Type 0 where
     budget : most < n → w ≡ refused 14 → Goes w
     no-record : n ≤ most → (IsRecord p G H B → ⊥) → w ≡ refused 9 → Goes w
     closed : n ≤ most → IsRecord p G H B → Closed w → Goes w
     spent : n ≤ most → IsRecord p G H B → Spent w → Goes w
 
-  abbrev pub Walks : Walked → Type 0
+  abbrev pub Walks : WalkAnswer → Type 0
   Walks w = Door p G H (λ k. w ≡ refused k) (Goes w)

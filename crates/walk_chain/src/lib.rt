@@ -1,11 +1,11 @@
 // The walk along the chain of minima, from a record; it asks for an accepted field. The doors are in crate door_walk.
-use step_next::advanced;
-ghost use Rattle.walk_chain.specs.Closed.{ClosedIn, OnePart};
-ghost use Rattle.walk_chain.specs.Going.{GoIn, Gone};
-ghost use Rattle.walk_chain.specs.InField.{WalkedIn, WalkedOut};
+use step_next::step_on_rows;
+ghost use Rattle.walk_chain.specs.Closed.{IsClosedAsks, OnePart};
+ghost use Rattle.walk_chain.specs.Going.{WalkOnRowsAsks, Gone};
+ghost use Rattle.walk_chain.specs.InField.{WalkInFieldAsks, WalkInFieldGives};
 
 // What a walk answers: the refusal's number (0: closed), the steps taken, the sum of the degrees passed, the last basis.
-pub struct Walked {
+pub struct WalkAnswer {
     pub refusal: u32,
     pub steps: u64,
     pub sum: u64,
@@ -14,7 +14,7 @@ pub struct Walked {
 
 // Whether U = 1: the ideal is the whole order. U is the last row, from place 102 on.
 fn is_closed(p: u64, b: &[u16; 119]) -> bool
-    requires { ⌜ ClosedIn p (now b) ⌝ }
+    requires { ⌜ IsClosedAsks p (now b) ⌝ }
     ensures { λ r. ⌜ OnePart p (now (b .entry)) r ⌝ }
 {
     if b[102] != 1 {
@@ -31,7 +31,7 @@ fn is_closed(p: u64, b: &[u16; 119]) -> bool
 }
 
 // At most `budget` steps from a record; what a field keeps from step to step is lent.
-pub fn go(
+pub fn walk_on_rows(
     p: u64,
     g: &[u64; 32],
     h: &[u64; 32],
@@ -42,15 +42,15 @@ pub fn go(
     w: &[u64; 32],
     from: [u16; 119],
     budget: u64,
-) -> Walked
-    requires { ⌜ GoIn p (now g) (now h) (now gh) dr dw (now r) (now w) from budget ⌝ }
+) -> WalkAnswer
+    requires { ⌜ WalkOnRowsAsks p (now g) (now h) (now gh) dr dw (now r) (now w) from budget ⌝ }
     ensures { λ o. ⌜ Gone p (now (g .entry)) (now (h .entry)) (now (gh .entry)) dr dw (now (r .entry)) (now (w .entry)) from budget o ⌝ }
 {
     let mut b = from;
     let mut steps: u64 = 0;
     let mut sum: u64 = 0;
     while steps < budget {
-        let o = advanced(p, g, h, gh, dr, dw, r, w, &b);
+        let o = step_on_rows(p, g, h, gh, dr, dw, r, w, &b);
         let d = o.degree;
         let c = o.basis;
         sum += d;
@@ -58,7 +58,7 @@ pub fn go(
         b = c;
         let done = is_closed(p, &b);
         if done {
-            return Walked {
+            return WalkAnswer {
                 refusal: 0,
                 steps: steps,
                 sum: sum,
@@ -66,7 +66,7 @@ pub fn go(
             };
         }
     }
-    Walked {
+    WalkAnswer {
         refusal: 10,
         steps: steps,
         sum: sum,
@@ -75,9 +75,9 @@ pub fn go(
 }
 
 // The walk in an opened field.
-pub fn walk_in_field(c: field_series::Cubic, b: [u16; 119], budget: u64) -> Walked
-    requires { ⌜ WalkedIn c b budget ⌝ }
-    ensures { λ o. ⌜ WalkedOut c b budget o ⌝ }
+pub fn walk_in_field(c: field_series::OpenedField, b: [u16; 119], budget: u64) -> WalkAnswer
+    requires { ⌜ WalkInFieldAsks c b budget ⌝ }
+    ensures { λ o. ⌜ WalkInFieldGives c b budget o ⌝ }
 {
     let f = c.field;
     let r = c.r;
@@ -85,5 +85,5 @@ pub fn walk_in_field(c: field_series::Cubic, b: [u16; 119], budget: u64) -> Walk
     let g = f.g;
     let h = f.h;
     let gh = f.gh;
-    go(f.p, &g, &h, &gh, f.dr, f.dw, &r, &w, b, budget)
+    walk_on_rows(f.p, &g, &h, &gh, f.dr, f.dw, &r, &w, b, budget)
 }

@@ -21,7 +21,9 @@ quotient-in-requires c κs =
 
 returns : tie.Need-returns
 returns c =
-    coords-made (c .before .before .before .before .before .before .before .before .before .before .before .before .pre) (c .before .before .before .before .before .before .before .outer .ensures) (c .before .before .before .both-in .ensures) (c .quotient-in .ensures)
+    let at7 = c .before .before .before .before .before .before .before in
+    let at12 = at7 .before .before .before .before .before in
+    coords-made (at12 .pre) (at7 .outer .ensures) (c .before .before .before .both-in .ensures) (c .quotient-in .ensures)
 
 pub coordinates-spec : {M : Type 1} → statement M
 coordinates-spec =

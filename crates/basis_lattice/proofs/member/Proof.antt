@@ -62,11 +62,17 @@ inside-requires c κs =
 
 returns-3 : tie.Need-returns-3
 returns-3 c =
-    let i = c .before .before .before .before .before .before .before .before .before .before .before .before .before .before .before .before .before .pre .inp in
-    let o = c .before .before .before .before .before .before .before .before .before .before .before .before .outer .ensures in
-    let x = c .before .before .before .before .before .before .before .before .before .less-in .ensures in
-    let y = c .before .before .before .before .before .less-in2 .ensures in
-    λ pr. carried (member-of pr i o x y (omega (arith, c .before .before .before .before .before .before .before .before .if1 .left)) (omega (arith, c .before .before .before .before .if2 .left))) (member-in pr i o x y) (c .inside .ensures pr)
+    let at4 = c .before .before .before .before in
+    let at5 = at4 .before in
+    let at8 = at5 .before .before .before in
+    let at9 = at8 .before in
+    let at12 = at9 .before .before .before in
+    let at17 = at12 .before .before .before .before .before in
+    let i = at17 .pre .inp in
+    let o = at12 .outer .ensures in
+    let x = at9 .less-in .ensures in
+    let y = at5 .less-in2 .ensures in
+    λ pr. carried (member-of pr i o x y (omega (arith, at8 .if1 .left)) (omega (arith, at4 .if2 .left))) (member-in pr i o x y) (c .inside .ensures pr)
 
 pub member-spec : {M : Type 1} → statement M
 member-spec =

@@ -55,7 +55,10 @@ loop-less : tie.Need-loop-less Inv-loop μ-loop
 loop-less c = omega arith
 
 loop-again : tie.Need-loop-again Inv-loop μ-loop
-loop-again c = loading-more (c .before .before .before .before .args .rows .now) (c .before .before .before .before .args .i) _ (c .before .before .before .loop .j) _ (c .before .before .loop-test .taken) (c .wide .ensures) (c .before .before .before .loop .inv)
+loop-again c =
+    let at3 = c .before .before .before in
+    let at4 = at3 .before in
+    loading-more (at4 .args .rows .now) (at4 .args .i) _ (at3 .loop .j) _ (c .before .before .loop-test .taken) (c .wide .ensures) (at3 .loop .inv)
 
 returns : tie.Need-returns Inv-loop μ-loop
 returns c = loading-end _ (c .before .before .args .i) _ (c .before .loop .j) (omega arith) (c .before .loop .inv)

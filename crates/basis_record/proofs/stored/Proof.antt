@@ -61,7 +61,10 @@ loop-less : tie.Need-loop-less Inv-loop μ-loop
 loop-less c = omega arith
 
 loop-again : tie.Need-loop-again Inv-loop μ-loop
-loop-again c = storing-more _ (c .before .before .before .args .i) (c .before .before .before .args .a .now) _ (c .before .before .loop .j) (c .before .before .before .pre .row) (let f : c .before .before .before .args .n ≤ 17 = c .before .before .before .pre .fits in omega arith) (c .before .before .loop .inv)
+loop-again c =
+    let at2 = c .before .before in
+    let at3 = at2 .before in
+    storing-more _ (at3 .args .i) (at3 .args .a .now) _ (at2 .loop .j) (at3 .pre .row) (let f : at3 .args .n ≤ 17 = at3 .pre .fits in omega arith) (at2 .loop .inv)
 
 returns : tie.Need-returns Inv-loop μ-loop
 returns c = storing-end _ _ _ _ _ (c .before .loop .j) (c .before .before .pre) (omega arith) (c .before .loop .inv)

@@ -14,36 +14,36 @@ Inv-loop f r w mb mc mx nb₀ nc₀ nx top l low x1 x2₀ nb nc x2 = Shearing (g
 abbrev μ-loop : tie.MeasureT-loop
 μ-loop f r w mb mc mx nb₀ nc₀ nx top l low x1 x2₀ nb nc x2 = x2 .n
 
-part-in-requires : tie.Need-part-in-requires Inv-loop μ-loop
-part-in-requires c κs = let g = c .before .pre in record { inp = part-in (g .inp .room) (g .inp .hm); hz = g .hmx }
+floor-in-requires : tie.Need-floor-in-requires Inv-loop μ-loop
+floor-in-requires c κs = let g = c .before .pre in record { inp = part-in (g .inp .room) (g .inp .hm); hz = g .hmx }
 
 size-from-requires : tie.Need-size-from-requires Inv-loop μ-loop
-size-from-requires c κs = part-below (c .before .before .before .pre .inp .room) (c .before .part-in .ensures)
+size-from-requires c κs = part-below (c .before .before .before .pre .inp .room) (c .before .floor-in .ensures)
 
 sub-low : tie.Need-sub-low Inv-loop μ-loop
-sub-low c = shear-pos (c .before .before .before .before .pre .inp) (c .before .before .part-in .ensures) _ (c .size-from .ensures)
+sub-low c = shear-pos (c .before .before .before .before .pre .inp) (c .before .before .floor-in .ensures) _ (c .size-from .ensures)
 
 mul-t19 : tie.Need-mul-t19 Inv-loop μ-loop
 mul-t19 c =
     let at4 = c .before .before .before .before in
-    let l : c .size-from .result - 1 < 32 = shear-low (at4 .pre .inp) (c .before .before .part-in .ensures) _ (c .size-from .ensures) in
+    let l : c .size-from .result - 1 < 32 = shear-low (at4 .pre .inp) (c .before .before .floor-in .ensures) _ (c .size-from .ensures) in
     record { fits = omega arith }
 
 element-copy-out-t22 : tie.Need-element-copy-out-t22 Inv-loop μ-loop
-element-copy-out-t22 c = shear-low (c .before .before .before .before .pre .inp) (c .before .before .part-in .ensures) _ (c .size-from .ensures)
+element-copy-out-t22 c = shear-low (c .before .before .before .before .pre .inp) (c .before .before .floor-in .ensures) _ (c .size-from .ensures)
 
 top-of-requires : tie.Need-top-of-requires Inv-loop μ-loop
 top-of-requires c κs =
     let at5 = c .before .before .before .before .before in
     let at7 = at5 .before .before in
-    shear-top (at7 .pre .inp) (at5 .part-in .ensures) _ (c .before .before .before .size-from .ensures)
+    shear-top (at7 .pre .inp) (at5 .floor-in .ensures) _ (c .before .before .before .size-from .ensures)
 
 loop-holds : tie.Need-loop-holds Inv-loop μ-loop
 loop-holds c =
     let at4 = c .before .before .before .before in
     let at6 = at4 .before .before in
     let at8 = at6 .before .before in
-    shear-start (at8 .pre .inp) (at6 .part-in .ensures) _ (at4 .size-from .ensures) (c .top-of .ensures)
+    shear-start (at8 .pre .inp) (at6 .floor-in .ensures) _ (at4 .size-from .ensures) (c .top-of .ensures)
 
 canceled-requires : tie.Need-canceled-requires Inv-loop μ-loop
 canceled-requires c κs = shear-turn-in (c .before .before .before .before .loop .inv) (c .before .before .if1 .taken)
@@ -54,8 +54,8 @@ loop-less c = shear-less (c .before .before .before .before .before .loop .inv) 
 loop-again : tie.Need-loop-again Inv-loop μ-loop
 loop-again c = shear-turn (c .before .before .before .before .before .loop .inv) (c .before .before .before .if1 .taken) (c .canceled .ensures)
 
-part-in-requires-2 : tie.Need-part-in-requires-2 Inv-loop μ-loop
-part-in-requires-2 c κs =
+floor-in-requires-2 : tie.Need-floor-in-requires-2 Inv-loop μ-loop
+floor-in-requires-2 c κs =
     let at5 = c .before .before .before .before .before in
     let at14 = at5 .before .before .before .before .before .before .before .before .before in
     record { inp = part-in (at5 .loop .inv .room) (at5 .loop .inv .hn); hz = at14 .pre .hnx }
@@ -63,8 +63,8 @@ part-in-requires-2 c κs =
 returns : tie.Need-returns Inv-loop μ-loop
 returns c =
     shear-end (c .before .before .before .before .before .before .loop .inv) (omega arith)
-    (c .before .before .before .before .before .before .before .before .before .before .before .before .before .part-in .ensures)
-    (c .before .before .before .before .before .before .before .before .before .before .before .size-from .ensures) (c .part-in2 .ensures)
+    (c .before .before .before .before .before .before .before .before .before .before .before .before .before .floor-in .ensures)
+    (c .before .before .before .before .before .before .before .before .before .before .before .size-from .ensures) (c .floor-in2 .ensures)
 
 pub clear-x-spec : {M : Type 1} → statement M
 clear-x-spec =
@@ -72,7 +72,7 @@ clear-x-spec =
     (tie.spec
     Inv-loop
     μ-loop
-    part-in-requires
+    floor-in-requires
     size-from-requires
     sub-low
     mul-t19
@@ -82,5 +82,5 @@ clear-x-spec =
     canceled-requires
     loop-less
     loop-again
-    part-in-requires-2
+    floor-in-requires-2
     returns)

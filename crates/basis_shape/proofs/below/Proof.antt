@@ -7,7 +7,7 @@ use native.Mathlib.Omega.{arith}
 use borrow.Author.Needs.{needs}
 use Rattle.base_answers.proofs.Tests.{answer-yes, answer-no}
 use Rattle.basis_shape.proofs.Lengths.{below-end}
-use Rattle.basis_shape.proofs.wide.Reads as wide-reads
+use Rattle.base_lists.proofs.wide.Reads as wide-reads
 use Rattle.basis_shape.proofs.below.Statement.{statement}
 use Rattle.basis_shape.proofs.below.Tie as tie
 use Rattle.basis_shape.proofs.below.Reads as reads

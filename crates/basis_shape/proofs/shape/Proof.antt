@@ -63,10 +63,28 @@ units-requires : tie.Need-units-requires
 units-requires c κs = search needs
 
 returns : tie.Need-returns
-returns c = shape-from (c .before .before .before .before .before .before .before .before .before .before .before .before .size .ensures) (c .before .before .before .before .before .before .before .before .before .before .before .size2 .ensures) (c .before .before .before .before .before .before .before .before .before .before .size3 .ensures) (c .before .before .before .before .before .before .before .before .before .size4 .ensures) (c .before .before .before .before .before .before .before .before .size5 .ensures) (c .before .before .before .before .before .before .before .size6 .ensures) (c .before .before .before .before .before .before .size7 .ensures) (c .before .before .before .before .before .ordered .ensures .yes! (c .before .before .before .before .if1 .taken)) (c .units .ensures)
+returns c =
+    let at4 = c .before .before .before .before in
+    let at5 = at4 .before in
+    let at6 = at5 .before in
+    let at7 = at6 .before in
+    let at8 = at7 .before in
+    let at9 = at8 .before in
+    let at10 = at9 .before in
+    let at11 = at10 .before in
+    let at12 = at11 .before in
+    shape-from (at12 .size .ensures) (at11 .size2 .ensures) (at10 .size3 .ensures) (at9 .size4 .ensures) (at8 .size5 .ensures) (at7 .size6 .ensures)
+    (at6 .size7 .ensures) (at5 .ordered .ensures .yes! (at4 .if1 .taken)) (c .units .ensures)
 
 returns-2 : tie.Need-returns-2
-returns-2 c = answer-no (not-ordered (c .before .before .before .before .before .before .before .before .size .ensures) (c .before .before .before .before .before .before .before .size2 .ensures) (c .before .before .before .before .before .before .size3 .ensures) (c .before .before .before .before .before .size4 .ensures) (c .before .before .before .before .size5 .ensures) (c .before .before .before .size6 .ensures) (c .before .before .size7 .ensures) (c .before .ordered .ensures .no! (c .if1 .left)))
+returns-2 c =
+    let at4 = c .before .before .before .before in
+    let at5 = at4 .before in
+    let at6 = at5 .before in
+    let at7 = at6 .before in
+    let at8 = at7 .before in
+    answer-no (not-ordered (at8 .size .ensures) (at7 .size2 .ensures) (at6 .size3 .ensures) (at5 .size4 .ensures) (at4 .size5 .ensures)
+    (c .before .before .before .size6 .ensures) (c .before .before .size7 .ensures) (c .before .ordered .ensures .no! (c .if1 .left)))
 
 pub shape-spec : {M : Type 1} → statement M
 shape-spec = tie.close (tie.spec size-requires size-requires-2 size-requires-3 size-requires-4 size-requires-5 size-requires-6 size-requires-7 ordered-requires sub-units mul-units element-copy-out-units sub-units-2 mul-units-2 element-copy-out-units-2 sub-units-3 mul-units-3 element-copy-out-units-3 units-requires returns returns-2)

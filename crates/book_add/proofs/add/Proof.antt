@@ -28,7 +28,11 @@ same-length : tie.Need-same-length
 same-length c = search needs
 
 returns-2 : tie.Need-returns-2
-returns-2 c = let a = c .before .before .before .before .before .before .before .before .before .args in short-of (a .out .now) (a .n) (a .b .now) _ (omega arith) (c .before .before .before .before .may-add .ensures) _ (c .before .before .v .given .1) (inr (omega arith))
+returns-2 c =
+    let at4 = c .before .before .before .before in
+    let at9 = at4 .before .before .before .before .before in
+    let a = at9 .args in
+    short-of (a .out .now) (a .n) (a .b .now) _ (omega arith) (at4 .may-add .ensures) _ (c .before .before .v .given .1) (inr (omega arith))
 
 add-size : tie.Need-add-size
 add-size c = search needs
@@ -40,7 +44,11 @@ same-length-2 : tie.Need-same-length-2
 same-length-2 c = search needs
 
 returns-3 : tie.Need-returns-3
-returns-3 c = let a = c .before .before .before .before .before .before .before .before .before .before .args in short-of (a .out .now) (a .n) (a .b .now) _ (omega arith) (c .before .before .before .before .before .may-add .ensures) _ (c .before .before .before .v .given .1) (inl (omega arith))
+returns-3 c =
+    let at5 = c .before .before .before .before .before in
+    let at10 = at5 .before .before .before .before .before in
+    let a = at10 .args in
+    short-of (a .out .now) (a .n) (a .b .now) _ (omega arith) (at5 .may-add .ensures) _ (c .before .before .before .v .given .1) (inl (omega arith))
 
 same-length-3 : tie.Need-same-length-3
 same-length-3 c = search needs
@@ -88,13 +96,19 @@ same-length-5 : tie.Need-same-length-5
 same-length-5 c = search needs
 
 returns-6 : tie.Need-returns-6
-returns-6 c = let a = c .before .before .before .before .before .before .before .before .args in no-of (a .out .now) (a .n) (a .b .now) _ (omega arith) (c .before .before .before .may-add .ensures) (c .before .v2 .given .0 .0) (c .before .v2 .given .1)
+returns-6 c =
+    let at8 = c .before .before .before .before .before .before .before .before in
+    let a = at8 .args in
+    no-of (a .out .now) (a .n) (a .b .now) _ (omega arith) (c .before .before .before .may-add .ensures) (c .before .v2 .given .0 .0) (c .before .v2 .given .1)
 
 same-length-6 : tie.Need-same-length-6
 same-length-6 c = search needs
 
 returns-7 : tie.Need-returns-7
-returns-7 c = let a = c .before .before .before .before .before .before .before .args in known-of (a .out .now) (a .n) (a .b .now) _ (omega arith) (c .before .before .may-add .ensures) (c .enum-told .given .1)
+returns-7 c =
+    let at7 = c .before .before .before .before .before .before .before in
+    let a = at7 .args in
+    known-of (a .out .now) (a .n) (a .b .now) _ (omega arith) (c .before .before .may-add .ensures) (c .enum-told .given .1)
 
 pub add-spec : {M : Type 1} → statement M
 add-spec =

@@ -24,11 +24,18 @@ enum-told-2 c = search needs
 
 earlier-requires : tie.Need-earlier-requires
 earlier-requires c κs =
-    let s6 = c .before .before .before .before .before .before in
-    let a = yes-of _ _ (c .before .before .before .before .enum-told .given .1) (s6 .check .ensures) in
+    let at4 = c .before .before .before .before in
+    let s6 = at4 .before .before in
+    let a = yes-of _ _ (at4 .enum-told .given .1) (s6 .check .ensures) in
     let n = c .before .before .before .bodies .ensures .0 in
-    record
-    { marked = a .marked; listed = a .listed; within = omega arith; own = judge-good _ _ _ (c .enum-told2 .given .1) (c .before .before .judge .ensures) .1; each = λ j h. a .good j (omega arith) .field }
+    record {
+      marked = a .marked;
+      listed = a .listed;
+      within = omega arith;
+      own = judge-good _ _ _ (c .enum-told2 .given .1) (c .before .before .judge .ensures) .1;
+      each = λ
+          j h. a .good j (omega arith) .field;
+    }
 
 returns : tie.Need-returns
 returns c =
@@ -69,7 +76,10 @@ returns-3 c =
     (c .before .before .before .judge .ensures)
 
 returns-4 : tie.Need-returns-4
-returns-4 c = let a = c .before .before .before .before .before .before .args in book-no (a .s .now) (a .b .now) _ (c .before .a .given .0 .0) (c .before .a .given .1) (c .before .before .before .check .ensures)
+returns-4 c =
+    let at6 = c .before .before .before .before .before .before in
+    let a = at6 .args in
+    book-no (a .s .now) (a .b .now) _ (c .before .a .given .0 .0) (c .before .a .given .1) (c .before .before .before .check .ensures)
 
 pub may-add-spec : {M : Type 1} → statement M
 may-add-spec =

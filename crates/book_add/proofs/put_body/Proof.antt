@@ -23,16 +23,20 @@ put-two-requires c κs = search needs
 
 put-lines-requires : tie.Need-put-lines-requires
 put-lines-requires c κs =
-    let s11 = c .before .before .before .before .before .before .before .before .before .before .before in
     let s7 = c .before .before .before .before .before .before .before in
+    let s11 = s7 .before .before .before .before in
     let s3 = c .before .before .before in
     let a = s11 .args in
     let w = s11 .pre in
     let l = w .low in
     let r = w .room in
     let t = w .top in
-    let k = long-kept (a .out .now) (a .c) (a .n) _ _ _ _ _ _ (s7 .lift .ensures) (s3 .put-two .ensures) in
-    (omega arith, omega arith, λ i u. let e = ends-kept (a .out .now) (a .c) (a .n) _ _ _ _ _ _ (s7 .lift .ensures) (s3 .put-two .ensures) (6 + 8 * suc (a .c)) i u in let f = w .fits i u in omega arith)
+    let k = long-kept (a .out .now) (a .c) (a .n) _ _ _ _ _ _ (s7 .lift .ensures) (s3 .put-two .ensures) in (
+      omega arith,
+      omega arith,
+      λ i u. let e = ends-kept (a .out .now) (a .c) (a .n) _ _ _ _ _ _ (s7 .lift .ensures) (s3 .put-two .ensures) (6 + 8 * suc (a .c)) i u in
+          let f = w .fits i u in omega arith,
+    )
 
 add-put-line : tie.Need-add-put-line
 add-put-line c = search needs

@@ -25,7 +25,8 @@ add-at-2 : tie.Need-add-at-2 Inv-loop μ-loop
 add-at-2 c = search needs
 
 loop-holds : tie.Need-loop-holds Inv-loop μ-loop
-loop-holds c = (omega arith, (let e = lineEnd-first (c .before .args .out .now) (6 + 8 * suc (c .before .args .c)) in omega arith), lines-none (c .before .args .out .now) (6 + 8 * suc (c .before .args .c)))
+loop-holds c =
+    (omega arith, (let e = lineEnd-first (c .before .args .out .now) (6 + 8 * suc (c .before .args .c)) in omega arith), lines-none (c .before .args .out .now) (6 + 8 * suc (c .before .args .c)))
 
 mul-four : tie.Need-mul-four Inv-loop μ-loop
 mul-four c = search needs

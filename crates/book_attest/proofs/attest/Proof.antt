@@ -11,11 +11,16 @@ ask-answer-requires c κs = search needs
 enum-told : tie.Need-enum-told
 enum-told c = search needs
 
-part-of-requires : tie.Need-part-of-requires
-part-of-requires c κs = ready-of _ _ (there-of (c .before .before .before .before .args .s .now) (c .before .before .before .before .args .i) _ (c .enum-told .given .1) (c .before .before .ask-answer .ensures))
+entry-bytes-requires : tie.Need-entry-bytes-requires
+entry-bytes-requires c κs =
+    let at4 = c .before .before .before .before in
+    ready-of _ _ (there-of (at4 .args .s .now) (at4 .args .i) _ (c .enum-told .given .1) (c .before .before .ask-answer .ensures))
 
 constant-norm-requires : tie.Need-constant-norm-requires
-constant-norm-requires c κs = finished-part (c .before .before .before .before .before .args .s .now) (c .before .before .before .before .before .args .i) _ (c .part-of .ensures) (there-of (c .before .before .before .before .before .args .s .now) (c .before .before .before .before .before .args .i) _ (c .before .enum-told .given .1) (c .before .before .before .ask-answer .ensures))
+constant-norm-requires c κs =
+    let at5 = c .before .before .before .before .before in
+    finished-part (at5 .args .s .now) (at5 .args .i) _ (c .entry-bytes .ensures)
+    (there-of (at5 .args .s .now) (at5 .args .i) _ (c .before .enum-told .given .1) (c .before .before .before .ask-answer .ensures))
 
 enum-known-a : tie.Need-enum-known-a
 enum-known-a c = search needs
@@ -24,10 +29,20 @@ enum-told-2 : tie.Need-enum-told-2
 enum-told-2 c = search needs
 
 returns : tie.Need-returns
-returns c = attest-yes _ _ _ (c .before .before .part-of .ensures) (there-of (c .before .before .before .before .before .before .before .args .s .now) (c .before .before .before .before .before .before .before .args .i) _ (c .before .before .before .enum-told .given .1) (c .before .before .before .before .before .ask-answer .ensures)) (c .before .constant-norm .ensures .yes! (c .if1 .taken))
+returns c =
+    let at5 = c .before .before .before .before .before in
+    let at7 = at5 .before .before in
+    attest-yes _ _ _ (c .before .before .entry-bytes .ensures)
+    (there-of (at7 .args .s .now) (at7 .args .i) _ (c .before .before .before .enum-told .given .1) (at5 .ask-answer .ensures))
+    (c .before .constant-norm .ensures .yes! (c .if1 .taken))
 
 returns-2 : tie.Need-returns-2
-returns-2 c = attest-no _ _ _ (c .before .before .part-of .ensures) (there-of (c .before .before .before .before .before .before .before .args .s .now) (c .before .before .before .before .before .before .before .args .i) _ (c .before .before .before .enum-told .given .1) (c .before .before .before .before .before .ask-answer .ensures)) (c .before .constant-norm .ensures .no! (c .if1 .left))
+returns-2 c =
+    let at5 = c .before .before .before .before .before in
+    let at7 = at5 .before .before in
+    attest-no _ _ _ (c .before .before .entry-bytes .ensures)
+    (there-of (at7 .args .s .now) (at7 .args .i) _ (c .before .before .before .enum-told .given .1) (at5 .ask-answer .ensures))
+    (c .before .constant-norm .ensures .no! (c .if1 .left))
 
 returns-3 : tie.Need-returns-3
 returns-3 c = attest-refused _ _ _ (c .before .a .given .0 .0) (c .before .a .given .1) (c .before .before .before .ask-answer .ensures)
@@ -41,7 +56,7 @@ attest-spec =
     (tie.spec
     ask-answer-requires
     enum-told
-    part-of-requires
+    entry-bytes-requires
     constant-norm-requires
     enum-known-a
     enum-told-2

@@ -54,13 +54,31 @@ slice-aggregate-norm-5 : tie.Need-slice-aggregate-norm-5
 slice-aggregate-norm-5 c = search needs
 
 norm-requires : tie.Need-norm-requires
-norm-requires c κs = norm-in _ (c .before .before .before .before .before .before .before .before .before .before .before .before .before .before .before .before .before .before .before .before .before .before .before .before .pre .body) _ (c .before .before .before .before .before .before .before .before .before .before .before .before .before .before .before .before .before .before .before .before .before .prime-of .ensures) _ _ _ _ _ _ _ _ _ _ _ (c .before .before .before .before .before .before .before .before .before .before .before .before .before .before .before .before .before .before .before .before .before .before .before .before .pre .room) refl refl refl refl refl (c .before .before .before .before .before .before .before .before .before .before .before .before .before .before .before .before .before .before .before .load .ensures) (c .before .before .before .before .before .before .before .before .before .before .before .before .before .before .before .before .load2 .ensures) (c .before .before .before .before .before .before .before .before .before .before .before .before .before .load3 .ensures) (c .before .before .before .before .before .before .before .before .before .before .load4 .ensures) (c .before .before .before .before .before .before .before .load5 .ensures)
+norm-requires c κs =
+    let at7 = c .before .before .before .before .before .before .before in
+    let at10 = at7 .before .before .before in
+    let at13 = at10 .before .before .before in
+    let at16 = at13 .before .before .before in
+    let at19 = at16 .before .before .before in
+    let at21 = at19 .before .before in
+    let at24 = at21 .before .before .before in
+    norm-in _ (at24 .pre .body) _ (at21 .prime-of .ensures) _ _ _ _ _ _ _ _ _ _ _ (at24 .pre .room) refl refl refl refl refl (at19 .load .ensures)
+    (at16 .load2 .ensures) (at13 .load3 .ensures) (at10 .load4 .ensures) (at7 .load5 .ensures)
 
 same-length : tie.Need-same-length
 same-length c = search needs
 
 returns : tie.Need-returns
-returns c = body-norm _ (c .before .before .before .before .before .before .before .before .before .before .before .before .before .before .before .before .before .before .before .before .before .before .before .before .before .before .before .pre .body) _ (c .before .before .before .before .before .before .before .before .before .before .before .before .before .before .before .before .before .before .before .before .before .before .before .before .prime-of .ensures) _ _ _ _ _ _ _ _ _ _ _ _ (c .before .before .before .before .before .before .before .before .before .before .before .before .before .before .before .before .before .before .before .before .before .before .load .ensures) (c .before .before .before .before .before .before .before .before .before .before .before .before .before .before .before .before .before .before .before .load2 .ensures) (c .before .before .before .before .before .before .before .before .before .before .before .before .before .before .before .before .load3 .ensures) (c .before .before .before .before .before .before .before .before .before .before .before .before .before .load4 .ensures) (c .before .before .before .before .before .before .before .before .before .before .load5 .ensures) (c .before .before .norm .ensures)
+returns c =
+    let at10 = c .before .before .before .before .before .before .before .before .before .before in
+    let at13 = at10 .before .before .before in
+    let at16 = at13 .before .before .before in
+    let at19 = at16 .before .before .before in
+    let at22 = at19 .before .before .before in
+    let at24 = at22 .before .before in
+    let at27 = at24 .before .before .before in
+    body-norm _ (at27 .pre .body) _ (at24 .prime-of .ensures) _ _ _ _ _ _ _ _ _ _ _ _ (at22 .load .ensures) (at19 .load2 .ensures) (at16 .load3 .ensures)
+    (at13 .load4 .ensures) (at10 .load5 .ensures) (c .before .before .norm .ensures)
 
 pub body-norm-spec : {M : Type 1} → statement M
 body-norm-spec =

@@ -19,7 +19,10 @@ size-requires : tie.Need-size-requires
 size-requires c κs = search needs
 
 returns : tie.Need-returns
-returns c = answer-no (attested-no _ _ _ _ (c .before .before .before .before .before .before .before .pre) (c .before .before .before .before .body-norm .ensures) (c .before .size .ensures) (λ z. omega arith))
+returns c =
+    let at4 = c .before .before .before .before in
+    let at7 = at4 .before .before .before in
+    answer-no (attested-no _ _ _ _ (at7 .pre) (at4 .body-norm .ensures) (c .before .size .ensures) (λ z. omega arith))
 
 returns-2 : tie.Need-returns-2
 returns-2 c = answer-yes (attested-yes _ _ _ _ (c .before .before .before .before .body-norm .ensures) (c .before .size .ensures) (omega arith))

@@ -48,7 +48,14 @@ same-length : tie.Need-same-length
 same-length c = search needs
 
 returns : tie.Need-returns
-returns c = cubes-from _ _ _ _ _ _ _ _ _ _ _ _ _ _ _ (c .before .before .before .before .before .before .before .before .before .before .before .before .before .before .before .before .before .before .before .before .before .before .before .before .before .pre) refl refl refl refl (c .before .before .before .before .before .before .before .before .before .before .before .before .before .before .before .before .before .before .times .ensures) (c .before .before .before .before .before .before .before .before .before .before .before .before .before .before .before .times2 .ensures) (c .before .before .before .before .before .before .before .before .before .before .before .before .times3 .ensures) (c .before .before .before .before .before .before .before .before .before .times4 .ensures) (c .before .before .mix .ensures)
+returns c =
+    let at9 = c .before .before .before .before .before .before .before .before .before in
+    let at12 = at9 .before .before .before in
+    let at15 = at12 .before .before .before in
+    let at18 = at15 .before .before .before in
+    let at25 = at18 .before .before .before .before .before .before .before in
+    cubes-from _ _ _ _ _ _ _ _ _ _ _ _ _ _ _ (at25 .pre) refl refl refl refl (at18 .times .ensures) (at15 .times2 .ensures) (at12 .times3 .ensures)
+    (at9 .times4 .ensures) (c .before .before .mix .ensures)
 
 pub cubes-spec : {M : Type 1} → statement M
 cubes-spec =

@@ -42,7 +42,12 @@ same-length : tie.Need-same-length
 same-length c = search needs
 
 returns : tie.Need-returns
-returns c = norm-from _ _ _ _ _ _ _ _ _ _ _ _ _ _ (c .before .before .before .before .before .before .before .before .before .before .before .before .before .before .before .before .before .before .before .before .before .before .before .pre) refl refl refl (c .before .before .before .before .before .before .before .before .before .before .before .before .before .before .before .times .ensures) (c .before .before .before .before .before .before .before .before .before .before .before .square .ensures) (c .before .before .before .before .before .before .before .before .cubes .ensures) (c .before .before .mix .ensures)
+returns c =
+    let at8 = c .before .before .before .before .before .before .before .before in
+    let at11 = at8 .before .before .before in
+    let at15 = at11 .before .before .before .before in
+    let at23 = at15 .before .before .before .before .before .before .before .before in
+    norm-from _ _ _ _ _ _ _ _ _ _ _ _ _ _ (at23 .pre) refl refl refl (at15 .times .ensures) (at11 .square .ensures) (at8 .cubes .ensures) (c .before .before .mix .ensures)
 
 pub norm-spec : {M : Type 1} → statement M
 norm-spec =

@@ -30,7 +30,11 @@ same-length : tie.Need-same-length
 same-length c = search needs
 
 returns : tie.Need-returns
-returns c = square-from _ _ _ _ _ _ _ _ _ _ (c .before .before .before .before .before .before .before .before .before .before .before .before .before .before .before .before .pre) refl (c .before .before .before .before .before .before .before .before .before .times .ensures) (c .before .before .before .before .before .before .scale .ensures) (c .before .before .mix .ensures)
+returns c =
+    let at6 = c .before .before .before .before .before .before in
+    let at9 = at6 .before .before .before in
+    let at16 = at9 .before .before .before .before .before .before .before in
+    square-from _ _ _ _ _ _ _ _ _ _ (at16 .pre) refl (at9 .times .ensures) (at6 .scale .ensures) (c .before .before .mix .ensures)
 
 pub square-spec : {M : Type 1} → statement M
 square-spec =

@@ -30,7 +30,10 @@ same-length : tie.Need-same-length
 same-length c = search needs
 
 returns-3 : tie.Need-returns-3
-returns-3 c = let a = c .before .before .before .before .before .before .before .before .before .args in list-got (a .s .now) (a .k) _ _ _ (omega arith) (c .before .before .read-list .ensures) (omega arith)
+returns-3 c =
+    let at9 = c .before .before .before .before .before .before .before .before .before in
+    let a = at9 .args in
+    list-got (a .s .now) (a .k) _ _ _ (omega arith) (c .before .before .read-list .ensures) (omega arith)
 
 pub list-of-spec : {M : Type 1} → statement M
 list-of-spec =

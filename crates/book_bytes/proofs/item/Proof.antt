@@ -37,7 +37,8 @@ returns c = list-read _ _ _ _ _ _ _ (omega arith) (c .before .start .ensures .0)
 returns-2 : tie.Need-returns-2
 returns-2 c =
     let a = c .before .before .before .args in
-    sym (List·getD-eq-default (listAt (a .head) (a .from) (a .s .now) (a .k)) 0 {n = a .i} (let e : length (listAt (a .head) (a .from) (a .s .now) (a .k)) ≡ u2 (a .s .now) (a .from + 2 * a .k) = length-list (a .head) (a .from) (a .s .now) (a .k) in omega arith))
+    sym (List·getD-eq-default (listAt (a .head) (a .from) (a .s .now) (a .k)) 0 {n = a .i} (let e : length (listAt (a .head) (a .from) (a .s .now) (a .k)) ≡ u2
+    (a .s .now) (a .from + 2 * a .k) = length-list (a .head) (a .from) (a .s .now) (a .k) in omega arith))
 
 pub item-spec : {M : Type 1} → statement M
 item-spec =

@@ -52,7 +52,9 @@ same-length : tie.Need-same-length Inv-loop μ-loop
 same-length c = c .before .loop .inv .2
 
 returns : tie.Need-returns Inv-loop μ-loop
-returns c = lift-all _ _ (c .before .before .args .from) (c .before .loop .i) (c .before .before .args .to) (c .before .before .args .by) (omega arith) (omega arith) (omega arith) (omega arith) (c .before .loop .inv .3)
+returns c =
+    let at2 = c .before .before in
+    lift-all _ _ (at2 .args .from) (c .before .loop .i) (at2 .args .to) (at2 .args .by) (omega arith) (omega arith) (omega arith) (omega arith) (c .before .loop .inv .3)
 
 pub lift-spec : {M : Type 1} → statement M
 lift-spec =

@@ -25,7 +25,10 @@ shared-slice-read-v : tie.Need-shared-slice-read-v Inv-loop μ-loop
 shared-slice-read-v c = search needs
 
 put-two-requires : tie.Need-put-two-requires Inv-loop μ-loop
-put-two-requires c κs = (let q = c .before .before .before .loop .inv .1 in let s = q .same in let n = q .next in omega arith, c .before .before .before .before .before .before .pre .1 (c .before .before .before .loop .i) (omega arith))
+put-two-requires c κs =
+    let at3 = c .before .before .before in
+    let at6 = at3 .before .before .before in
+    (let q = at3 .loop .inv .1 in let s = q .same in let n = q .next in omega arith, at6 .pre .1 (at3 .loop .i) (omega arith))
 
 add-i : tie.Need-add-i Inv-loop μ-loop
 add-i c = search needs
@@ -43,7 +46,9 @@ same-length : tie.Need-same-length Inv-loop μ-loop
 same-length c = c .before .loop .inv .1 .same
 
 returns : tie.Need-returns Inv-loop μ-loop
-returns c = list-all (c .before .before .before .before .args .out .now) (c .before .before .before .before .args .at) (c .before .before .before .before .args .l .now) (c .before .loop .i) (c .before .loop .o) (c .before .loop .out) (omega arith) (omega arith) (c .before .loop .inv .1)
+returns c =
+    let at4 = c .before .before .before .before in
+    list-all (at4 .args .out .now) (at4 .args .at) (at4 .args .l .now) (c .before .loop .i) (c .before .loop .o) (c .before .loop .out) (omega arith) (omega arith) (c .before .loop .inv .1)
 
 pub put-list-spec : {M : Type 1} → statement M
 put-list-spec =

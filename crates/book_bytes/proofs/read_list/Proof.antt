@@ -31,7 +31,10 @@ start-requires : tie.Need-start-requires Inv-loop μ-loop
 start-requires c κs = search needs
 
 loop-holds : tie.Need-loop-holds Inv-loop μ-loop
-loop-holds c = let a = c .before .before .before .before .args in (omega arith, c .before .two .ensures .0, c .before .two .ensures .1, c .start .ensures .0, c .start .ensures .1, copy-none _ _ (listAt (a .head) (a .from) (a .s .now) (a .k)))
+loop-holds c =
+    let at4 = c .before .before .before .before in
+    let a = at4 .args in
+    (omega arith, c .before .two .ensures .0, c .before .two .ensures .1, c .start .ensures .0, c .start .ensures .1, copy-none _ _ (listAt (a .head) (a .from) (a .s .now) (a .k)))
 
 mul-two-2 : tie.Need-mul-two-2 Inv-loop μ-loop
 mul-two-2 c = search needs
@@ -61,8 +64,15 @@ loop-again c =
     let a = s7 .args in
     let w = s2 .loop .inv in
     let e : length (listAt (a .head) (a .from) (a .s .now) (a .k)) ≡ u2 (a .s .now) (a .from + 2 * a .k) = length-list (a .head) (a .from) (a .s .now) (a .k) in
-    let n = w .1 in
-    (omega arith, n, w .2, w .3, w .4, written-more _ _ (listAt (a .head) (a .from) (a .s .now) (a .k)) (s2 .loop .i) _ _ _ (omega arith) (list-read (a .head) (a .from) (a .s .now) (a .k) _ _ _ (omega arith) (w .3) (c .two2 .ensures .0)) (w .5))
+    let n = w .1 in (
+      omega arith,
+      n,
+      w .2,
+      w .3,
+      w .4,
+      written-more _ _ (listAt (a .head) (a .from) (a .s .now) (a .k)) (s2 .loop .i) _ _ _ (omega arith)
+          (list-read (a .head) (a .from) (a .s .now) (a .k) _ _ _ (omega arith) (w .3) (c .two2 .ensures .0)) (w .5),
+    )
 
 same-length : tie.Need-same-length Inv-loop μ-loop
 same-length c = c .before .loop .inv .5 .same

@@ -39,10 +39,15 @@ loop-less : tie.Need-loop-less Inv-loop μ-loop
 loop-less c = search needs
 
 loop-again : tie.Need-loop-again Inv-loop μ-loop
-loop-again c = (omega arith, omega (arith, listStart-more (c .before .before .before .before .args .head) (c .before .before .before .before .args .from) (c .before .before .before .before .args .s .now) (c .before .before .loop .i)), omega arith)
+loop-again c =
+    let at4 = c .before .before .before .before in
+    (omega arith, omega (arith, listStart-more (at4 .args .head) (at4 .args .from) (at4 .args .s .now) (c .before .before .loop .i)), omega arith)
 
 returns : tie.Need-returns Inv-loop μ-loop
-returns c = let e : c .before .loop .i ≡ c .before .before .before .args .k = omega arith in (c .before .loop .inv .1 ∙ ap (listStart (c .before .before .before .args .head) (c .before .before .before .args .from) (c .before .before .before .args .s .now)) e, omega arith)
+returns c =
+    let at3 = c .before .before .before in
+    let e : c .before .loop .i ≡ at3 .args .k = omega arith in
+    (c .before .loop .inv .1 ∙ ap (listStart (at3 .args .head) (at3 .args .from) (at3 .args .s .now)) e, omega arith)
 
 pub start-spec : {M : Type 1} → statement M
 start-spec =

@@ -11,8 +11,11 @@ ask-answer-requires c κs = search needs
 enum-told : tie.Need-enum-told
 enum-told c = search needs
 
-part-of-requires : tie.Need-part-of-requires
-part-of-requires c κs = let a = c .before .before .before .before .args in ready-of (a .s .now) (a .i) (there-of (a .s .now) (a .i) _ (c .enum-told .given .1) (c .before .before .ask-answer .ensures))
+entry-bytes-requires : tie.Need-entry-bytes-requires
+entry-bytes-requires c κs =
+    let at4 = c .before .before .before .before in
+    let a = at4 .args in
+    ready-of (a .s .now) (a .i) (there-of (a .s .now) (a .i) _ (c .enum-told .given .1) (c .before .before .ask-answer .ensures))
 
 enum-told-2 : tie.Need-enum-told-2
 enum-told-2 c = search needs
@@ -27,7 +30,11 @@ slice-aggregate-result-2 : tie.Need-slice-aggregate-result-2
 slice-aggregate-result-2 c = search needs
 
 returns : tie.Need-returns
-returns c = let a = c .before .before .before .before .before .args in let w = there-of (a .s .now) (a .i) _ (c .before .enum-told .given .1) (c .before .before .before .ask-answer .ensures) in says.found (w .0) (w .1) (c .part-of .ensures)
+returns c =
+    let at5 = c .before .before .before .before .before in
+    let a = at5 .args in
+    let w = there-of (a .s .now) (a .i) _ (c .before .enum-told .given .1) (c .before .before .before .ask-answer .ensures) in
+    says.found (w .0) (w .1) (c .entry-bytes .ensures)
 
 returns-2 : tie.Need-returns-2
 returns-2 c = let a = c .before .before .before .before .before .args in part-refused (a .s .now) (a .i) _ _ (c .before .enum-told2 .given .1) (c .before .before .before .ask-answer .ensures)
@@ -41,7 +48,7 @@ ask-spec =
     (tie.spec
     ask-answer-requires
     enum-told
-    part-of-requires
+    entry-bytes-requires
     enum-told-2
     slice-aggregate-result
     enum-told-3

@@ -26,7 +26,10 @@ returns-2 : tie.Need-returns-2
 returns-2 c = says.no-entry (yes-of _ _ (c .before .before .enum-told .given .1) (c .before .before .before .before .check .ensures)) (let n = c .before .bodies .ensures .0 in omega arith) refl
 
 returns-3 : tie.Need-returns-3
-returns-3 c = let a = c .before .before .before .before .before .args in ask-refused (a .s .now) (a .i) _ (c .before .a .given .0 .0) (c .before .a .given .1) (c .before .before .before .check .ensures)
+returns-3 c =
+    let at5 = c .before .before .before .before .before in
+    let a = at5 .args in
+    ask-refused (a .s .now) (a .i) _ (c .before .a .given .0 .0) (c .before .a .given .1) (c .before .before .before .check .ensures)
 
 pub ask-answer-spec : {M : Type 1} → statement M
 ask-answer-spec =

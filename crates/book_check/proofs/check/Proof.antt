@@ -33,7 +33,16 @@ bodies-requires : tie.Need-bodies-requires Inv-loop μ-loop
 bodies-requires c κs = search needs
 
 loop-holds : tie.Need-loop-holds Inv-loop μ-loop
-loop-holds c = (c .before .before .before .before .marked .ensures .yes! (not-false _ (c .before .before .before .if1 .left)), c .before .before .listed .ensures .yes! (not-false _ (c .before .if2 .left)), c .bodies .ensures .0, c .bodies .ensures .1, omega arith, λ k h. absurd (omega arith))
+loop-holds c =
+    let at4 = c .before .before .before .before in (
+      at4 .marked .ensures .yes! (not-false _ (c .before .before .before .if1 .left)),
+      c .before .before .listed .ensures .yes! (not-false _ (c .before .if2 .left)),
+      c
+          .bodies .ensures .0,
+      c .bodies .ensures .1,
+      omega arith,
+      λ k h. absurd (omega arith),
+    )
 
 entry-of-requires : tie.Need-entry-of-requires Inv-loop μ-loop
 entry-of-requires c κs = let w = c .before .loop .inv in record { ready = record { marked = w .0; listed = w .1; there = omega arith }; before = w .5 }

@@ -17,15 +17,15 @@ abbrev μ-loop : tie.MeasureT-loop
 loop-holds : tie.Need-loop-holds Inv-loop μ-loop
 loop-holds c = start
 
-part-of-requires : tie.Need-part-of-requires Inv-loop μ-loop
-part-of-requires c κs =
+entry-bytes-requires : tie.Need-entry-bytes-requires Inv-loop μ-loop
+entry-bytes-requires c κs =
     let s = c .before .before .before .before .before .pre in
     record { marked = s .marked; listed = s .listed; there = omega (arith, s .within, c .before .loop .inv .within) }
 
 of-field-requires : tie.Need-of-field-requires Inv-loop μ-loop
 of-field-requires c κs =
     let s = c .before .before .before .before .before .before in
-    sold-here {j = c .before .before .loop .j} (s .pre) (omega (arith, c .before .before .loop .inv .within)) (c .part-of .ensures)
+    sold-here {j = c .before .before .loop .j} (s .pre) (omega (arith, c .before .before .loop .inv .within)) (c .entry-bytes .ensures)
 
 add-j : tie.Need-add-j Inv-loop μ-loop
 add-j c = search needs
@@ -36,7 +36,7 @@ loop-less c = search needs
 loop-again : tie.Need-loop-again Inv-loop μ-loop
 loop-again c =
     let w = c .before .before .before .before .loop .inv in
-    let o = c .before .before .part-of .ensures in
+    let o = c .before .before .entry-bytes .ensures in
     let d = c .before .of-field .ensures in
     ⊎-elim (λ u. hit w (u .1) (omega arith) o (d .yes! (u .0 .taken))) (λ u. miss w (u .1) o (d .no! (u .0 .left))) (c .if1 .came)
 
@@ -50,7 +50,7 @@ first-of-spec =
     Inv-loop
     μ-loop
     loop-holds
-    part-of-requires
+    entry-bytes-requires
     of-field-requires
     add-j
     loop-less

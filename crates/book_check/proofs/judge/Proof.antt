@@ -21,7 +21,12 @@ returns-2 : tie.Need-returns-2
 returns-2 c = field (c .before .before .before .body-rule .ensures .yes! (not-false _ (c .before .before .if1 .left))) _ (c .if2 .taken) (c .before .field-refusal .ensures) refl
 
 returns-3 : tie.Need-returns-3
-returns-3 c = (c .before .before .before .body-rule .ensures .yes! (not-false _ (c .before .before .if1 .left)), subst (λ (n : ℕ). FieldSays (bodyOf (c .before .before .before .before .before .args .b .now)) n) (c .if2 .left) (c .before .field-refusal .ensures))
+returns-3 c =
+    let at5 = c .before .before .before .before .before in (
+      c .before .before .before .body-rule .ensures .yes! (not-false _ (c .before .before .if1 .left)),
+      subst (λ (n : ℕ). FieldSays (bodyOf (at5 .args .b .now)) n)
+          (c .if2 .left) (c .before .field-refusal .ensures),
+    )
 
 pub judge-spec : {M : Type 1} → statement M
 judge-spec =

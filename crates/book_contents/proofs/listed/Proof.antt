@@ -38,7 +38,9 @@ four-requires : tie.Need-four-requires Inv-loop μ-loop
 four-requires c κs = search needs
 
 returns : tie.Need-returns Inv-loop μ-loop
-returns c = answer-no (listed-no _ _ _ _ _ (c .before .before .before .before .two .ensures .0) (omega arith) (c .before .before .before .loop .inv .2) (c .before .four .ensures .0) (λ z. omega arith))
+returns c =
+    let at4 = c .before .before .before .before in
+    answer-no (listed-no _ _ _ _ _ (at4 .two .ensures .0) (omega arith) (c .before .before .before .loop .inv .2) (c .before .four .ensures .0) (λ z. omega arith))
 
 mul-four-2 : tie.Need-mul-four-2 Inv-loop μ-loop
 mul-four-2 c = search needs
@@ -66,17 +68,22 @@ loop-again c =
 
 returns-2 : tie.Need-returns-2 Inv-loop μ-loop
 returns-2 c =
+    let at5 = c .before .before .before .before .before in
     let s3 = c .before .before .before in
     let s2 = c .before .before in
     answer-no
-    (λ l. c .if2 .taken (ends-all (c .before .before .before .before .before .args .s .now) (s3 .two .result) (s2 .loop .i) (s2 .loop .at) (s3 .two .ensures .0) (omega arith) (omega arith) (s2 .loop .inv .2) ∙ l .whole))
+    (λ l. c .if2 .taken (ends-all (at5 .args .s .now) (s3 .two .result) (s2 .loop .i) (s2 .loop .at) (s3 .two .ensures .0) (omega arith) (omega arith) (s2 .loop .inv .2) ∙ l .whole))
 
 returns-3 : tie.Need-returns-3 Inv-loop μ-loop
 returns-3 c =
+    let at5 = c .before .before .before .before .before in
     let s3 = c .before .before .before in
     let s2 = c .before .before in
-    answer-yes record
-    { starts = λ k h. s2 .loop .inv .4 k (omega arith); whole = sym (ends-all (c .before .before .before .before .before .args .s .now) (s3 .two .result) (s2 .loop .i) (s2 .loop .at) (s3 .two .ensures .0) (omega arith) (omega arith) (s2 .loop .inv .2)) ∙ c .if2 .left }
+    answer-yes record {
+      starts = λ k h. s2 .loop .inv .4 k (omega arith);
+      whole = sym
+          (ends-all (at5 .args .s .now) (s3 .two .result) (s2 .loop .i) (s2 .loop .at) (s3 .two .ensures .0) (omega arith) (omega arith) (s2 .loop .inv .2)) ∙ c .if2 .left;
+    }
 
 pub listed-spec : {M : Type 1} → statement M
 listed-spec =

@@ -33,7 +33,10 @@ element-copy-out-y : tie.Need-element-copy-out-y Inv-loop μ-loop
 element-copy-out-y c = search needs
 
 returns-3 : tie.Need-returns-3 Inv-loop μ-loop
-returns-3 c = answer-no (λ h. mark-no (c .before .before .before .before .before .before .before .before .args .s .now) book.mark (c .before .before .before .before .loop .i) refl (omega arith) (c .if3 .taken) (h .mark))
+returns-3 c =
+    let at4 = c .before .before .before .before in
+    let at8 = at4 .before .before .before .before in
+    answer-no (λ h. mark-no (at8 .args .s .now) book.mark (at4 .loop .i) refl (omega arith) (c .if3 .taken) (h .mark))
 
 add-i : tie.Need-add-i Inv-loop μ-loop
 add-i c = search needs
@@ -45,7 +48,9 @@ loop-again : tie.Need-loop-again Inv-loop μ-loop
 loop-again c = (refl, omega arith, below-more _ _ (c .before .before .before .before .loop .inv .2) (c .if3 .left))
 
 returns-4 : tie.Need-returns-4 Inv-loop μ-loop
-returns-4 c = answer-yes record { low = omega arith; high = omega arith; mark = mark-yes (c .before .before .before .before .before .args .s .now) book.mark refl (omega arith) (λ k h. c .before .loop .inv .2 k (omega arith)) }
+returns-4 c =
+    let at5 = c .before .before .before .before .before in
+    answer-yes record { low = omega arith; high = omega arith; mark = mark-yes (at5 .args .s .now) book.mark refl (omega arith) (λ k h. c .before .loop .inv .2 k (omega arith)) }
 
 pub marked-spec : {M : Type 1} → statement M
 marked-spec =

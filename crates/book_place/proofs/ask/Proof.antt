@@ -34,7 +34,9 @@ four-requires-2 : tie.Need-four-requires-2
 four-requires-2 c κs = search needs
 
 returns : tie.Need-returns
-returns c = asked-there _ _ _ _ (c .before .before .before .before .ask-answer .ensures) (c .before .before .before .request-row .ensures) (c .before .before .if1 .taken) _ _ (c .before .four .ensures .0) (c .four2 .ensures .0)
+returns c =
+    let at4 = c .before .before .before .before in
+    asked-there _ _ _ _ (at4 .ask-answer .ensures) (c .before .before .before .request-row .ensures) (c .before .before .if1 .taken) _ _ (c .before .four .ensures .0) (c .four2 .ensures .0)
 
 returns-2 : tie.Need-returns-2
 returns-2 c = asked-none _ _ _ _ (c .before .before .ask-answer .ensures) (c .before .request-row .ensures) (c .if1 .left) _ _ refl refl

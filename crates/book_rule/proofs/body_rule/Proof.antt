@@ -38,23 +38,36 @@ unit-at-requires-3 : tie.Need-unit-at-requires-3
 unit-at-requires-3 c κs = search needs
 
 returns-6 : tie.Need-returns-6
-returns-6 c = answer-no (body-row2 (c .before .before .before .before .before .before .before .before .before .before .before .before .args .s .now) (c .before .unit-at3 .ensures .no! (not-true _ (c .if6 .taken))))
+returns-6 c =
+    let at12 = c .before .before .before .before .before .before .before .before .before .before .before .before in
+    answer-no (body-row2 (at12 .args .s .now) (c .before .unit-at3 .ensures .no! (not-true _ (c .if6 .taken))))
 
 first-at-requires : tie.Need-first-at-requires
-first-at-requires c κs = first-some (c .before .before .before .before .before .before .before .before .before .before .before .before .args .s .now) _ (c .before .before .before .before .before .unit-at .ensures .yes! (not-false _ (c .before .before .before .before .if4 .left)))
+first-at-requires c κs =
+    let at4 = c .before .before .before .before in
+    let at5 = at4 .before in
+    let at12 = at5 .before .before .before .before .before .before .before in
+    first-some (at12 .args .s .now) _ (at5 .unit-at .ensures .yes! (not-false _ (at4 .if4 .left)))
 
 returns-7 : tie.Need-returns-7
-returns-7 c = answer-no (body-first (c .before .before .before .before .before .before .before .before .before .before .before .before .before .before .args .s .now) (c .before .first-at .ensures .no! (not-true _ (c .if7 .taken))))
+returns-7 c =
+    let at14 = c .before .before .before .before .before .before .before .before .before .before .before .before .before .before in
+    answer-no (body-first (at14 .args .s .now) (c .before .first-at .ensures .no! (not-true _ (c .if7 .taken))))
 
 returns-8 : tie.Need-returns-8
 returns-8 c =
-    let s14 = c .before .before .before .before .before .before .before .before .before .before .before .before .before .before in
-    let s12 = c .before .before .before .before .before .before .before .before .before .before .before .before in
-    let s10 = c .before .before .before .before .before .before .before .before .before .before in
-    let s7 = c .before .before .before .before .before .before .before in
-    let s6 = c .before .before .before .before .before .before in
+    let at4 = c .before .before .before .before in
+    let at5 = at4 .before in
+    let s6 = at5 .before in
+    let s7 = s6 .before in
+    let s10 = s7 .before .before .before in
+    let s12 = s10 .before .before in
+    let s14 = s12 .before .before in
     answer-yes
-    (body-yes (s14 .args .s .now) _ _ (s12 .start .ensures .0) (omega arith) (s10 .four .ensures .0) (omega arith) (omega arith) (s7 .unit-at .ensures .yes! (not-false _ (s6 .if4 .left))) (c .before .before .before .before .before .unit-at2 .ensures .yes! (not-false _ (c .before .before .before .before .if5 .left))) (c .before .before .before .unit-at3 .ensures .yes! (not-false _ (c .before .before .if6 .left))) (c .before .first-at .ensures .yes! (not-false _ (c .if7 .left))))
+    (body-yes (s14 .args .s .now) _ _ (s12 .start .ensures .0) (omega arith) (s10 .four .ensures .0) (omega arith) (omega arith)
+    (s7 .unit-at .ensures .yes! (not-false _ (s6 .if4 .left))) (at5 .unit-at2 .ensures .yes! (not-false _ (at4 .if5 .left)))
+    (c .before .before .before .unit-at3 .ensures .yes! (not-false _ (c .before .before .if6 .left)))
+    (c .before .first-at .ensures .yes! (not-false _ (c .if7 .left))))
 
 pub body-rule-spec : {M : Type 1} → statement M
 body-rule-spec =

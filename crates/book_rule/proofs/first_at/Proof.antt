@@ -17,7 +17,10 @@ first-list-requires : tie.Need-first-list-requires
 first-list-requires c κs = search needs
 
 returns : tie.Need-returns
-returns c = first-decided (c .before .before .before .before .args .s .now) (c .before .before .two .result) _ _ (c .before .before .two .ensures .0) (c .before .item .ensures) (c .first-list .ensures)
+returns c =
+    let at2 = c .before .before in
+    let at4 = at2 .before .before in
+    first-decided (at4 .args .s .now) (at2 .two .result) _ _ (at2 .two .ensures .0) (c .before .item .ensures) (c .first-list .ensures)
 
 pub first-at-spec : {M : Type 1} → statement M
 first-at-spec =

@@ -42,9 +42,11 @@ unit-list-requires c κs = search needs
 
 returns-2 : tie.Need-returns-2
 returns-2 c =
-    let a = c .before .before .before .before .before .before .before .before .before .args in
     let s7 = c .before .before .before .before .before .before .before in
-    row-decided (a .s .now) (a .k) (replicate 4096 0) _ _ (let e : length {A = ℕ} (replicate 4096 0) ≡ 4096 = refl in omega arith) (c .before .before .before .read-list .ensures) _ _ (s7 .two .ensures .0) (c .unit-list .ensures)
+    let at9 = s7 .before .before in
+    let a = at9 .args in
+    row-decided (a .s .now) (a .k) (replicate 4096 0) _ _ (let e : length {A = ℕ} (replicate 4096 0) ≡ 4096 = refl in omega arith)
+    (c .before .before .before .read-list .ensures) _ _ (s7 .two .ensures .0) (c .unit-list .ensures)
 
 pub unit-at-spec : {M : Type 1} → statement M
 unit-at-spec =

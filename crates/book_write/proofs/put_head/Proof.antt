@@ -30,12 +30,12 @@ same-length c = search needs
 
 returns : tie.Need-returns
 returns c =
-    let s26 = c .before .before .before .before .before .before .before .before .before .before .before .before .before .before .before .before .before .before .before .before .before .before .before .before .before .before in
-    let s22 = c .before .before .before .before .before .before .before .before .before .before .before .before .before .before .before .before .before .before .before .before .before .before in
-    let s18 = c .before .before .before .before .before .before .before .before .before .before .before .before .before .before .before .before .before .before in
-    let s14 = c .before .before .before .before .before .before .before .before .before .before .before .before .before .before in
-    let s10 = c .before .before .before .before .before .before .before .before .before .before in
     let s6 = c .before .before .before .before .before .before in
+    let s10 = s6 .before .before .before .before in
+    let s14 = s10 .before .before .before .before in
+    let s18 = s14 .before .before .before .before in
+    let s22 = s18 .before .before .before .before in
+    let s26 = s22 .before .before .before .before in
     head-put _ _ _ _ _ _ _ _ _ _ _ _ _ _ _ _ _ _ _ _ _ _ (s26 .put-two .ensures) (s22 .put-two2 .ensures) (s18 .put-two3 .ensures)
     (s14 .put-two4 .ensures) (s10 .put-two5 .ensures) (s6 .put-two6 .ensures) (c .before .before .put-four .ensures)
 

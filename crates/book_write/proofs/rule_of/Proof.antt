@@ -37,7 +37,12 @@ mul-top : tie.Need-mul-top
 mul-top c = search needs
 
 shared-slice-read-top : tie.Need-shared-slice-read-top
-shared-slice-read-top c = let r = c .before .before .before .before .before .before .unit-list .ensures .yes! (not-false _ (c .before .before .before .before .before .if3 .left)) in let z = r .whole in omega arith
+shared-slice-read-top c =
+    let at5 = c .before .before .before .before .before in
+    let at6 = at5 .before in
+    let r = at6 .unit-list .ensures .yes! (not-false _ (at5 .if3 .left)) in
+    let z = r .whole in
+    omega arith
 
 first-list-requires : tie.Need-first-list-requires
 first-list-requires c κs = search needs
@@ -46,7 +51,22 @@ returns-6 : tie.Need-returns-6
 returns-6 c = answer-no (λ b. c .before .first-list .ensures .no! (not-true _ (c .if6 .taken)) (b .first))
 
 returns-7 : tie.Need-returns-7
-returns-7 c = answer-yes record { from = omega arith; to = omega arith; row0 = c .before .before .before .before .before .before .before .before .unit-list .ensures .yes! (not-false _ (c .before .before .before .before .before .before .before .if3 .left)); row1 = c .before .before .before .before .before .before .unit-list2 .ensures .yes! (not-false _ (c .before .before .before .before .before .if4 .left)); row2 = c .before .before .before .before .unit-list3 .ensures .yes! (not-false _ (c .before .before .before .if5 .left)); first = c .before .first-list .ensures .yes! (not-false _ (c .if6 .left)) }
+returns-7 c =
+    let at4 = c .before .before .before .before in
+    let at5 = at4 .before in
+    let at6 = at5 .before in
+    let at7 = at6 .before in
+    let at8 = at7 .before in
+    answer-yes record {
+      from = omega arith;
+      to = omega arith;
+      row0 = at8 .unit-list .ensures .yes! (not-false _ (at7 .if3 .left));
+      row1 = at6 .unit-list2 .ensures
+          .yes! (not-false _ (at5 .if4 .left));
+      row2 = at4 .unit-list3 .ensures .yes! (not-false _ (c .before .before .before .if5 .left));
+      first = c .before .first-list
+          .ensures .yes! (not-false _ (c .if6 .left));
+    }
 
 pub rule-of-spec : {M : Type 1} → statement M
 rule-of-spec =

@@ -47,13 +47,20 @@ factors-requires c κs =
     search (k, lead (s .args .p) k (s .pre .first .listG), lead (s .args .p) k (s .pre .first .listH), lead (s .args .p) k (s .pre .second .listG), lead (s .args .p) k (s .pre .second .listH))
 
 multiplied-requires : tie.Need-multiplied-requires
-multiplied-requires c κs = let s = c .before .before .before .before .before .before .before .before .before .before .before in multiply-asks (s .args .p) (s .args .g .now) (s .args .h .now) (s .args .g2 .now) (s .args .h2 .now) (s .args .c) (s .args .rows .now) (s .pre) _ _ (c .before .factors .ensures .x-below) (c .before .factors .ensures .y-below)
+multiplied-requires c κs =
+    let s = c .before .before .before .before .before .before .before .before .before .before .before in
+    multiply-asks (s .args .p) (s .args .g .now) (s .args .h .now) (s .args .g2 .now) (s .args .h2 .now) (s .args .c) (s .args .rows .now) (s .pre) _ _
+    (c .before .factors .ensures .x-below) (c .before .factors .ensures .y-below)
 
 same-length : tie.Need-same-length
 same-length c = search needs
 
 returns : tie.Need-returns
-returns c = let s = c .before .before .before .before .before .before .before .before .before .before .before .before .before .before in carried-made (s .args .p) (s .args .g .now) (s .args .h .now) (s .args .g2 .now) (s .args .h2 .now) (s .args .c) (s .args .rows .now) (s .pre) _ _ (c .before .before .before .before .factors .ensures) _ (c .before .before .multiplied .ensures)
+returns c =
+    let at4 = c .before .before .before .before in
+    let s = at4 .before .before .before .before .before .before .before .before .before .before in
+    carried-made (s .args .p) (s .args .g .now) (s .args .h .now) (s .args .g2 .now) (s .args .h2 .now) (s .args .c) (s .args .rows .now) (s .pre) _ _
+    (at4 .factors .ensures) _ (c .before .before .multiplied .ensures)
 
 pub carry-spec : {M : Type 1} → statement M
 carry-spec =

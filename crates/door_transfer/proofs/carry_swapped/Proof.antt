@@ -21,13 +21,22 @@ exchange-requires-2 : tie.Need-exchange-requires-2
 exchange-requires-2 c κs = search needs
 
 carry-requires : tie.Need-carry-requires
-carry-requires c κs = let s = c .before .before .before .before .before .before .before .before .before .before .before .before .before .before in swapped-asks (s .args .p) (s .args .g .now) (s .args .h .now) (s .args .g2 .now) (s .args .h2 .now) (s .args .c) (s .args .rows .now) (s .pre) _ (c .before .before .before .exchange2 .ensures .size ∙ c .before .before .before .before .before .before .before .exchange .ensures .size)
+carry-requires c κs =
+    let at7 = c .before .before .before .before .before .before .before in
+    let s = at7 .before .before .before .before .before .before .before in
+    swapped-asks (s .args .p) (s .args .g .now) (s .args .h .now) (s .args .g2 .now) (s .args .h2 .now) (s .args .c) (s .args .rows .now) (s .pre) _
+    (c .before .before .before .exchange2 .ensures .size ∙ at7 .exchange .ensures .size)
 
 same-length : tie.Need-same-length
 same-length c = search needs
 
 returns : tie.Need-returns
-returns c = let s = c .before .before .before .before .before .before .before .before .before .before .before .before .before .before .before .before .before in swapped-made (s .args .p) (s .args .g .now) (s .args .h .now) (s .args .g2 .now) (s .args .h2 .now) (s .args .c) (s .args .rows .now) (s .pre) _ _ (c .before .before .before .before .before .before .before .before .before .before .exchange .ensures) (c .before .before .before .before .before .before .exchange2 .ensures) _ (c .before .before .carry .ensures)
+returns c =
+    let at6 = c .before .before .before .before .before .before in
+    let at10 = at6 .before .before .before .before in
+    let s = at10 .before .before .before .before .before .before .before in
+    swapped-made (s .args .p) (s .args .g .now) (s .args .h .now) (s .args .g2 .now) (s .args .h2 .now) (s .args .c) (s .args .rows .now) (s .pre) _ _
+    (at10 .exchange .ensures) (at6 .exchange2 .ensures) _ (c .before .before .carry .ensures)
 
 pub carry-swapped-spec : {M : Type 1} → statement M
 carry-swapped-spec =

@@ -18,11 +18,15 @@ mul-requires-4 : tie.Need-mul-requires-4
 mul-requires-4 c κs = let s = c .before .before .before in two-asks (s .args .p) (s .pre .modulus) (omega arith) (rest-below (s .args .p) (s .pre .modulus) _ _ (c .mul3 .ensures))
 
 inverse-requires : tie.Need-inverse-requires
-inverse-requires c κs = let s = c .before .before .before .before in
-    inverse-asks (s .args .p) (s .pre .modulus) (lead-times (s .args .p) (s .pre .modulus) _ _ _ (c .mul4 .ensures) (s .pre .g′-lead) (lead-times (s .args .p) (s .pre .modulus) _ _ _ (c .before .mul3 .ensures) (s .pre .h′-lead) (s .pre .h′-lead)))
+inverse-requires c κs =
+    let s = c .before .before .before .before in
+    inverse-asks (s .args .p) (s .pre .modulus) (lead-times (s .args .p) (s .pre .modulus) _ _ _ (c .mul4 .ensures) (s .pre .g′-lead)
+    (lead-times (s .args .p) (s .pre .modulus) _ _ _ (c .before .mul3 .ensures) (s .pre .h′-lead) (s .pre .h′-lead)))
 
 mul-requires-5 : tie.Need-mul-requires-5
-mul-requires-5 c κs = let s = c .before .before .before .before .before in two-asks (s .args .p) (s .pre .modulus) (rest-below (s .args .p) (s .pre .modulus) _ _ (c .before .before .before .mul2 .ensures)) (c .inverse .ensures .below)
+mul-requires-5 c κs =
+    let s = c .before .before .before .before .before in
+    two-asks (s .args .p) (s .pre .modulus) (rest-below (s .args .p) (s .pre .modulus) _ _ (c .before .before .before .mul2 .ensures)) (c .inverse .ensures .below)
 
 cube-root-requires : tie.Need-cube-root-requires
 cube-root-requires c κs = let s = c .before .before .before .before .before .before in root-asks (s .args .p) (s .pre .modulus) (rest-below (s .args .p) (s .pre .modulus) _ _ (c .mul5 .ensures))
@@ -31,20 +35,28 @@ mul-requires-6 : tie.Need-mul-requires-6
 mul-requires-6 c κs = search needs
 
 mul-requires-7 : tie.Need-mul-requires-7
-mul-requires-7 c κs = let s = c .before .before .before .before .before .before .before .before in two-asks (s .args .p) (s .pre .modulus) (rest-below (s .args .p) (s .pre .modulus) _ _ (c .mul6 .ensures)) (omega arith)
+mul-requires-7 c κs =
+    let s = c .before .before .before .before .before .before .before .before in
+    two-asks (s .args .p) (s .pre .modulus) (rest-below (s .args .p) (s .pre .modulus) _ _ (c .mul6 .ensures)) (omega arith)
 
 inverse-requires-2 : tie.Need-inverse-requires-2
 inverse-requires-2 c κs = let s = c .before .before .before .before .before .before .before .before .before in inverse-asks (s .args .p) (s .pre .modulus) (s .pre .h-lead)
 
 mul-requires-8 : tie.Need-mul-requires-8
-mul-requires-8 c κs = let s = c .before .before .before .before .before .before .before .before .before .before in two-asks (s .args .p) (s .pre .modulus) (rest-below (s .args .p) (s .pre .modulus) _ _ (c .before .mul7 .ensures)) (c .inverse2 .ensures .below)
+mul-requires-8 c κs =
+    let s = c .before .before .before .before .before .before .before .before .before .before in
+    two-asks (s .args .p) (s .pre .modulus) (rest-below (s .args .p) (s .pre .modulus) _ _ (c .before .mul7 .ensures)) (c .inverse2 .ensures .below)
 
 returns : tie.Need-returns
 returns c =
-    let s = c .before .before .before .before .before .before .before .before .before .before .before in
     let r = c .before .before .before .before in
+    let at7 = r .before .before .before in
+    let at8 = at7 .before in
+    let at9 = at8 .before in
+    let at10 = at9 .before in
+    let s = at10 .before in
     factors-law (s .args .p) (s .pre .modulus) (s .args .g) (s .args .h) (s .args .g2) (s .args .h2) _ _ _ _ _ _ _
-    (c .before .before .before .before .before .before .before .before .before .before .mul .ensures) (c .before .before .before .before .before .before .before .before .before .mul2 .ensures) (c .before .before .before .before .before .before .before .before .mul3 .ensures) (c .before .before .before .before .before .before .before .mul4 .ensures)
+    (at10 .mul .ensures) (at9 .mul2 .ensures) (at8 .mul3 .ensures) (at7 .mul4 .ensures)
     (r .before .before .inverse .ensures) (r .before .mul5 .ensures) (r .cube-root .ensures) _ _ _ _ (c .before .inverse2 .ensures)
     (c .before .before .before .mul6 .ensures) (c .before .before .mul7 .ensures) (c .mul8 .ensures)
 

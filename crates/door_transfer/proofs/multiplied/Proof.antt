@@ -30,8 +30,12 @@ same-length c = search needs
 
 returns : tie.Need-returns
 returns c =
-    let s = c .before .before .before .before .before .before .before .before .before .before .before .before .before .before .before .before .before in
-    multiplied-made (s .args .p) (s .args .x) (s .args .y) (s .args .c) (s .args .rows .now) _ _ _ _ (c .before .before .before .before .before .before .before .before .before .before .before .before .before .before .part .ensures) (c .before .before .before .before .before .before .before .before .before .before .part2 .ensures) (c .before .before .before .before .before .before .part3 .ensures) (c .before .before .part4 .ensures)
+    let at6 = c .before .before .before .before .before .before in
+    let at10 = at6 .before .before .before .before in
+    let at14 = at10 .before .before .before .before in
+    let s = at14 .before .before .before in
+    multiplied-made (s .args .p) (s .args .x) (s .args .y) (s .args .c) (s .args .rows .now) _ _ _ _ (at14 .part .ensures) (at10 .part2 .ensures)
+    (at6 .part3 .ensures) (c .before .before .part4 .ensures)
 
 pub multiplied-spec : {M : Type 1} → statement M
 multiplied-spec =

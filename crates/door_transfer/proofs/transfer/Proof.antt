@@ -67,9 +67,11 @@ returns-4 c =
 
 returns-5 : tie.Need-returns-5
 returns-5 c =
-    let a = c .before .before .before .before .before .before .before .before .before .before .before .before .args in
+    let at12 = c .before .before .before .before .before .before .before .before .before .before .before .before in
+    let a = at12 .args in
     let t = c .before .before .before in
-    apart (a .rows .now) (t .before .before .if1 .left) (t .before .before .before .refusal .ensures) (t .before .unfit .ensures) (t .if2 .left) (c .before .before .paired .ensures) (c .enum-told3 .given .1)
+    apart (a .rows .now) (t .before .before .if1 .left) (t .before .before .before .refusal .ensures) (t .before .unfit .ensures) (t .if2 .left)
+    (c .before .before .paired .ensures) (c .enum-told3 .given .1)
 
 pub transfer-spec : {M : Type 1} → statement M
 transfer-spec =

@@ -65,7 +65,8 @@ returns-4 : tie.Need-returns-4
 returns-4 c =
     let o = c .before .before .before in
     let v = o .before .before .before in
-    makes-narrow (ready (v .before) (v .if2 .left)) (o .before .order-basis .ensures) _ (o .walk-in-field .ensures) (c .before .before .if3 .left) (omega (arith, c .before .if4 .taken)) (c .refused4 .ensures)
+    makes-narrow (ready (v .before) (v .if2 .left)) (o .before .order-basis .ensures) _ (o .walk-in-field .ensures) (c .before .before .if3 .left)
+    (omega (arith, c .before .if4 .taken)) (c .refused4 .ensures)
 
 make-requires : tie.Need-make-requires
 make-requires c κs =

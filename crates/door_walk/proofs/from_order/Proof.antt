@@ -27,18 +27,28 @@ order-basis-requires : tie.Need-order-basis-requires
 order-basis-requires c κs = known-of (c .before .before .before .open-with-series .ensures) (c .before .before .if1 .left)
 
 walk-in-field-requires : tie.Need-walk-in-field-requires
-walk-in-field-requires c κs = walked-at _ _ _ _ _ (c .before .before .before .before .open-with-series .ensures) (c .before .before .before .if1 .left) _ (c .order-basis .ensures) (c .before .before .if2 .left)
+walk-in-field-requires c κs =
+    let at4 = c .before .before .before .before in
+    walked-at _ _ _ _ _ (at4 .open-with-series .ensures) (c .before .before .before .if1 .left) _ (c .order-basis .ensures) (c .before .before .if2 .left)
 
 refused-requires-3 : tie.Need-refused-requires-3
 refused-requires-3 c κs = search needs
 
 returns-3 : tie.Need-returns-3
 returns-3 c =
-    from-spent _ _ _ _ _ (c .before .before .before .before .before .before .before .open-with-series .ensures) (c .before .before .before .before .before .before .if1 .left) _ (c .before .before .before .order-basis .ensures) (c .before .before .before .before .before .if2 .left) _ (c .before .before .walk-in-field .ensures) (c .before .if3 .taken) _ (c .refused3 .ensures)
+    let at5 = c .before .before .before .before .before in
+    let at6 = at5 .before in
+    let at7 = at6 .before in
+    from-spent _ _ _ _ _ (at7 .open-with-series .ensures) (at6 .if1 .left) _ (c .before .before .before .order-basis .ensures) (at5 .if2 .left) _
+    (c .before .before .walk-in-field .ensures) (c .before .if3 .taken) _ (c .refused3 .ensures)
 
 returns-4 : tie.Need-returns-4
 returns-4 c =
-    from-closed _ _ _ _ _ (c .before .before .before .before .before .before .before .open-with-series .ensures) (c .before .before .before .before .before .before .if1 .left) _ (c .before .before .before .order-basis .ensures) (c .before .before .before .before .before .if2 .left) _ (c .before .before .walk-in-field .ensures) (c .before .if3 .left)
+    let at5 = c .before .before .before .before .before in
+    let at6 = at5 .before in
+    let at7 = at6 .before in
+    from-closed _ _ _ _ _ (at7 .open-with-series .ensures) (at6 .if1 .left) _ (c .before .before .before .order-basis .ensures) (at5 .if2 .left) _
+    (c .before .before .walk-in-field .ensures) (c .before .if3 .left)
 
 pub from-order-spec : {M : Type 1} → statement M
 from-order-spec =

@@ -29,16 +29,27 @@ accepts-requires : tie.Need-accepts-requires
 accepts-requires c κs = known-of (c .before .before .before .open-with-series .ensures) (c .before .before .if1 .left)
 
 walk-in-field-requires : tie.Need-walk-in-field-requires
-walk-in-field-requires c κs = walked-of (c .before .before .before .before .before .open-with-series .ensures) (c .before .before .before .before .if1 .left) (c .before .before .before .if2 .left) (c .before .accepts .ensures) (c .if3 .taken)
+walk-in-field-requires c κs =
+    let at4 = c .before .before .before .before in
+    let at5 = at4 .before in
+    walked-of (at5 .open-with-series .ensures) (at4 .if1 .left) (c .before .before .before .if2 .left) (c .before .accepts .ensures) (c .if3 .taken)
 
 returns-3 : tie.Need-returns-3
-returns-3 c = walks-goes (c .before .before .before .before .before .before .open-with-series .ensures) (c .before .before .before .before .before .if1 .left) (c .before .before .before .before .if2 .left) (c .before .before .accepts .ensures) (c .before .if3 .taken) _ (c .walk-in-field .ensures)
+returns-3 c =
+    let at4 = c .before .before .before .before in
+    let at5 = at4 .before in
+    let at6 = at5 .before in
+    walks-goes (at6 .open-with-series .ensures) (at5 .if1 .left) (at4 .if2 .left) (c .before .before .accepts .ensures) (c .before .if3 .taken) _ (c .walk-in-field .ensures)
 
 no-walk-requires-3 : tie.Need-no-walk-requires-3
 no-walk-requires-3 c κs = search needs
 
 returns-4 : tie.Need-returns-4
-returns-4 c = walks-no-record (c .before .before .before .before .before .before .open-with-series .ensures) (c .before .before .before .before .before .if1 .left) (c .before .before .before .before .if2 .left) (c .before .before .accepts .ensures) (c .before .if3 .left) (c .no-walk3 .ensures)
+returns-4 c =
+    let at4 = c .before .before .before .before in
+    let at5 = at4 .before in
+    let at6 = at5 .before in
+    walks-no-record (at6 .open-with-series .ensures) (at5 .if1 .left) (at4 .if2 .left) (c .before .before .accepts .ensures) (c .before .if3 .left) (c .no-walk3 .ensures)
 
 pub walk-spec : {M : Type 1} → statement M
 walk-spec =

@@ -10,7 +10,7 @@ use Rattle.field_fill.proofs.coefficient.Statement.{statement}
 use Rattle.field_fill.proofs.coefficient.Tie as tie
 use Rattle.field_fill.proofs.coefficient.Reads as reads
 use Rattle.field_fill.proofs.coefficient.Lts as lts
-use Rattle.field_fill.proofs.wide.Reads as wide-reads
+use Rattle.base_lists.proofs.wide.Reads as wide-reads
 
 mul-wide : tie.Need-mul-wide
 mul-wide c = search needs

@@ -15,7 +15,7 @@ use Rattle.field_fill.proofs.fill.Reads as reads
 use Rattle.field_fill.proofs.fill.Lts as lts
 use Rattle.field_fill.proofs.coefficient.Reads as coefficient-reads
 use Rattle.field_fill.proofs.first_w.Reads as first-w-reads
-use Rattle.field_fill.proofs.turn.Reads as turn-reads
+use Rattle.field_fill.proofs.next_pair.Reads as next-pair-reads
 
 abbrev Inv-loop : tie.InvT-loop
 Inv-loop p g h c u r₀ w₀ x i₀ r w i = (length r ≡ length r₀) × (length w ≡ length r) × (0 < i) × (i ≤ length r) × (entry r 0 ≡ c) × Filled p g h r w i
@@ -60,8 +60,8 @@ loop-holds c =
           (c .first-w .ensures .value ∙ ap₂ (λ a b. w-first (s .args .p) a b (s .args .c) (s .args .u)) (c .before .before .coefficient .ensures .value) (c .before .coefficient2 .ensures .value)),
     )
 
-turn-requires : tie.Need-turn-requires Inv-loop μ-loop
-turn-requires c κs =
+next-pair-requires : tie.Need-next-pair-requires Inv-loop μ-loop
+next-pair-requires c κs =
     let at = c .before .before .before in
     let s = at .before .before .before .before .before .before .before .before .before in
     let inv = at .loop .inv in
@@ -83,12 +83,12 @@ add-i c =
     omega (arith, at .loop .inv .3, at .loop .inv .0, length-set (s .args .r .now) 0 (s .args .c), s .pre .near)
 
 loop-less : tie.Need-loop-less Inv-loop μ-loop
-loop-less c = omega (arith, c .before .before .before .before .turn .ensures .size)
+loop-less c = omega (arith, c .before .before .before .before .next-pair .ensures .size)
 
 loop-again : tie.Need-loop-again Inv-loop μ-loop
 loop-again c =
     let at = c .before .before .before .before .before .before .before .before in
-    let done = c .before .before .before .before .turn .ensures in
+    let done = c .before .before .before .before .next-pair .ensures in
     let inv = at .loop .inv in
     (done .size ∙ inv .0, done .done .even, omega arith, omega (arith, done .size), done .first ∙ inv .4, done .done)
 
@@ -96,7 +96,9 @@ same-length : tie.Need-same-length Inv-loop μ-loop
 same-length c = let s = c .before .before .before .before .before .before .before .before .before .before in c .before .loop .inv .0 ∙ length-set (s .args .r .now) 0 (s .args .c)
 
 same-length-2 : tie.Need-same-length-2 Inv-loop μ-loop
-same-length-2 c = let s = c .before .before .before .before .before .before .before .before .before .before in c .before .loop .inv .1 ∙ c .before .loop .inv .0 ∙ length-set (s .args .r .now) 0 (s .args .c) ∙ sym (s .pre .even)
+same-length-2 c =
+    let s = c .before .before .before .before .before .before .before .before .before .before in
+    c .before .loop .inv .1 ∙ c .before .loop .inv .0 ∙ length-set (s .args .r .now) 0 (s .args .c) ∙ sym (s .pre .even)
 
 returns : tie.Need-returns Inv-loop μ-loop
 returns c =
@@ -125,7 +127,7 @@ fill-spec =
     cast-w
     slice-write-w
     loop-holds
-    turn-requires
+    next-pair-requires
     add-i
     loop-less
     loop-again

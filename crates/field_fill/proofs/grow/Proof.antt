@@ -35,7 +35,8 @@ head-requires-2 c κs = search needs
 lead-root-requires : tie.Need-lead-root-requires
 lead-root-requires c κs =
     let s = c .before .before .before .before .before .before .before .before in
-    subst (λ a. Leads (s .args .p) a (c .head2 .result)) (sym (c .before .head .ensures)) (subst (λ b. Leads (s .args .p) (top (s .args .g .now) 0) b) (sym (c .head2 .ensures)) (leads-of (s .pre .accepted)))
+    subst (λ a. Leads (s .args .p) a (c .head2 .result)) (sym (c .before .head .ensures))
+    (subst (λ b. Leads (s .args .p) (top (s .args .g .now) 0) b) (sym (c .head2 .ensures)) (leads-of (s .pre .accepted)))
 
 thrice-inverse-requires : tie.Need-thrice-inverse-requires
 thrice-inverse-requires c κs = search needs

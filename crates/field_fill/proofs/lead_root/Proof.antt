@@ -25,7 +25,13 @@ mul-requires-2 c κs =
 cube-root-requires : tie.Need-cube-root-requires
 cube-root-requires c κs =
     let s = c .before .before in
-    record { modulus = modulus-of (s .pre); prime = s .pre .prime; kind = s .pre .kind; below = omega (arith, c .mul2 .ensures, mod-lt (s .args .g * c .before .mul .result) (ppos (s .args .p) (s .pre .prime))) }
+    record {
+      modulus = modulus-of (s .pre);
+      prime = s .pre .prime;
+      kind = s .pre .kind;
+      below = omega
+          (arith, c .mul2 .ensures, mod-lt (s .args .g * c .before .mul .result) (ppos (s .args .p) (s .pre .prime)));
+    }
 
 returns : tie.Need-returns
 returns c =

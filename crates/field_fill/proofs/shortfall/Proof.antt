@@ -20,8 +20,13 @@ lack-requires c κs = search needs
 
 returns : tie.Need-returns
 returns c =
-    let p = c .before .before .before .before .before .before .before .args .p in
-    record { value = c .lack .ensures .value ∙ ap₂ (λ a b. (a + (p - b)) % p) (c .before .before .product-at .ensures .value) (c .before .product-at2 .ensures .value); below = c .lack .ensures .below }
+    let at7 = c .before .before .before .before .before .before .before in
+    let p = at7 .args .p in
+    record {
+      value = c .lack .ensures .value ∙ ap₂ (λ a b. (a + (p - b)) % p) (c .before .before .product-at .ensures .value)
+          (c .before .product-at2 .ensures .value);
+      below = c .lack .ensures .below;
+    }
 
 pub shortfall-spec : {M : Type 1} → statement M
 shortfall-spec =

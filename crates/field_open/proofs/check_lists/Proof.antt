@@ -51,12 +51,14 @@ returns-4 c =
 returns-5 : tie.Need-returns-5
 returns-5 c =
     let d = c .before .before .before .before in
-    row-six (d .before .before .list-length .ensures) (d .list-length2 .ensures) (d .before .if1 .left) (c .before .before .before .if2 .left) (c .before .before .if3 .left) (c .before .if4 .left) (c .if5 .taken)
+    row-six (d .before .before .list-length .ensures) (d .list-length2 .ensures) (d .before .if1 .left) (c .before .before .before .if2 .left)
+    (c .before .before .if3 .left) (c .before .if4 .left) (c .if5 .taken)
 
 returns-6 : tie.Need-returns-6
 returns-6 c =
     let d = c .before .before .before .before in
-    row-none (d .before .before .list-length .ensures) (d .list-length2 .ensures) (d .before .if1 .left) (c .before .before .before .if2 .left) (c .before .before .if3 .left) (c .before .if4 .left) (c .if5 .left)
+    row-none (d .before .before .list-length .ensures) (d .list-length2 .ensures) (d .before .if1 .left) (c .before .before .before .if2 .left)
+    (c .before .before .if3 .left) (c .before .if4 .left) (c .if5 .left)
 
 pub check-lists-spec : {M : Type 1} → statement M
 check-lists-spec =

@@ -4,7 +4,7 @@ use borrow.Author.Needs.{needs}
 use native.Mathlib.Omega.{arith}
 use Rattle.field_open.specs.Refusal.{Refusal}
 use Rattle.field_open.specs.declared.Field.{Field}
-use Rattle.field_open.specs.declared.Opened.{Opened}
+use Rattle.field_open.specs.declared.FieldAnswer.{FieldAnswer}
 use Rattle.field_open.proofs.Accept.{accepted}
 use Rattle.field_open.proofs.Door.{door-refused, door-goes}
 use Rattle.field_open.proofs.open.Statement.{statement}
@@ -19,7 +19,7 @@ no-field-requires c κs = search needs
 returns : tie.Need-returns
 returns c =
     let r = c .before .before .refusal in
-    door-refused (r .ensures) (c .before .if1 .taken) (ap {B = Opened} (λ (f : Field). record { refusal = r .result; field = f }) (c .no-field .ensures))
+    door-refused (r .ensures) (c .before .if1 .taken) (ap {B = FieldAnswer} (λ (f : Field). record { refusal = r .result; field = f }) (c .no-field .ensures))
 
 field-of-requires : tie.Need-field-of-requires
 field-of-requires c κs = accepted _ _ _ (subst (Refusal _ _ _) (omega arith) (c .before .refusal .ensures))

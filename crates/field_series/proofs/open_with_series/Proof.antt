@@ -4,8 +4,8 @@ use native.Mathlib.Omega.{arith}
 use borrow.Author.Needs.{needs}
 use Rattle.field_open.proofs.Door.{door-refused, door-goes}
 use Rattle.field_open.proofs.Opening.{opens-number, opens-nothing, opens-held}
-use Rattle.field_series.specs.declared.Cubic.{Cubic}
-use Rattle.field_series.specs.declared.Expanded.{Expanded}
+use Rattle.field_series.specs.declared.OpenedField.{OpenedField}
+use Rattle.field_series.specs.declared.OpenedAnswer.{OpenedAnswer}
 use Rattle.field_series.proofs.open_with_series.Statement.{statement}
 use Rattle.field_series.proofs.open_with_series.Tie as tie
 use Rattle.field_series.proofs.open_with_series.Reads as reads
@@ -23,7 +23,7 @@ no-cubic-requires c κs = opens-nothing (c .before .before .open .ensures) (c .i
 returns : tie.Need-returns
 returns c =
     let o = c .before .before .before .open in
-    door-refused (opens-number (o .ensures)) (c .before .if1 .taken) (ap {B = Expanded} (λ (k : Cubic). record { refusal = o .result .refusal; cubic = k }) (c .no-cubic .ensures))
+    door-refused (opens-number (o .ensures)) (c .before .if1 .taken) (ap {B = OpenedAnswer} (λ (k : OpenedField). record { refusal = o .result .refusal; cubic = k }) (c .no-cubic .ensures))
 
 with-series-requires : tie.Need-with-series-requires
 with-series-requires c κs = let (A, h) = opens-held (c .before .before .open .ensures) (omega arith) in record { accepted = A; held = h }

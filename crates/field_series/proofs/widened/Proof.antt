@@ -11,7 +11,7 @@ use Rattle.field_series.proofs.widened.Statement.{statement}
 use Rattle.field_series.proofs.widened.Tie as tie
 use Rattle.field_series.proofs.widened.Reads as reads
 use Rattle.field_series.proofs.widened.Lts as lts
-use Rattle.field_fill.proofs.wide.Reads as wide-reads
+use Rattle.base_lists.proofs.wide.Reads as wide-reads
 
 abbrev Inv-loop : tie.InvT-loop
 Inv-loop s r₀ i₀ r i = Filled 32 (entry s) r i

@@ -29,7 +29,10 @@ same-length : tie.Need-same-length
 same-length c = search needs
 
 returns : tie.Need-returns
-returns c = told-not _ _ _ _ (lit≤ tt) (lit≤ tt) (c .before .before .before .before .enum-told .given .1) (c .before .before .before .before .before .before .before .before .parse .ensures) (c .before .before .put-refused .ensures)
+returns c =
+    let at4 = c .before .before .before .before in
+    let at8 = at4 .before .before .before .before in
+    told-not _ _ _ _ (lit≤ tt) (lit≤ tt) (at4 .enum-told .given .1) (at8 .parse .ensures) (c .before .before .put-refused .ensures)
 
 array-share-prefix-g : tie.Need-array-share-prefix-g
 array-share-prefix-g c = lent-G (read-as (c .before .r .given .1) (c .before .before .before .before .before .parse .ensures))
@@ -50,7 +53,10 @@ same-length-2 : tie.Need-same-length-2
 same-length-2 c = search needs
 
 returns-2 : tie.Need-returns-2
-returns-2 c = told-read (read-as (c .before .before .before .before .before .before .before .r .given .1) (c .before .before .before .before .before .before .before .before .before .before .before .parse .ensures)) (c .before .before .field-answer .ensures)
+returns-2 c =
+    let at7 = c .before .before .before .before .before .before .before in
+    let at11 = at7 .before .before .before .before in
+    told-read (read-as (at7 .r .given .1) (at11 .parse .ensures)) (c .before .before .field-answer .ensures)
 
 pub answer-spec : {M : Type 1} → statement M
 answer-spec =

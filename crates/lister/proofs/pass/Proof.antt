@@ -38,10 +38,24 @@ step-requires : tie.Need-step-requires Inv-loop μ-loop
 step-requires c κs = search needs
 
 loop-less : tie.Need-loop-less Inv-loop μ-loop
-loop-less c = let h = stride (c .before .before .before .before .step .ensures) .forward (c .before .before .before .before .before .before .before .before .before .if2 .taken) in let l = (c .before .before .before .before .before .before .before .before .before .if2 .taken) in omega arith
+loop-less c =
+    let at4 = c .before .before .before .before in
+    let at9 = at4 .before .before .before .before .before in
+    let h = stride (at4 .step .ensures) .forward (at9 .if2 .taken) in
+    let l = (at9 .if2 .taken) in
+    omega arith
 
 loop-again : tie.Need-loop-again Inv-loop μ-loop
-loop-again c = ((c .before .before .before .before .step .kept .0) ∙ (c .before .before .before .before .before .before .before .before .before .before .before .loop .inv .0), (c .before .before .before .before .step .kept .1 .1 .0) ∙ (c .before .before .before .before .before .before .before .before .before .before .before .loop .inv .1), (suc _, more (c .before .before .before .before .before .before .before .before .before .before .before .loop .inv .2 .1) (c .before .before .before .before .before .before .before .before .before .if2 .taken) (let a = (c .before .before .before .before .before .before .before .if3 .left) in let b = (c .before .before .before .before .before .before .before .before .before .before .before .before .if1 .left) in omega arith) (c .before .before .before .before .step .ensures)))
+loop-again c =
+    let at4 = c .before .before .before .before in
+    let at7 = at4 .before .before .before in
+    let at9 = at7 .before .before in
+    let at11 = at9 .before .before in
+    let at12 = at11 .before in (
+      (at4 .step .kept .0) ∙ (at11 .loop .inv .0),
+      (at4 .step .kept .1 .1 .0) ∙ (at11 .loop .inv .1),
+      (suc _, more (at11 .loop .inv .2 .1) (at9 .if2 .taken) (let a = (at7 .if3 .left) in let b = (at12 .if1 .left) in omega arith) (at4 .step .ensures)),
+    )
 
 same-length-3 : tie.Need-same-length-3 Inv-loop μ-loop
 same-length-3 c = (c .before .before .loop .inv .0)

@@ -7,17 +7,24 @@ use borrow.Author.Needs.{needs}
 use Rattle.lister.proofs.step.Statement.{statement}
 use Rattle.lister.proofs.step.Tie as tie
 
-cut-requires : tie.Need-cut-requires
-cut-requires c κs = search needs
+next-line-requires : tie.Need-next-line-requires
+next-line-requires c κs = search needs
 
 enum-known-c : tie.Need-enum-known-c
 enum-known-c c = search needs
 
 slice-reshare-prefix-answer : tie.Need-slice-reshare-prefix-answer
-slice-reshare-prefix-answer c = whole-step (c .before .before .before .before .before .before .before .before .before .before .args .kept .now) (c .before .before .before .before .before .before .before .before .before .before .args .g .n) (c .before .before .before .before .before .before .before .before .before .before .args .s .now) (c .before .before .before .before .before .before .before .before .before .before .args .g .at) (c .before .before .before .before .before .cut .last .0) (c .before .c .given .1) (c .before .before .before .before .before .cut .ensures) .0
+slice-reshare-prefix-answer c =
+    let at5 = c .before .before .before .before .before in
+    let at10 = at5 .before .before .before .before .before in
+    whole-step (at10 .args .kept .now) (at10 .args .g .n) (at10 .args .s .now) (at10 .args .g .at) (at5 .next-line .last .0) (c .before .c .given .1) (at5 .next-line .ensures) .0
 
 slice-aggregate-answer : tie.Need-slice-aggregate-answer
-slice-aggregate-answer c = sym (length-take-le _ _ (whole-step (c .before .before .before .before .before .before .before .before .before .before .before .args .kept .now) (c .before .before .before .before .before .before .before .before .before .before .before .args .g .n) (c .before .before .before .before .before .before .before .before .before .before .before .args .s .now) (c .before .before .before .before .before .before .before .before .before .before .before .args .g .at) (c .before .before .before .before .before .before .cut .last .0) (c .before .before .c .given .1) (c .before .before .before .before .before .before .cut .ensures) .0))
+slice-aggregate-answer c =
+    let at6 = c .before .before .before .before .before .before in
+    let at11 = at6 .before .before .before .before .before in
+    sym (length-take-le _ _ (whole-step (at11 .args .kept .now) (at11 .args .g .n) (at11 .args .s .now) (at11 .args .g .at) (at6 .next-line .last .0)
+    (c .before .before .c .given .1) (at6 .next-line .ensures) .0))
 
 answer-requires : tie.Need-answer-requires
 answer-requires c κs = search needs
@@ -38,7 +45,11 @@ same-length-2 : tie.Need-same-length-2
 same-length-2 c = search needs
 
 returns : tie.Need-returns
-returns c = steps-by (c .before .before .before .before .before .before .before .before .before .before .before .before .before .before .before .args .kept .now) (c .before .before .before .before .before .before .before .before .before .before .before .before .before .before .before .args .s .now) (c .before .before .before .before .before .before .before .before .before .before .before .before .before .before .before .args .out .now) (c .before .before .before .before .before .before .before .before .before .before .before .before .before .before .before .args .g) (c .before .before .before .before .before .before .c .given .1) (c .before .before .before .before .before .before .before .before .before .before .cut .ensures) (refl, refl, (c .before .before .answer .ensures))
+returns c =
+    let at6 = c .before .before .before .before .before .before in
+    let at10 = at6 .before .before .before .before in
+    let at15 = at10 .before .before .before .before .before in
+    steps-by (at15 .args .kept .now) (at15 .args .s .now) (at15 .args .out .now) (at15 .args .g) (at6 .c .given .1) (at10 .next-line .ensures) (refl, refl, (c .before .before .answer .ensures))
 
 same-length-3 : tie.Need-same-length-3
 same-length-3 c = search needs
@@ -47,19 +58,26 @@ same-length-4 : tie.Need-same-length-4
 same-length-4 c = search needs
 
 returns-2 : tie.Need-returns-2
-returns-2 c = steps-by (c .before .before .before .before .before .before .before .before .before .before .before .before .before .before .args .kept .now) (c .before .before .before .before .before .before .before .before .before .before .before .before .before .before .args .s .now) (c .before .before .before .before .before .before .before .before .before .before .before .before .before .before .args .out .now) (c .before .before .before .before .before .before .before .before .before .before .before .before .before .before .args .g) (c .before .before .before .before .before .c2 .given .1) (c .before .before .before .before .before .before .before .before .before .cut .ensures) (refl, refl, (c .before .before .put-refused .ensures))
+returns-2 c =
+    let at5 = c .before .before .before .before .before in
+    let at9 = at5 .before .before .before .before in
+    let at14 = at9 .before .before .before .before .before in
+    steps-by (at14 .args .kept .now) (at14 .args .s .now) (at14 .args .out .now) (at14 .args .g) (at5 .c2 .given .1) (at9 .next-line .ensures) (refl, refl, (c .before .before .put-refused .ensures))
 
 same-length-5 : tie.Need-same-length-5
 same-length-5 c = search needs
 
 returns-3 : tie.Need-returns-3
-returns-3 c = steps-by (c .before .before .before .before .before .before .before .before .before .before .args .kept .now) (c .before .before .before .before .before .before .before .before .before .before .args .s .now) (c .before .before .before .before .before .before .before .before .before .before .args .out .now) (c .before .before .before .before .before .before .before .before .before .before .args .g) (c .before .c3 .given .1) (c .before .before .before .before .before .cut .ensures) (refl, refl, refl, refl)
+returns-3 c =
+    let at5 = c .before .before .before .before .before in
+    let at10 = at5 .before .before .before .before .before in
+    steps-by (at10 .args .kept .now) (at10 .args .s .now) (at10 .args .out .now) (at10 .args .g) (c .before .c3 .given .1) (at5 .next-line .ensures) (refl, refl, refl, refl)
 
 pub step-spec : {M : Type 1} → statement M
 step-spec =
     tie.close
     (tie.spec
-    cut-requires
+    next-line-requires
     enum-known-c
     slice-reshare-prefix-answer
     slice-aggregate-answer

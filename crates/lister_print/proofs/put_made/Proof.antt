@@ -14,7 +14,10 @@ same-length : tie.Need-same-length
 same-length c = search needs
 
 returns : tie.Need-returns
-returns c = refusal-put (c .before .before .before .before .before .before .before .args .line .now) (c .before .before .before .before .before .before .before .args .m) (c .before .before .before .before .before .before .before .args .rows .now) (c .before .before .before .before .if1 .taken) (c .before .before .put-refused .ensures)
+returns c =
+    let at4 = c .before .before .before .before in
+    let at7 = at4 .before .before .before in
+    refusal-put (at7 .args .line .now) (at7 .args .m) (at7 .args .rows .now) (at4 .if1 .taken) (c .before .before .put-refused .ensures)
 
 put-bytes-requires : tie.Need-put-bytes-requires
 put-bytes-requires c κs = search needs
@@ -32,7 +35,14 @@ same-length-2 : tie.Need-same-length-2
 same-length-2 c = search needs
 
 returns-2 : tie.Need-returns-2
-returns-2 c = unit-put (c .before .before .before .before .before .before .before .before .before .before .before .before .before .before .before .before .before .before .before .before .before .before .args .line .now) (c .before .before .before .before .before .before .before .before .before .before .before .before .before .before .before .before .before .before .before .before .before .before .args .m) (c .before .before .before .before .before .before .before .before .before .before .before .before .before .before .before .before .before .before .before .before .before .before .args .rows .now) _ _ _ _ _ _ _ _ _ _ (c .before .before .before .before .before .before .before .before .before .before .before .before .before .before .before .before .before .before .before .if1 .left) (c .before .before .before .before .before .before .before .before .before .before .before .before .before .before .before .put-bytes .ensures) (c .before .before .before .before .before .before .before .before .before .before .before .put-count .ensures) (c .before .before .before .before .before .before .before .put-count2 .ensures) (c .before .before .put-rows .ensures)
+returns-2 c =
+    let at7 = c .before .before .before .before .before .before .before in
+    let at11 = at7 .before .before .before .before in
+    let at15 = at11 .before .before .before .before in
+    let at19 = at15 .before .before .before .before in
+    let at22 = at19 .before .before .before in
+    unit-put (at22 .args .line .now) (at22 .args .m) (at22 .args .rows .now) _ _ _ _ _ _ _ _ _ _ (at19 .if1 .left) (at15 .put-bytes .ensures)
+    (at11 .put-count .ensures) (at7 .put-count2 .ensures) (c .before .before .put-rows .ensures)
 
 pub put-made-spec : {M : Type 1} → statement M
 put-made-spec =

@@ -17,7 +17,11 @@ same-length : tie.Need-same-length
 same-length c = search needs
 
 returns : tie.Need-returns
-returns c = row-put (c .before .before .before .before .before .before .before .before .before .before .before .args .row .now) _ (c .before .before .before .before .before .before .before .before .size .ensures) (c .before .before .before .before .before .before .put-byte .ensures) (c .before .before .put-list .ensures)
+returns c =
+    let at6 = c .before .before .before .before .before .before in
+    let at8 = at6 .before .before in
+    let at11 = at8 .before .before .before in
+    row-put (at11 .args .row .now) _ (at8 .size .ensures) (at6 .put-byte .ensures) (c .before .before .put-list .ensures)
 
 pub put-row-spec : {M : Type 1} → statement M
 put-row-spec =

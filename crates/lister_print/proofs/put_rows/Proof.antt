@@ -47,7 +47,12 @@ same-length : tie.Need-same-length
 same-length c = search needs
 
 returns : tie.Need-returns
-returns c = rows-put (c .before .before .before .before .before .before .before .before .before .before .before .before .before .before .before .before .before .before .before .before .before .args .rows .now) _ _ _ _ _ _ _ _ _ _ (c .before .before .before .before .before .before .before .before .before .before .before .before .before .before .before .before .before .before .before .before .before .pre) (c .before .before .before .before .before .before .before .before .before .before .before .before .before .before .before .before .put-row .ensures) (c .before .before .before .before .before .before .before .before .before .before .before .put-row2 .ensures) (c .before .before .before .before .before .before .put-row3 .ensures) (c .before .before .put-byte .ensures)
+returns c =
+    let at6 = c .before .before .before .before .before .before in
+    let at11 = at6 .before .before .before .before .before in
+    let at16 = at11 .before .before .before .before .before in
+    let at21 = at16 .before .before .before .before .before in
+    rows-put (at21 .args .rows .now) _ _ _ _ _ _ _ _ _ _ (at21 .pre) (at16 .put-row .ensures) (at11 .put-row2 .ensures) (at6 .put-row3 .ensures) (c .before .before .put-byte .ensures)
 
 pub put-rows-spec : {M : Type 1} → statement M
 put-rows-spec =

@@ -43,7 +43,11 @@ shared-slice-read-u : tie.Need-shared-slice-read-u Inv-loop μ-loop
 shared-slice-read-u c = omega arith
 
 mul-u-2 : tie.Need-mul-u-2 Inv-loop μ-loop
-mul-u-2 c = let s = c .before .before .before .before .before .before in let e = entries-in (s .pre) (c .before .before .before .before .before .if1 .left) (c .before .before .loop .i) (omega arith) in product-fits (omega (arith, e .0, e .1, e .2, e .3)) (omega (arith, e .0, e .1, e .2, e .3))
+mul-u-2 c =
+    let at5 = c .before .before .before .before .before in
+    let s = at5 .before in
+    let e = entries-in (s .pre) (at5 .if1 .left) (c .before .before .loop .i) (omega arith) in
+    product-fits (omega (arith, e .0, e .1, e .2, e .3)) (omega (arith, e .0, e .1, e .2, e .3))
 
 rem-u : tie.Need-rem-u Inv-loop μ-loop
 rem-u c = omega (arith, c .before .before .before .before .before .before .pre .prime .big)
@@ -55,7 +59,11 @@ shared-slice-read-v : tie.Need-shared-slice-read-v Inv-loop μ-loop
 shared-slice-read-v c = omega arith
 
 mul-v-2 : tie.Need-mul-v-2 Inv-loop μ-loop
-mul-v-2 c = let s = c .before .before .before .before .before .before .before in let e = entries-in (s .pre) (c .before .before .before .before .before .before .if1 .left) (c .before .before .before .loop .i) (omega arith) in product-fits (omega (arith, e .0, e .1, e .2, e .3)) (omega (arith, e .0, e .1, e .2, e .3))
+mul-v-2 c =
+    let at6 = c .before .before .before .before .before .before in
+    let s = at6 .before in
+    let e = entries-in (s .pre) (at6 .if1 .left) (c .before .before .before .loop .i) (omega arith) in
+    product-fits (omega (arith, e .0, e .1, e .2, e .3)) (omega (arith, e .0, e .1, e .2, e .3))
 
 rem-v : tie.Need-rem-v Inv-loop μ-loop
 rem-v c = omega (arith, c .before .before .before .before .before .before .before .pre .prime .big)

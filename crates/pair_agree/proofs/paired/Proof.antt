@@ -14,7 +14,9 @@ returns : tie.Need-returns
 returns c = (c .before .before .before .agree .ensures .yes! (c .before .before .if1 .taken), c .before .agree2 .ensures .yes! (c .if2 .taken))
 
 returns-2 : tie.Need-returns-2
-returns-2 c = first-apart (c .before .before .before .before .before .before .before .before .pre) (c .before .before .before .agree .ensures .yes! (c .before .before .if1 .taken)) (c .before .agree2 .ensures .no! (c .if2 .left))
+returns-2 c =
+    let at8 = c .before .before .before .before .before .before .before .before in
+    first-apart (at8 .pre) (c .before .before .before .agree .ensures .yes! (c .before .before .if1 .taken)) (c .before .agree2 .ensures .no! (c .if2 .left))
 
 agree-requires-3 : tie.Need-agree-requires-3
 agree-requires-3 c κs = search (lists-in, c .before .before .before .before .before .before .pre .first, c .before .before .before .before .before .before .pre .second)

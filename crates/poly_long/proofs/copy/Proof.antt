@@ -41,7 +41,10 @@ loop-less : tie.Need-loop-less Inv-loop μ-loop
 loop-less c = search needs
 
 loop-again : tie.Need-loop-again Inv-loop μ-loop
-loop-again c = filled-more (length (c .before .before .before .args .d .now)) (λ k. getD (c .before .before .before .args .s .now) k 0) (c .before .before .loop .d) (c .before .before .loop .i) _ (c .before .before .loop .inv) (omega (arith, c .before .before .loop .inv .size)) refl
+loop-again c =
+    let at2 = c .before .before in
+    let at3 = at2 .before in
+    filled-more (length (at3 .args .d .now)) (λ k. getD (at3 .args .s .now) k 0) (at2 .loop .d) (at2 .loop .i) _ (at2 .loop .inv) (omega (arith, at2 .loop .inv .size)) refl
 
 same-length : tie.Need-same-length Inv-loop μ-loop
 same-length c = c .before .loop .inv .size

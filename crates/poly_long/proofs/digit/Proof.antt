@@ -50,8 +50,10 @@ add-result-2 : tie.Need-add-result-2
 add-result-2 c = search needs
 
 sub-result : tie.Need-sub-result
-sub-result c = let p = c .before .before .before .before .before .before .before .before .before .before .before .before .args .p in
-    omega (arith, mod-lt (c .sum-at4 .result) (let b : 0 < p = omega (arith, c .before .before .before .before .before .before .before .before .before .before .before .before .pre .modulus .big) in b))
+sub-result c =
+    let at12 = c .before .before .before .before .before .before .before .before .before .before .before .before in
+    let p = at12 .args .p in
+    omega (arith, mod-lt (c .sum-at4 .result) (let b : 0 < p = omega (arith, at12 .pre .modulus .big) in b))
 
 add-result-3 : tie.Need-add-result-3
 add-result-3 c = search needs

@@ -62,11 +62,15 @@ loop-less : tie.Need-loop-less Inv-loop μ-loop
 loop-less c = search needs
 
 loop-again : tie.Need-loop-again Inv-loop μ-loop
-loop-again c = let s = c .before .before .before .before .before .before .before .before .before .before .before in
+loop-again c =
+    let at4 = c .before .before .before .before in
+    let at5 = at4 .before in
+    let s = at5 .before .before .before .before .before .before in
     let l = c .before .before .before .loop in
-    filled-more (length (s .args .d .now)) (λ i. (sumTo (termAt (s .args .g .now) (s .args .x .now) i) (length (s .args .g .now)) + sumTo (termAt (s .args .h .now) (s .args .y .now) i) (length (s .args .h .now))) % s .args .p)
+    filled-more (length (s .args .d .now)) (λ i. (sumTo (termAt (s .args .g .now) (s .args .x .now) i) (length (s .args .g .now)) + sumTo
+    (termAt (s .args .h .now) (s .args .y .now) i) (length (s .args .h .now))) % s .args .p)
     (l .d) (l .k) _ (l .inv) (omega (arith, l .inv .size)) (ap₂ (λ v w. (v + w) % s .args .p)
-    (c .before .sum-at .ensures .value ∙ trimmed _ _ _ _ (c .before .before .before .before .before .size .ensures)) (c .sum-at2 .ensures .value ∙ trimmed _ _ _ _ (c .before .before .before .before .size2 .ensures)))
+    (c .before .sum-at .ensures .value ∙ trimmed _ _ _ _ (at5 .size .ensures)) (c .sum-at2 .ensures .value ∙ trimmed _ _ _ _ (at4 .size2 .ensures)))
 
 same-length : tie.Need-same-length Inv-loop μ-loop
 same-length c = c .before .loop .inv .size

@@ -41,7 +41,9 @@ loop-less : tie.Need-loop-less Inv-loop μ-loop
 loop-less c = search needs
 
 loop-again : tie.Need-loop-again Inv-loop μ-loop
-loop-again c = down-more _ _ _ _ _ _ _ _ _ _ _ _ (c .before .before .before .before .before .before .before .before .before .before .before .before .pre) (c .before .before .before .loop .inv) (c .before .before .loop-test .taken) (c .digit .ensures)
+loop-again c =
+    let at12 = c .before .before .before .before .before .before .before .before .before .before .before .before in
+    down-more _ _ _ _ _ _ _ _ _ _ _ _ (at12 .pre) (c .before .before .before .loop .inv) (c .before .before .loop-test .taken) (c .digit .ensures)
 
 same-length : tie.Need-same-length Inv-loop μ-loop
 same-length c = c .before .loop .inv .size

@@ -75,12 +75,16 @@ mul-s-3 : tie.Need-mul-s-3 Inv-loop μ-loop
 mul-s-3 c = omega (arith, small c)
 
 add-s : tie.Need-add-s Inv-loop μ-loop
-add-s c = let l = c .before .before .before .before .loop in
-    let s = c .before .before .before .before .before .before .before in
+add-s c =
+    let at4 = c .before .before .before .before in
+    let at5 = at4 .before in
+    let at6 = at5 .before in
+    let s = at6 .before in
+    let l = at4 .loop in
     let n : s .args .n ≤ 65536 = s .pre .most in
-    let t : c .before .before .before .before .before .if2 .to ≤ s .args .n = l .inv .last in
-    let h : l .i - c .before .before .before .before .before .before .if1 .from ≤ c .before .before .before .before .before .if2 .to - c .before .before .before .before .before .before .if1 .from = l .inv .hi in
-    let m : l .s ≤ (l .i - c .before .before .before .before .before .before .if1 .from) * 4294836225 = l .inv .small in
+    let t : at5 .if2 .to ≤ s .args .n = l .inv .last in
+    let h : l .i - at6 .if1 .from ≤ at5 .if2 .to - at6 .if1 .from = l .inv .hi in
+    let m : l .s ≤ (l .i - at6 .if1 .from) * 4294836225 = l .inv .small in
     omega (arith, small c)
 
 add-i : tie.Need-add-i Inv-loop μ-loop
@@ -90,14 +94,20 @@ loop-less : tie.Need-loop-less Inv-loop μ-loop
 loop-less c = search needs
 
 loop-again : tie.Need-loop-again Inv-loop μ-loop
-loop-again c = let l = c .before .before .before .before .loop in
-    let s = c .before .before .before .before .before .before .before in
-    summing-more (s .args .x .now) (s .args .n) (s .args .y .now) (s .args .k) (c .before .before .before .before .before .before .if1 .from) (c .before .before .before .before .before .if2 .to) (l .s) (l .i) _ _ (l .inv) (c .before .before .before .loop-test .taken)
+loop-again c =
+    let at4 = c .before .before .before .before in
+    let at5 = at4 .before in
+    let at6 = at5 .before in
+    let s = at6 .before in
+    let l = at4 .loop in
+    summing-more (s .args .x .now) (s .args .n) (s .args .y .now) (s .args .k) (at6 .if1 .from) (at5 .if2 .to) (l .s) (l .i) _ _ (l .inv) (c .before .before .before .loop-test .taken)
     refl refl (left c) (right c)
 
 returns : tie.Need-returns Inv-loop μ-loop
-returns c = let s = c .before .before .before .before in
-    summing-end (s .args .x .now) (s .args .n) (s .args .y .now) (s .args .k) (c .before .before .before .if1 .from) (c .before .before .if2 .to) (c .before .loop .inv .skip) _ _ (c .before .loop .inv) (omega arith)
+returns c =
+    let s = c .before .before .before .before in
+    summing-end (s .args .x .now) (s .args .n) (s .args .y .now) (s .args .k) (c .before .before .before .if1 .from) (c .before .before .if2 .to)
+    (c .before .loop .inv .skip) _ _ (c .before .loop .inv) (omega arith)
 
 pub sum-at-spec : {M : Type 1} → statement M
 sum-at-spec =

@@ -6,7 +6,7 @@ use native.Mathlib.Omega.{arith}
 use Rattle.math_rows.specs.Row.{Row}
 use Rattle.math_rows.specs.Sum.{sumTo, termAt}
 use Rattle.math_rows.proofs.Tab.{Begun, begun-start, begun-more}
-use Rattle.poly_rows.specs.Leaf.{MulIn, Product}
+use Rattle.poly_rows.specs.Leaf.{MulAsks, Product}
 use Rattle.poly_rows.proofs.Coefficients.{product}
 use borrow.Author.Needs.{needs}
 use Rattle.poly_rows.proofs.mul.Statement.{statement}
@@ -16,8 +16,8 @@ use Rattle.poly_rows.proofs.mul.Tie as tie
 carry : {p k : ℕ} {x : List ℕ} → k ≡ p → Row p x → Row k x
 carry {x = x} e h = subst (λ j. Row j x) (sym e) h
 
-ask : {p k : ℕ} {x y : List ℕ} → k ≡ p → MulIn p x y → MulIn k x y
-ask {x = x} {y = y} e h = subst (λ j. MulIn j x y) (sym e) h
+ask : {p k : ℕ} {x y : List ℕ} → k ≡ p → MulAsks p x y → MulAsks k x y
+ask {x = x} {y = y} e h = subst (λ j. MulAsks j x y) (sym e) h
 
 back : {p k : ℕ} {x y r : List ℕ} → k ≡ p → Product k x y r → Product p x y r
 back {x = x} {y = y} {r = r} e h = subst (λ j. Product j x y r) e h

@@ -32,7 +32,9 @@ sub-reduce-once c =
     omega arith
 
 reduce-once-requires : tie.Need-reduce-once-requires Inv-loop μ-loop
-reduce-once-requires c κs = record { modulus = c .before .before .before .pre .modulus; low = let b : 1 < c .before .before .before .args .p = c .before .before .before .pre .modulus .big in omega arith }
+reduce-once-requires c κs =
+    let at3 = c .before .before .before in
+    record { modulus = at3 .pre .modulus; low = let b : 1 < at3 .args .p = at3 .pre .modulus .big in omega arith }
 
 mul-x : tie.Need-mul-x Inv-loop μ-loop
 mul-x c = search needs

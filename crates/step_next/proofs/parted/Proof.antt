@@ -11,7 +11,14 @@ use Rattle.step_next.proofs.parted.Tie as tie
 
 -- the seven rows
 seven-loaded : (c : tie.After-load7) → SevenLoaded (c .before .before .before .before .before .before .before .args .b .now) (seven (c .before .before .before .before .before .before .load .result) (c .before .before .before .before .before .load2 .result) (c .before .before .before .before .load3 .result) (c .before .before .before .load4 .result) (c .before .before .load5 .result) (c .before .load6 .result) (c .load7 .result))
-seven-loaded c = record { each = each-of-seven (Loaded _) (c .before .before .before .before .before .before .load .ensures) (c .before .before .before .before .before .load2 .ensures) (c .before .before .before .before .load3 .ensures) (c .before .before .before .load4 .ensures) (c .before .before .load5 .ensures) (c .before .load6 .ensures) (c .load7 .ensures) }
+seven-loaded c =
+    let at4 = c .before .before .before .before in
+    let at5 = at4 .before in
+    let at6 = at5 .before in
+    record {
+      each = each-of-seven (Loaded _) (at6 .load .ensures) (at5 .load2 .ensures) (at4 .load3 .ensures) (c .before .before .before .load4 .ensures)
+          (c .before .before .load5 .ensures) (c .before .load6 .ensures) (c .load7 .ensures);
+    }
 
 load-requires : tie.Need-load-requires
 load-requires c κs = search needs
@@ -38,46 +45,52 @@ mul-l : tie.Need-mul-l
 mul-l c = omega (arith, n-small (c .before .before .before .before .before .before .before .pre .on .inp) (c .before .before .before .before .before .before .before .pre .on .n-is) (seven-loaded c))
 
 element-copy-out-l : tie.Need-element-copy-out-l
-element-copy-out-l c = omega (arith, n-small (c .before .before .before .before .before .before .before .pre .on .inp) (c .before .before .before .before .before .before .before .pre .on .n-is) (seven-loaded c))
+element-copy-out-l c =
+    let at7 = c .before .before .before .before .before .before .before in
+    omega (arith, n-small (at7 .pre .on .inp) (at7 .pre .on .n-is) (seven-loaded c))
 
-add-divided : tie.Need-add-divided
-add-divided c =
+add-next-generators : tie.Need-add-next-generators
+add-next-generators c =
     let at8 = c .before .before .before .before .before .before .before .before in
     omega (arith, n-small (at8 .pre .on .inp) (at8 .pre .on .n-is) (seven-loaded (c .before)), degrees-small (at8 .pre .on .inp) (at8 .pre .on .n-is) (seven-loaded (c .before)))
 
-mul-divided : tie.Need-mul-divided
-mul-divided c =
+mul-next-generators : tie.Need-mul-next-generators
+mul-next-generators c =
     let at8 = c .before .before .before .before .before .before .before .before in
     omega (arith, n-small (at8 .pre .on .inp) (at8 .pre .on .n-is) (seven-loaded (c .before)), degrees-small (at8 .pre .on .inp) (at8 .pre .on .n-is) (seven-loaded (c .before)))
 
-add-divided-2 : tie.Need-add-divided-2
-add-divided-2 c =
+add-next-generators-2 : tie.Need-add-next-generators-2
+add-next-generators-2 c =
     let at8 = c .before .before .before .before .before .before .before .before in
     omega (arith, n-small (at8 .pre .on .inp) (at8 .pre .on .n-is) (seven-loaded (c .before)), degrees-small (at8 .pre .on .inp) (at8 .pre .on .n-is) (seven-loaded (c .before)))
 
-mul-divided-2 : tie.Need-mul-divided-2
-mul-divided-2 c =
+mul-next-generators-2 : tie.Need-mul-next-generators-2
+mul-next-generators-2 c =
     let at8 = c .before .before .before .before .before .before .before .before in
     omega (arith, n-small (at8 .pre .on .inp) (at8 .pre .on .n-is) (seven-loaded (c .before)), degrees-small (at8 .pre .on .inp) (at8 .pre .on .n-is) (seven-loaded (c .before)))
 
-add-divided-3 : tie.Need-add-divided-3
-add-divided-3 c =
+add-next-generators-3 : tie.Need-add-next-generators-3
+add-next-generators-3 c =
     let at8 = c .before .before .before .before .before .before .before .before in
     omega (arith, n-small (at8 .pre .on .inp) (at8 .pre .on .n-is) (seven-loaded (c .before)), degrees-small (at8 .pre .on .inp) (at8 .pre .on .n-is) (seven-loaded (c .before)))
 
-sub-divided : tie.Need-sub-divided
-sub-divided c = omega (arith, dr-low (c .before .before .before .before .before .before .before .before .pre .on .inp) (c .before .before .before .before .before .before .before .before .pre .on .n-is) (seven-loaded (c .before)))
+sub-next-generators : tie.Need-sub-next-generators
+sub-next-generators c =
+    let at8 = c .before .before .before .before .before .before .before .before in
+    omega (arith, dr-low (at8 .pre .on .inp) (at8 .pre .on .n-is) (seven-loaded (c .before)))
 
-sub-divided-2 : tie.Need-sub-divided-2
-sub-divided-2 c = omega (arith, dw-low (c .before .before .before .before .before .before .before .before .pre .on .inp) (c .before .before .before .before .before .before .before .before .pre .on .n-is) (seven-loaded (c .before)))
+sub-next-generators-2 : tie.Need-sub-next-generators-2
+sub-next-generators-2 c =
+    let at8 = c .before .before .before .before .before .before .before .before in
+    omega (arith, dw-low (at8 .pre .on .inp) (at8 .pre .on .n-is) (seven-loaded (c .before)))
 
-sub-divided-3 : tie.Need-sub-divided-3
-sub-divided-3 c =
+sub-next-generators-3 : tie.Need-sub-next-generators-3
+sub-next-generators-3 c =
     let s = c .before .before .before .before .before .before .before .before .before .pre .on in
     lead-low (s .inp) (s .n-is) (seven-loaded (c .before .before))
 
-divided-requires : tie.Need-divided-requires
-divided-requires c κs =
+next-generators-requires : tie.Need-next-generators-requires
+next-generators-requires c κs =
     let at16 = c .before .before .before .before .before .before .before .before .before .before .before .before .before .before .before .before in
     let at23 = at16 .before .before .before .before .before .before .before in
     let s = at23 .pre in
@@ -97,12 +110,12 @@ sub-t26 : tie.Need-sub-t26
 sub-t26 c =
     let at18 = c .before .before .before .before .before .before .before .before .before .before .before .before .before .before .before .before .before .before in
     let at25 = at18 .before .before .before .before .before .before .before in
-    shorter (at25 .pre .on .inp) (at25 .pre .on .n-is) (seven-loaded (at18)) _ _ (c .before .divided .ensures .was-m0) (c .before .divided .ensures .was-u)
+    shorter (at25 .pre .on .inp) (at25 .pre .on .n-is) (seven-loaded (at18)) _ _ (c .before .next-generators .ensures .was-m0) (c .before .next-generators .ensures .was-u)
 
 returns : tie.Need-returns
 returns c =
     let at18 = c .before .before .before .before .before .before .before .before .before .before .before .before .before .before .before .before .before .before in
-    record { b = _; loaded = seven-loaded (at18); lm = _; lu = _; divided = c .before .divided .ensures; degree = refl }
+    record { b = _; loaded = seven-loaded (at18); lm = _; lu = _; divided = c .before .next-generators .ensures; degree = refl }
 
 pub parted-spec : {M : Type 1} → statement M
 parted-spec =
@@ -117,14 +130,14 @@ parted-spec =
     load-requires-7
     mul-l
     element-copy-out-l
-    add-divided
-    mul-divided
-    add-divided-2
-    sub-divided
-    mul-divided-2
-    add-divided-3
-    sub-divided-2
-    sub-divided-3
-    divided-requires
+    add-next-generators
+    mul-next-generators
+    add-next-generators-2
+    sub-next-generators
+    mul-next-generators-2
+    add-next-generators-3
+    sub-next-generators-2
+    sub-next-generators-3
+    next-generators-requires
     sub-t26
     returns)

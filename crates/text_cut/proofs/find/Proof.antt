@@ -34,10 +34,15 @@ loop-less : tie.Need-loop-less Inv-loop μ-loop
 loop-less c = search needs
 
 loop-again : tie.Need-loop-again Inv-loop μ-loop
-loop-again c = search-on (c .before .before .before .before .args .c) (c .before .before .before .before .args .s .now) (c .before .before .before .loop .i) _ (c .before .before .loop-test .taken) (c .if1 .left) (c .before .before .before .loop .inv)
+loop-again c =
+    let at3 = c .before .before .before in
+    let at4 = at3 .before in
+    search-on (at4 .args .c) (at4 .args .s .now) (at3 .loop .i) _ (c .before .before .loop-test .taken) (c .if1 .left) (at3 .loop .inv)
 
 returns-2 : tie.Need-returns-2 Inv-loop μ-loop
-returns-2 c = search-here (c .before .before .args .c) (c .before .before .args .s .now) (c .before .loop .i) _ (until-past (c .before .before .args .c) (c .before .before .args .s .now) (c .before .loop .i) (c .loop-test .left)) (c .before .loop .inv)
+returns-2 c =
+    let at2 = c .before .before in
+    search-here (at2 .args .c) (at2 .args .s .now) (c .before .loop .i) _ (until-past (at2 .args .c) (at2 .args .s .now) (c .before .loop .i) (c .loop-test .left)) (c .before .loop .inv)
 
 pub find-spec : {M : Type 1} → statement M
 find-spec = tie.close (tie.spec Inv-loop μ-loop loop-holds shared-slice-read-if1 returns add-i loop-less loop-again returns-2)

@@ -35,13 +35,23 @@ shared-slice-read-b : tie.Need-shared-slice-read-b Inv-loop μ-loop
 shared-slice-read-b c = search needs
 
 returns-5 : tie.Need-returns-5 Inv-loop μ-loop
-returns-5 c = λ n r. let h : 48 ≤ getD (c .before .before .before .before .before .before .before .before .args .s .now) (c .before .before .before .loop .i) 0 = r .numeral .digits (c .before .before .before .loop .i) (omega arith) .0 in omega arith
+returns-5 c =
+    let at3 = c .before .before .before in
+    let at8 = at3 .before .before .before .before .before in
+    λ n r. let h : 48 ≤ getD (at8 .args .s .now) (at3 .loop .i) 0 = r .numeral .digits (at3 .loop .i) (omega arith) .0 in omega arith
 
 returns-6 : tie.Need-returns-6 Inv-loop μ-loop
-returns-6 c = λ n r. let h : getD (c .before .before .before .before .before .before .before .before .before .args .s .now) (c .before .before .before .before .loop .i) 0 ≤ 57 = r .numeral .digits (c .before .before .before .before .loop .i) (omega arith) .1 in omega arith
+returns-6 c =
+    let at4 = c .before .before .before .before in
+    let at9 = at4 .before .before .before .before .before in
+    λ n r. let h : getD (at9 .args .s .now) (at4 .loop .i) 0 ≤ 57 = r .numeral .digits (at4 .loop .i) (omega arith) .1 in omega arith
 
 mul-v : tie.Need-mul-v Inv-loop μ-loop
-mul-v c = let h = sofar-small (c .before .before .before .before .before .before .before .before .before .args .s .now) (c .before .before .before .before .loop .v) (c .before .before .before .before .loop .i) (c .before .before .before .before .loop .inv) (omega arith) in omega arith
+mul-v c =
+    let at4 = c .before .before .before .before in
+    let at9 = at4 .before .before .before .before .before in
+    let h = sofar-small (at9 .args .s .now) (at4 .loop .v) (at4 .loop .i) (at4 .loop .inv) (omega arith) in
+    omega arith
 
 cast-v : tie.Need-cast-v Inv-loop μ-loop
 cast-v c = omega (arith, c .before .before .shared-slice-known2 .given (c .before .before .before .before .loop .i))
@@ -60,10 +70,15 @@ loop-less : tie.Need-loop-less Inv-loop μ-loop
 loop-less c = search needs
 
 loop-again : tie.Need-loop-again Inv-loop μ-loop
-loop-again c = sofar-more (c .before .before .before .before .before .before .before .before .before .args .s .now) (c .before .before .before .before .loop .v) (c .before .before .before .before .loop .i) (c .before .before .before .before .loop .inv) (omega arith) (omega arith, omega arith)
+loop-again c =
+    let at4 = c .before .before .before .before in
+    let at9 = at4 .before .before .before .before .before in
+    sofar-more (at9 .args .s .now) (at4 .loop .v) (at4 .loop .i) (at4 .loop .inv) (omega arith) (omega arith, omega arith)
 
 returns-7 : tie.Need-returns-7 Inv-loop μ-loop
-returns-7 c = sofar-all (c .before .before .before .before .before .before .args .s .now) (c .before .loop .v) (c .before .loop .i) (c .before .loop .inv) (omega arith) (omega arith) (omega arith) (c .before .before .if3 .left)
+returns-7 c =
+    let at6 = c .before .before .before .before .before .before in
+    sofar-all (at6 .args .s .now) (c .before .loop .v) (c .before .loop .i) (c .before .loop .inv) (omega arith) (omega arith) (omega arith) (c .before .before .if3 .left)
 
 pub number-spec : {M : Type 1} → statement M
 number-spec = tie.close (tie.spec Inv-loop μ-loop returns returns-2 shared-slice-read-if3 returns-3 returns-4 loop-holds shared-slice-read-b returns-5 returns-6 mul-v cast-v add-v add-i loop-less loop-again returns-7)

@@ -48,7 +48,10 @@ same-length-2 : (t : ℕ) → put-number-lts.Need-same-length-2 (put-byte-reads.
 same-length-2 t c = placed-same (c .before .before .put-byte2 .ensures) ∙ placed-same (c .before .before .before .before .before .before .put-number .ensures)
 
 returns-2 : (t : ℕ) → put-number-lts.Need-returns-2 (put-byte-reads.Asked, put-byte-reads.Learnt, put-number-below t, put-number.Post) (put-number-at t) put-number.Post
-returns-2 t c = put-tens (c .before .before .before .before .before .before .before .before .before .before .args .n) (c .before .before .before .before .before .before .before .before .if1 .left) (c .before .before .before .before .before .before .put-number .ensures) (c .before .before .put-byte2 .ensures)
+returns-2 t c =
+    put-tens (c .before .before .before .before .before .before .before .before .before .before .args .n)
+    (c .before .before .before .before .before .before .before .before .if1 .left) (c .before .before .before .before .before .before .put-number .ensures)
+    (c .before .before .put-byte2 .ensures)
 
 pub +put-number-spec : {M : Type 1} → statement M
 +put-number-spec =

@@ -57,10 +57,14 @@ loop-less c = search needs
 
 loop-again : tie.Need-loop-again Inv-loop μ-loop
 loop-again c =
-    let s19 = c .before .before .before .before .before .before .before .before .before .before .before .before .before .before .before .before .before .before .before in
-    let s10 = c .before .before .before .before .before .before .before .before .before .before in
     let s7 = c .before .before .before .before .before .before .before in
-    (omega arith, omega arith, λ d a q. list-more (s19 .args .l .now) (s10 .loop .i) (omega arith) (omega arith) (s10 .loop .inv .2 d a q) (s7 .put-byte .ensures) (c .before .before .put-number2 .ensures))
+    let s10 = s7 .before .before .before in
+    let s19 = s10 .before .before .before .before .before .before .before .before .before in (
+      omega arith,
+      omega arith,
+      λ d a q. list-more (s19 .args .l .now) (s10 .loop .i) (omega arith) (omega arith) (s10 .loop .inv .2 d a q) (s7 .put-byte .ensures)
+          (c .before .before .put-number2 .ensures),
+    )
 
 same-length : tie.Need-same-length Inv-loop μ-loop
 same-length c =

@@ -26,7 +26,10 @@ same-length-2 : tie.Need-same-length-2
 same-length-2 c = placed-same (c .before .before .put-all2 .ensures)
 
 returns-2 : tie.Need-returns-2
-returns-2 c = rw (take-all (c .before .before .before .before .before .before .before .args .n) (c .before .before .before .before .before .before .before .args .l .now) (c .before .before .before .before .if1 .left)) (c .before .before .put-all2 .ensures)
+returns-2 c =
+    let at4 = c .before .before .before .before in
+    let at7 = at4 .before .before .before in
+    rw (take-all (at7 .args .n) (at7 .args .l .now) (at4 .if1 .left)) (c .before .before .put-all2 .ensures)
 
 pub put-list-spec : {M : Type 1} → statement M
 put-list-spec = tie.close (tie.spec slice-aggregate-put-all put-all-requires same-length returns put-all-requires-2 same-length-2 returns-2)

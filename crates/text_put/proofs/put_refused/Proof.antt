@@ -19,7 +19,10 @@ put-byte-requires : tie.Need-put-byte-requires
 put-byte-requires c κs = search needs
 
 same-length : tie.Need-same-length
-same-length c = placed-same (c .before .before .put-byte .ensures) ∙ placed-same (c .before .before .before .before .before .before .put-number .ensures) ∙ placed-same (c .before .before .before .before .before .before .before .before .before .before .put-bytes .ensures)
+same-length c =
+    let at6 = c .before .before .before .before .before .before in
+    let at10 = at6 .before .before .before .before in
+    placed-same (c .before .before .put-byte .ensures) ∙ placed-same (at6 .put-number .ensures) ∙ placed-same (at10 .put-bytes .ensures)
 
 returns : tie.Need-returns
 returns c =

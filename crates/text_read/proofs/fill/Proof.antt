@@ -38,35 +38,49 @@ value-of-requires c κs = search needs
 
 mul-out : tie.Need-mul-out Inv-loop μ-loop
 mul-out c =
-    let s7 = c .before .before .before .before .before .before .before in
     let s4 = c .before .before .before .before in
+    let s7 = s4 .before .before .before in
     let s2 = c .before .before in
     let i = passed-in comma (s7 .args .s .now) (s4 .loop .n) (s4 .loop .at) (s2 .find .result) (s4 .loop .inv .0) (omega arith) (s2 .find .ensures) in
-    let l = c .before .before .before .before .loop .inv .1 .same in let r : length (pieces comma (c .before .before .before .before .before .before .before .args .s .now)) ≤ length (c .before .before .before .before .before .before .before .args .out .now) = c .before .before .before .before .before .before .before .pre in search needs
+    let l = s4 .loop .inv .1 .same in
+    let r : length (pieces comma (s7 .args .s .now)) ≤ length (s7 .args .out .now) = s7 .pre in
+    search needs
 
 slice-write-out : tie.Need-slice-write-out Inv-loop μ-loop
 slice-write-out c =
-    let s7 = c .before .before .before .before .before .before .before in
     let s4 = c .before .before .before .before in
+    let s7 = s4 .before .before .before in
     let s2 = c .before .before in
     let i = passed-in comma (s7 .args .s .now) (s4 .loop .n) (s4 .loop .at) (s2 .find .result) (s4 .loop .inv .0) (omega arith) (s2 .find .ensures) in
-    let l = c .before .before .before .before .loop .inv .1 .same in let r : length (pieces comma (c .before .before .before .before .before .before .before .args .s .now)) ≤ length (c .before .before .before .before .before .before .before .args .out .now) = c .before .before .before .before .before .before .before .pre in omega arith
+    let l = s4 .loop .inv .1 .same in
+    let r : length (pieces comma (s7 .args .s .now)) ≤ length (s7 .args .out .now) = s7 .pre in
+    omega arith
 
 add-n : tie.Need-add-n Inv-loop μ-loop
 add-n c = let p = c .before .before .before .before .loop .inv .0 .few in omega arith
 
 add-at : tie.Need-add-at Inv-loop μ-loop
-add-at c = let h = end-le comma (c .before .before .before .before .before .before .before .args .s .now) (c .before .before .before .before .loop .at) (c .before .before .find .result) (omega arith) (c .before .before .find .ensures) in omega arith
+add-at c =
+    let at2 = c .before .before in
+    let at4 = at2 .before .before in
+    let at7 = at4 .before .before .before in
+    let h = end-le comma (at7 .args .s .now) (at4 .loop .at) (at2 .find .result) (omega arith) (at2 .find .ensures) in
+    omega arith
 
 loop-less : tie.Need-loop-less Inv-loop μ-loop
 loop-less c = let h = c .before .before .find .ensures in omega arith
 
 loop-again : tie.Need-loop-again Inv-loop μ-loop
-loop-again c = let s = c .before .before .before .before .before .before .before .args .s .now in
-    let e = passed-piece comma s (c .before .before .before .before .loop .n) (c .before .before .before .before .loop .at) (c .before .before .find .result) (c .before .before .before .before .loop .inv .0) (omega arith) (c .before .before .find .ensures) in (
-      passed-more comma s (c .before .before .before .before .loop .n) (c .before .before .before .before .loop .at) (c .before .before .find .result) (c .before .before .before .before .loop .inv .0) (omega arith) (c .before .before .find .ensures),
-      filling-more s (c .before .before .before .before .before .before .before .args .out .now) (c .before .before .before .before .loop .out) (c .before .before .before .before .loop .n) (c .value-of .result) (passed-in comma s (c .before .before .before .before .loop .n) (c .before .before .before .before .loop .at) (c .before .before .find .result) (c .before .before .before .before .loop .inv .0) (omega arith) (c .before .before .find .ensures)) (c .before .before .before .before .before .before .before .pre)
-          (λ m r. c .value-of .ensures m (subst (λ z. Number z m) e r)) (c .before .before .before .before .loop .inv .1),
+loop-again c =
+    let at2 = c .before .before in
+    let at4 = at2 .before .before in
+    let at7 = at4 .before .before .before in
+    let s = at7 .args .s .now in
+    let e = passed-piece comma s (at4 .loop .n) (at4 .loop .at) (at2 .find .result) (at4 .loop .inv .0) (omega arith) (at2 .find .ensures) in (
+      passed-more comma s (at4 .loop .n) (at4 .loop .at) (at2 .find .result) (at4 .loop .inv .0) (omega arith) (at2 .find .ensures),
+      filling-more s (at7 .args .out .now) (at4 .loop .out) (at4 .loop .n) (c .value-of .result)
+          (passed-in comma s (at4 .loop .n) (at4 .loop .at) (at2 .find .result) (at4 .loop .inv .0) (omega arith) (at2 .find .ensures)) (at7 .pre)
+          (λ m r. c .value-of .ensures m (subst (λ z. Number z m) e r)) (at4 .loop .inv .1),
     )
 
 same-length : tie.Need-same-length Inv-loop μ-loop

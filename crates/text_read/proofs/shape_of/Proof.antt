@@ -28,12 +28,21 @@ returns-2 : tie.Need-returns-2
 returns-2 c = λ p G H r. (subst (FieldsTell _) (c .enum-told .given .1) (c .before .before .fields .ensures)) (r .three)
 
 add-a : tie.Need-add-a
-add-a c = let q : FieldsTell (c .before .before .before .before .before .before .args .line .now) (Three (c .before .f .given .0 .0) (c .before .f .given .0 .1 .0)) = subst (FieldsTell _) (c .before .f .given .1) (c .before .before .before .fields .ensures) in
-    let u = q .0 in let v = q .1 in omega arith
+add-a c =
+    let at6 = c .before .before .before .before .before .before in
+    let q : FieldsTell (at6 .args .line .now) (Three (c .before .f .given .0 .0) (c .before .f .given .0 .1 .0)) = subst (FieldsTell _) (c .before .f .given .1)
+    (c .before .before .before .fields .ensures) in
+    let u = q .0 in
+    let v = q .1 in
+    omega arith
 
 add-b : tie.Need-add-b
-add-b c = let q : FieldsTell (c .before .before .before .before .before .before .args .line .now) (Three (c .before .f .given .0 .0) (c .before .f .given .0 .1 .0)) = subst (FieldsTell _) (c .before .f .given .1) (c .before .before .before .fields .ensures) in
-    let v = q .1 in omega arith
+add-b c =
+    let at6 = c .before .before .before .before .before .before in
+    let q : FieldsTell (at6 .args .line .now) (Three (c .before .f .given .0 .0) (c .before .f .given .0 .1 .0)) = subst (FieldsTell _) (c .before .f .given .1)
+    (c .before .before .before .fields .ensures) in
+    let v = q .1 in
+    omega arith
 
 slice-aggregate-number : tie.Need-slice-aggregate-number
 slice-aggregate-number c =
@@ -53,11 +62,11 @@ enum-told-2 c = search needs
 
 returns-3 : tie.Need-returns-3
 returns-3 c =
-    let s10 = c .before .before .before .before .before .before .before .before .before .before in
-    let s7 = c .before .before .before .before .before .before .before in
     let s5 = c .before .before .before .before .before in
+    let s7 = s5 .before .before in
+    let s10 = s7 .before .before .before in
     let q : FieldsTell (s10 .args .line .now) (Three (s5 .f .given .0 .0) (s5 .f .given .0 .1 .0)) = subst (FieldsTell _) (s5 .f .given .1) (s7 .fields .ensures) in
-    λ p G H r. (subst (NumberTells _) (c .enum-told2 .given .1) (c .before .before .number .ensures)) p (reads-first (c .before .before .before .before .before .before .before .before .before .before .args .line .now) (q .2) r)
+    λ p G H r. (subst (NumberTells _) (c .enum-told2 .given .1) (c .before .before .number .ensures)) p (reads-first (s10 .args .line .now) (q .2) r)
 
 sub-list-size : tie.Need-sub-list-size
 sub-list-size c =
@@ -94,11 +103,11 @@ enum-told-3 c = search needs
 
 returns-4 : tie.Need-returns-4
 returns-4 c =
-    let s15 = c .before .before .before .before .before .before .before .before .before .before .before .before .before .before .before in
-    let s12 = c .before .before .before .before .before .before .before .before .before .before .before .before in
     let s10 = c .before .before .before .before .before .before .before .before .before .before in
+    let s12 = s10 .before .before in
+    let s15 = s12 .before .before .before in
     let q : FieldsTell (s15 .args .line .now) (Three (s10 .f .given .0 .0) (s10 .f .given .0 .1 .0)) = subst (FieldsTell _) (s10 .f .given .1) (s12 .fields .ensures) in
-    λ p G H r. (subst (SizeTells _) (c .enum-told3 .given .1) (c .before .before .list-size .ensures)) G (reads-second (c .before .before .before .before .before .before .before .before .before .before .before .before .before .before .before .args .line .now) (q .2) r)
+    λ p G H r. (subst (SizeTells _) (c .enum-told3 .given .1) (c .before .before .list-size .ensures)) G (reads-second (s15 .args .line .now) (q .2) r)
 
 sub-list-size-2 : tie.Need-sub-list-size-2
 sub-list-size-2 c =
@@ -130,26 +139,31 @@ enum-told-4 c = search needs
 
 returns-5 : tie.Need-returns-5
 returns-5 c =
-    let s20 = c .before .before .before .before .before .before .before .before .before .before .before .before .before .before .before .before .before .before .before .before in
-    let s17 = c .before .before .before .before .before .before .before .before .before .before .before .before .before .before .before .before .before in
     let s15 = c .before .before .before .before .before .before .before .before .before .before .before .before .before .before .before in
+    let s17 = s15 .before .before in
+    let s20 = s17 .before .before .before in
     let q : FieldsTell (s20 .args .line .now) (Three (s15 .f .given .0 .0) (s15 .f .given .0 .1 .0)) = subst (FieldsTell _) (s15 .f .given .1) (s17 .fields .ensures) in
-    λ p G H r. (subst (SizeTells _) (c .enum-told4 .given .1) (c .before .before .list-size2 .ensures)) H (reads-third (c .before .before .before .before .before .before .before .before .before .before .before .before .before .before .before .before .before .before .before .before .args .line .now) (q .2) r)
+    λ p G H r. (subst (SizeTells _) (c .enum-told4 .given .1) (c .before .before .list-size2 .ensures)) H (reads-third (s20 .args .line .now) (q .2) r)
 
 returns-6 : tie.Need-returns-6
 returns-6 c =
-    let s21 = c .before .before .before .before .before .before .before .before .before .before .before .before .before .before .before .before .before .before .before .before .before in
-    let s18 = c .before .before .before .before .before .before .before .before .before .before .before .before .before .before .before .before .before .before in
-    let s16 = c .before .before .before .before .before .before .before .before .before .before .before .before .before .before .before .before in
+    let at6 = c .before .before .before .before .before .before in
+    let at8 = at6 .before .before in
+    let at11 = at8 .before .before .before in
+    let at13 = at11 .before .before in
+    let s16 = at13 .before .before .before in
+    let s18 = s16 .before .before in
+    let s21 = s18 .before .before .before in
     let q : FieldsTell (s21 .args .line .now) (Three (s16 .f .given .0 .0) (s16 .f .given .0 .1 .0)) = subst (FieldsTell _) (s16 .f .given .1) (s18 .fields .ensures) in
-    let u = q .0 in let v = q .1 in
-    let a = subst (NumberTells _) (c .before .before .before .before .before .before .before .before .before .before .before .first .given .1) (c .before .before .before .before .before .before .before .before .before .before .before .before .before .number .ensures) in
-    let b = subst (SizeTells _) (c .before .before .before .before .before .before .second .given .1) (c .before .before .before .before .before .before .before .before .list-size .ensures) in
+    let u = q .0 in
+    let v = q .1 in
+    let a = subst (NumberTells _) (at11 .first .given .1) (at13 .number .ensures) in
+    let b = subst (SizeTells _) (at6 .second .given .1) (at8 .list-size .ensures) in
     let d = subst (SizeTells _) (c .before .third .given .1) (c .before .before .before .list-size2 .ensures) in
     record {
       G = b .0;
       H = d .0;
-      reads = reads-of (c .before .before .before .before .before .before .before .before .before .before .before .before .before .before .before .before .before .before .before .before .before .args .line .now) (q .2) (omega arith) a (b .1) (d .1);
+      reads = reads-of (s21 .args .line .now) (q .2) (omega arith) a (b .1) (d .1);
       G-from = omega arith;
       G-to = omega arith;
       H-from = omega arith;

@@ -60,7 +60,11 @@ part-mix-end-3 : tie.Need-part-mix-end-3
 part-mix-end-3 c = search needs
 
 mix-requires : tie.Need-mix-requires
-mix-requires c κs = let s = c .before .before .before .before .before .before .before .before .before .before .before .before .before in cofactor-asks (s .args .p) (s .args .c) (s .args .k) (s .args .x) (s .args .y) (s .args .v) (s .args .w) (s .args .g .now) (s .args .f .now) (s .args .at) (s .args .rows .now) (s .args .s .now) _ (s .pre) (c .before .before .before .before .before .before .pair .ensures)
+mix-requires c κs =
+    let at6 = c .before .before .before .before .before .before in
+    let s = at6 .before .before .before .before .before .before .before in
+    cofactor-asks (s .args .p) (s .args .c) (s .args .k) (s .args .x) (s .args .y) (s .args .v) (s .args .w) (s .args .g .now) (s .args .f .now) (s .args .at)
+    (s .args .rows .now) (s .args .s .now) _ (s .pre) (at6 .pair .ensures)
 
 same-length : tie.Need-same-length
 same-length c = search needs
@@ -69,8 +73,11 @@ same-length-2 : tie.Need-same-length-2
 same-length-2 c = search needs
 
 returns : tie.Need-returns
-returns c = let s = c .before .before .before .before .before .before .before .before .before .before .before .before .before .before .before .before in
-    cofactor-made (s .args .p) (s .args .c) (s .args .k) (s .args .x) (s .args .y) (s .args .v) (s .args .w) (s .args .g .now) (s .args .f .now) (s .args .at) (s .args .rows .now) (s .args .s .now) _ (s .pre) (c .before .before .before .before .before .before .before .before .before .pair .ensures) _ (s .args .at + s .args .k - s .args .at) (omega arith) (c .before .before .mix .ensures)
+returns c =
+    let at9 = c .before .before .before .before .before .before .before .before .before in
+    let s = at9 .before .before .before .before .before .before .before in
+    cofactor-made (s .args .p) (s .args .c) (s .args .k) (s .args .x) (s .args .y) (s .args .v) (s .args .w) (s .args .g .now) (s .args .f .now) (s .args .at)
+    (s .args .rows .now) (s .args .s .now) _ (s .pre) (at9 .pair .ensures) _ (s .args .at + s .args .k - s .args .at) (omega arith) (c .before .before .mix .ensures)
 
 pub cofactor-spec : {M : Type 1} → statement M
 cofactor-spec =

@@ -43,28 +43,58 @@ slice-aggregate-cofactor : tie.Need-slice-aggregate-cofactor
 slice-aggregate-cofactor c = search needs
 
 cofactor-requires : tie.Need-cofactor-requires
-cofactor-requires c κs = let s = c .before .before .before .before .before .before .before .before .before in invert-asks (s .args .p) (s .args .c) (s .args .k) (s .args .g .now) (s .args .h .now) (s .args .gh .now) (s .args .ngh .now) (s .args .rows .now) (s .args .s .now) (s .pre) (s .args .c) (s .args .c + s .args .c) 0 0 _ _ _ _ _ (omega arith) (omega arith) (omega arith) (omega arith) (omega arith) (s .pre .ngh-most) (omega arith) refl refl
+cofactor-requires c κs =
+    let s = c .before .before .before .before .before .before .before .before .before in
+    invert-asks (s .args .p) (s .args .c) (s .args .k) (s .args .g .now) (s .args .h .now) (s .args .gh .now) (s .args .ngh .now) (s .args .rows .now)
+    (s .args .s .now) (s .pre) (s .args .c) (s .args .c + s .args .c) 0 0 _ _ _ _ _ (omega arith) (omega arith) (omega arith) (omega arith) (omega arith)
+    (s .pre .ngh-most) (omega arith) refl refl
 
 slice-aggregate-cofactor-2 : tie.Need-slice-aggregate-cofactor-2
 slice-aggregate-cofactor-2 c = search needs
 
 cofactor-requires-2 : tie.Need-cofactor-requires-2
-cofactor-requires-2 c κs = let s = c .before .before .before .before .before .before .before .before .before .before .before .before .before .before .before .before .before in invert-asks (s .args .p) (s .args .c) (s .args .k) (s .args .g .now) (s .args .h .now) (s .args .gh .now) (s .args .ngh .now) (s .args .rows .now) (s .args .s .now) (s .pre) (s .args .c + s .args .c) (s .args .c + s .args .c) 0 (s .args .c) _ _ _ _ _ (omega arith) (omega arith) (omega arith) (omega arith) (omega arith) (s .pre .g-most) (omega arith) (c .before .before .before .before .before .before .before .cofactor .ensures .size) (c .before .before .before .before .before .before .before .cofactor .ensures .s-size)
+cofactor-requires-2 c κs =
+    let at7 = c .before .before .before .before .before .before .before in
+    let s = at7 .before .before .before .before .before .before .before .before .before .before in
+    invert-asks (s .args .p) (s .args .c) (s .args .k) (s .args .g .now) (s .args .h .now) (s .args .gh .now) (s .args .ngh .now) (s .args .rows .now)
+    (s .args .s .now) (s .pre) (s .args .c + s .args .c) (s .args .c + s .args .c) 0 (s .args .c) _ _ _ _ _ (omega arith) (omega arith) (omega arith) (omega arith)
+    (omega arith) (s .pre .g-most) (omega arith) (at7 .cofactor .ensures .size) (at7 .cofactor .ensures .s-size)
 
 slice-aggregate-cofactor-3 : tie.Need-slice-aggregate-cofactor-3
 slice-aggregate-cofactor-3 c = search needs
 
 cofactor-requires-3 : tie.Need-cofactor-requires-3
-cofactor-requires-3 c κs = let s = c .before .before .before .before .before .before .before .before .before .before .before .before .before .before .before .before .before .before .before .before .before .before .before .before .before in invert-asks (s .args .p) (s .args .c) (s .args .k) (s .args .g .now) (s .args .h .now) (s .args .gh .now) (s .args .ngh .now) (s .args .rows .now) (s .args .s .now) (s .pre) (s .args .c) (s .args .c) 0 (s .args .c + s .args .c) _ _ _ _ _ (omega arith) (omega arith) (omega arith) (omega arith) (omega arith) (s .pre .h-most) (omega arith) (c .before .before .before .before .before .before .before .cofactor2 .ensures .size ∙ c .before .before .before .before .before .before .before .before .before .before .before .before .before .before .before .cofactor .ensures .size) (c .before .before .before .before .before .before .before .cofactor2 .ensures .s-size ∙ c .before .before .before .before .before .before .before .before .before .before .before .before .before .before .before .cofactor .ensures .s-size)
+cofactor-requires-3 c κs =
+    let at7 = c .before .before .before .before .before .before .before in
+    let at15 = at7 .before .before .before .before .before .before .before .before in
+    let s = at15 .before .before .before .before .before .before .before .before .before .before in
+    invert-asks (s .args .p) (s .args .c) (s .args .k) (s .args .g .now) (s .args .h .now) (s .args .gh .now) (s .args .ngh .now) (s .args .rows .now)
+    (s .args .s .now) (s .pre) (s .args .c) (s .args .c) 0 (s .args .c + s .args .c) _ _ _ _ _ (omega arith) (omega arith) (omega arith) (omega arith) (omega arith)
+    (s .pre .h-most) (omega arith) (at7 .cofactor2 .ensures .size ∙ at15 .cofactor .ensures .size) (at7 .cofactor2 .ensures .s-size ∙ at15 .cofactor .ensures .s-size)
 
 norm-requires : tie.Need-norm-requires
-norm-requires c κs = let s = c .before .before .before .before .before .before .before .before .before .before .before .before .before .before .before .before .before .before .before .before .before .before .before .before .before .before .before .before .before .before .before in norm-asks (s .args .p) (s .args .c) (s .args .k) (s .args .g .now) (s .args .h .now) (s .args .gh .now) (s .args .ngh .now) (s .args .rows .now) (s .args .s .now) (s .pre) _ _ _ _ _ _ (c .before .before .before .before .before .before .before .before .before .before .before .before .before .before .before .before .before .before .before .before .before .cofactor .ensures) (c .before .before .before .before .before .before .before .before .before .before .before .before .before .cofactor2 .ensures) (c .before .before .before .before .before .cofactor3 .ensures)
+norm-requires c κs =
+    let at5 = c .before .before .before .before .before in
+    let at13 = at5 .before .before .before .before .before .before .before .before in
+    let at21 = at13 .before .before .before .before .before .before .before .before in
+    let s = at21 .before .before .before .before .before .before .before .before .before .before in
+    norm-asks (s .args .p) (s .args .c) (s .args .k) (s .args .g .now) (s .args .h .now) (s .args .gh .now) (s .args .ngh .now) (s .args .rows .now) (s .args .s .now)
+    (s .pre) _ _ _ _ _ _ (at21 .cofactor .ensures) (at13 .cofactor2 .ensures) (at5 .cofactor3 .ensures)
 
 inverse-requires : tie.Need-inverse-requires
-inverse-requires c κs = let s = c .before .before .before .before .before .before .before .before .before .before .before .before .before .before .before .before .before .before .before .before .before .before .before .before .before .before .before .before .before .before .before .before in inverse-asks (s .args .p) (s .args .c) (s .args .k) (s .args .g .now) (s .args .h .now) (s .args .gh .now) (s .args .ngh .now) (s .args .rows .now) (s .args .s .now) (s .pre) _ _ _ _ _ _ (c .before .before .before .before .before .before .before .before .before .before .before .before .before .before .before .before .before .before .before .before .before .before .cofactor .ensures) (c .before .before .before .before .before .before .before .before .before .before .before .before .before .before .cofactor2 .ensures) (c .before .before .before .before .before .before .cofactor3 .ensures) _ (c .norm .ensures)
+inverse-requires c κs =
+    let at6 = c .before .before .before .before .before .before in
+    let at14 = at6 .before .before .before .before .before .before .before .before in
+    let at22 = at14 .before .before .before .before .before .before .before .before in
+    let s = at22 .before .before .before .before .before .before .before .before .before .before in
+    inverse-asks (s .args .p) (s .args .c) (s .args .k) (s .args .g .now) (s .args .h .now) (s .args .gh .now) (s .args .ngh .now) (s .args .rows .now)
+    (s .args .s .now) (s .pre) _ _ _ _ _ _ (at22 .cofactor .ensures) (at14 .cofactor2 .ensures) (at6 .cofactor3 .ensures) _ (c .norm .ensures)
 
 mul-scale : tie.Need-mul-scale
-mul-scale c = let s = c .before .before .before .before .before .before .before .before .before .before .before .before .before .before .before .before .before .before .before .before .before .before .before .before .before .before .before .before .before .before .before .before .before in omega (arith, s .pre .most)
+mul-scale c =
+    let s = c .before .before .before .before .before .before .before .before .before .before .before .before .before .before .before .before .before .before .before
+    .before .before .before .before .before .before .before .before .before .before .before .before .before .before in
+    omega (arith, s .pre .most)
 
 sub-scale : tie.Need-sub-scale
 sub-scale c = search needs
@@ -73,28 +103,63 @@ part-scale-start : tie.Need-part-scale-start
 part-scale-start c = search needs
 
 part-scale-end : tie.Need-part-scale-end
-part-scale-end c = let s = c .before .before .before .before .before .before .before .before .before .before .before .before .before .before .before .before .before .before .before .before .before .before .before .before .before .before .before .before .before .before .before .before .before in omega (arith, c .before .before .before .before .before .before .before .before .before .before .before .before .before .before .before .before .before .before .before .before .before .before .before .cofactor .ensures .size, c .before .before .before .before .before .before .before .before .before .before .before .before .before .before .before .cofactor2 .ensures .size, c .before .before .before .before .before .before .before .cofactor3 .ensures .size, s .pre .room)
+part-scale-end c =
+    let at7 = c .before .before .before .before .before .before .before in
+    let at15 = at7 .before .before .before .before .before .before .before .before in
+    let at23 = at15 .before .before .before .before .before .before .before .before in
+    let s = at23 .before .before .before .before .before .before .before .before .before .before in
+    omega (arith, at23 .cofactor .ensures .size, at15 .cofactor2 .ensures .size, at7 .cofactor3 .ensures .size, s .pre .room)
 
 scale-requires : tie.Need-scale-requires
-scale-requires c κs = let s = c .before .before .before .before .before .before .before .before .before .before .before .before .before .before .before .before .before .before .before .before .before .before .before .before .before .before .before .before .before .before .before .before .before .before in record { modulus = s .pre .modulus; below = c .before .inverse .ensures .below }
+scale-requires c κs =
+    let s = c .before .before .before .before .before .before .before .before .before .before .before .before .before .before .before .before .before .before .before
+    .before .before .before .before .before .before .before .before .before .before .before .before .before .before .before in
+    record { modulus = s .pre .modulus; below = c .before .inverse .ensures .below }
 
 clear-requires : tie.Need-clear-requires
 clear-requires c κs = search needs
 
 same-length : tie.Need-same-length
-same-length c = let s = c .before .before .before .before .before .before .before .before .before .before .before .before .before .before .before .before .before .before .before .before .before .before .before .before .before .before .before .before .before .before .before .before .before .before .before .before .before .before .before .before .before in
-    (inverted (s .args .p) (s .args .c) (s .args .k) (s .args .g .now) (s .args .h .now) (s .args .gh .now) (s .args .ngh .now) (s .args .rows .now) (s .args .s .now) (s .pre) _ _ _ _ _ _ (c .before .before .before .before .before .before .before .before .before .before .before .before .before .before .before .before .before .before .before .before .before .before .before .before .before .before .before .before .before .before .before .cofactor .ensures) (c .before .before .before .before .before .before .before .before .before .before .before .before .before .before .before .before .before .before .before .before .before .before .before .cofactor2 .ensures) (c .before .before .before .before .before .before .before .before .before .before .before .before .before .before .before .cofactor3 .ensures) _ _ _ _ (s .args .c + s .args .c + s .args .c + s .args .c + s .args .c + s .args .c - (s .args .c + s .args .c + s .args .c)) (omega arith)
-    (c .before .before .before .before .before .before .before .before .before .norm .ensures) (c .before .before .before .before .before .before .before .before .inverse .ensures) (c .before .before .before .before .before .before .scale .ensures) (c .before .before .clear .ensures)) .size
+same-length c =
+    let at6 = c .before .before .before .before .before .before in
+    let at8 = at6 .before .before in
+    let at9 = at8 .before in
+    let at15 = at9 .before .before .before .before .before .before in
+    let at23 = at15 .before .before .before .before .before .before .before .before in
+    let at31 = at23 .before .before .before .before .before .before .before .before in
+    let s = at31 .before .before .before .before .before .before .before .before .before .before in
+    (inverted (s .args .p) (s .args .c) (s .args .k) (s .args .g .now) (s .args .h .now) (s .args .gh .now) (s .args .ngh .now) (s .args .rows .now) (s .args .s .now)
+    (s .pre) _ _ _ _ _ _ (at31 .cofactor .ensures) (at23 .cofactor2 .ensures) (at15 .cofactor3 .ensures) _ _ _ _
+    (s .args .c + s .args .c + s .args .c + s .args .c + s .args .c + s .args .c - (s .args .c + s .args .c + s .args .c)) (omega arith)
+    (at9 .norm .ensures) (at8 .inverse .ensures) (at6 .scale .ensures) (c .before .before .clear .ensures)) .size
 
 same-length-2 : tie.Need-same-length-2
-same-length-2 c = let s = c .before .before .before .before .before .before .before .before .before .before .before .before .before .before .before .before .before .before .before .before .before .before .before .before .before .before .before .before .before .before .before .before .before .before .before .before .before .before .before .before .before in
-    ap length ((inverted (s .args .p) (s .args .c) (s .args .k) (s .args .g .now) (s .args .h .now) (s .args .gh .now) (s .args .ngh .now) (s .args .rows .now) (s .args .s .now) (s .pre) _ _ _ _ _ _ (c .before .before .before .before .before .before .before .before .before .before .before .before .before .before .before .before .before .before .before .before .before .before .before .before .before .before .before .before .before .before .before .cofactor .ensures) (c .before .before .before .before .before .before .before .before .before .before .before .before .before .before .before .before .before .before .before .before .before .before .before .cofactor2 .ensures) (c .before .before .before .before .before .before .before .before .before .before .before .before .before .before .before .cofactor3 .ensures) _ _ _ _ (s .args .c + s .args .c + s .args .c + s .args .c + s .args .c + s .args .c - (s .args .c + s .args .c + s .args .c)) (omega arith)
-    (c .before .before .before .before .before .before .before .before .before .norm .ensures) (c .before .before .before .before .before .before .before .before .inverse .ensures) (c .before .before .before .before .before .before .scale .ensures) (c .before .before .clear .ensures)) .blank) ∙ length-replicate (length (s .args .s .now)) 0
+same-length-2 c =
+    let at6 = c .before .before .before .before .before .before in
+    let at8 = at6 .before .before in
+    let at9 = at8 .before in
+    let at15 = at9 .before .before .before .before .before .before in
+    let at23 = at15 .before .before .before .before .before .before .before .before in
+    let at31 = at23 .before .before .before .before .before .before .before .before in
+    let s = at31 .before .before .before .before .before .before .before .before .before .before in
+    ap length ((inverted (s .args .p) (s .args .c) (s .args .k) (s .args .g .now) (s .args .h .now) (s .args .gh .now) (s .args .ngh .now) (s .args .rows .now)
+    (s .args .s .now) (s .pre) _ _ _ _ _ _ (at31 .cofactor .ensures) (at23 .cofactor2 .ensures) (at15 .cofactor3 .ensures) _ _ _ _
+    (s .args .c + s .args .c + s .args .c + s .args .c + s .args .c + s .args .c - (s .args .c + s .args .c + s .args .c)) (omega arith)
+    (at9 .norm .ensures) (at8 .inverse .ensures) (at6 .scale .ensures) (c .before .before .clear .ensures)) .blank) ∙ length-replicate (length (s .args .s .now)) 0
 
 returns : tie.Need-returns
-returns c = let s = c .before .before .before .before .before .before .before .before .before .before .before .before .before .before .before .before .before .before .before .before .before .before .before .before .before .before .before .before .before .before .before .before .before .before .before .before .before .before .before .before .before in
-    inverted (s .args .p) (s .args .c) (s .args .k) (s .args .g .now) (s .args .h .now) (s .args .gh .now) (s .args .ngh .now) (s .args .rows .now) (s .args .s .now) (s .pre) _ _ _ _ _ _ (c .before .before .before .before .before .before .before .before .before .before .before .before .before .before .before .before .before .before .before .before .before .before .before .before .before .before .before .before .before .before .before .cofactor .ensures) (c .before .before .before .before .before .before .before .before .before .before .before .before .before .before .before .before .before .before .before .before .before .before .before .cofactor2 .ensures) (c .before .before .before .before .before .before .before .before .before .before .before .before .before .before .before .cofactor3 .ensures) _ _ _ _ (s .args .c + s .args .c + s .args .c + s .args .c + s .args .c + s .args .c - (s .args .c + s .args .c + s .args .c)) (omega arith)
-    (c .before .before .before .before .before .before .before .before .before .norm .ensures) (c .before .before .before .before .before .before .before .before .inverse .ensures) (c .before .before .before .before .before .before .scale .ensures) (c .before .before .clear .ensures)
+returns c =
+    let at6 = c .before .before .before .before .before .before in
+    let at8 = at6 .before .before in
+    let at9 = at8 .before in
+    let at15 = at9 .before .before .before .before .before .before in
+    let at23 = at15 .before .before .before .before .before .before .before .before in
+    let at31 = at23 .before .before .before .before .before .before .before .before in
+    let s = at31 .before .before .before .before .before .before .before .before .before .before in
+    inverted (s .args .p) (s .args .c) (s .args .k) (s .args .g .now) (s .args .h .now) (s .args .gh .now) (s .args .ngh .now) (s .args .rows .now) (s .args .s .now)
+    (s .pre) _ _ _ _ _ _ (at31 .cofactor .ensures) (at23 .cofactor2 .ensures) (at15 .cofactor3 .ensures) _ _ _ _
+    (s .args .c + s .args .c + s .args .c + s .args .c + s .args .c + s .args .c - (s .args .c + s .args .c + s .args .c)) (omega arith)
+    (at9 .norm .ensures) (at8 .inverse .ensures) (at6 .scale .ensures) (c .before .before .clear .ensures)
 
 pub invert-spec : {M : Type 1} → statement M
 invert-spec =

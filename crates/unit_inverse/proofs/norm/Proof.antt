@@ -81,7 +81,14 @@ slice-aggregate-mix : tie.Need-slice-aggregate-mix
 slice-aggregate-mix c = search needs
 
 mix-requires : tie.Need-mix-requires
-mix-requires c κs = let s = c .before .before .before .before .before .before .before in record { modulus = s .pre .modulus; g-most = norm-long (s .args .p) (s .args .c) (s .args .gh .now) (s .args .rows .now) (s .pre) (s .args .c) (omega arith); h-most = norm-long (s .args .p) (s .args .c) (s .args .gh .now) (s .args .rows .now) (s .pre) (s .args .c + s .args .c) (omega arith); d-most = omega arith }
+mix-requires c κs =
+    let s = c .before .before .before .before .before .before .before in
+    record {
+      modulus = s .pre .modulus;
+      g-most = norm-long (s .args .p) (s .args .c) (s .args .gh .now) (s .args .rows .now) (s .pre) (s .args .c) (omega arith);
+      h-most = norm-long (s .args .p) (s .args .c) (s .args .gh .now) (s .args .rows .now) (s .pre) (s .args .c + s .args .c) (omega arith);
+      d-most = omega arith;
+    }
 
 slice-aggregate-mix-2 : tie.Need-slice-aggregate-mix-2
 slice-aggregate-mix-2 c = search needs
@@ -114,7 +121,9 @@ slice-aggregate-mix-3 : tie.Need-slice-aggregate-mix-3
 slice-aggregate-mix-3 c = search needs
 
 mix-requires-2 : tie.Need-mix-requires-2
-mix-requires-2 c κs = let s = c .before .before .before .before .before .before .before .before .before .before .before .before .before in record { modulus = s .pre .modulus; g-most = omega (arith, s .pre .gh-most); h-most = norm-first (s .args .p) (s .args .c) (s .args .gh .now) (s .args .rows .now) (s .pre); d-most = omega arith }
+mix-requires-2 c κs =
+    let s = c .before .before .before .before .before .before .before .before .before .before .before .before .before in
+    record { modulus = s .pre .modulus; g-most = omega (arith, s .pre .gh-most); h-most = norm-first (s .args .p) (s .args .c) (s .args .gh .now) (s .args .rows .now) (s .pre); d-most = omega arith }
 
 array-read-wide : tie.Need-array-read-wide
 array-read-wide c = search needs
@@ -123,7 +132,10 @@ wide-requires : tie.Need-wide-requires
 wide-requires c κs = search needs
 
 returns : tie.Need-returns
-returns c = let s = c .before .before .before .before .before .before .before .before .before .before .before .before .before .before .before .before in norm-made (s .args .p) (s .args .c) (s .args .gh .now) (s .args .rows .now) (s .pre) _ _ _ (c .before .before .before .before .before .before .before .before .mix .ensures) (c .before .before .mix2 .ensures) (c .wide .ensures)
+returns c =
+    let at8 = c .before .before .before .before .before .before .before .before in
+    let s = at8 .before .before .before .before .before .before .before .before in
+    norm-made (s .args .p) (s .args .c) (s .args .gh .now) (s .args .rows .now) (s .pre) _ _ _ (at8 .mix .ensures) (c .before .before .mix2 .ensures) (c .wide .ensures)
 
 pub norm-spec : {M : Type 1} → statement M
 norm-spec =

@@ -71,8 +71,10 @@ part-mix-end-3 : tie.Need-part-mix-end-3
 part-mix-end-3 c = search needs
 
 mix-requires : tie.Need-mix-requires
-mix-requires c κs = let s = c .before .before .before .before .before .before .before in
-    pair-asks (s .args .p) (s .args .c) (s .args .k) (s .args .x) (s .args .y) (s .args .v) (s .args .w) (s .args .rows .now) (s .args .s .now) (s .pre) (s .args .x) 0 (s .args .k) _ (s .pre .x-room) (omega arith) (omega (arith, s .pre .upto)) (omega (arith, s .pre .s-room))
+mix-requires c κs =
+    let s = c .before .before .before .before .before .before .before in
+    pair-asks (s .args .p) (s .args .c) (s .args .k) (s .args .x) (s .args .y) (s .args .v) (s .args .w) (s .args .rows .now) (s .args .s .now) (s .pre) (s .args .x)
+    0 (s .args .k) _ (s .pre .x-room) (omega arith) (omega (arith, s .pre .upto)) (omega (arith, s .pre .s-room))
 
 mul-mix-4 : tie.Need-mul-mix-4
 mul-mix-4 c = search needs
@@ -117,19 +119,32 @@ part-mix-end-6 : tie.Need-part-mix-end-6
 part-mix-end-6 c = search needs
 
 mix-requires-2 : tie.Need-mix-requires-2
-mix-requires-2 c κs = let s = c .before .before .before .before .before .before .before .before .before .before .before .before .before .before .before in
+mix-requires-2 c κs =
+    let at7 = c .before .before .before .before .before .before .before in
+    let s = at7 .before .before .before .before .before .before .before .before in
     let k : s .args .k ≤ s .args .c = s .pre .upto in
     let r : s .args .k + s .args .k ≤ length (s .args .s .now) = s .pre .s-room in
-    pair-asks (s .args .p) (s .args .c) (s .args .k) (s .args .x) (s .args .y) (s .args .v) (s .args .w) (s .args .rows .now) (s .args .s .now) (s .pre) (s .args .v) (s .args .k) (s .args .k + s .args .k) _ (s .pre .v-room) (omega arith) (omega arith)
-    (omega (arith, pair-size (s .args .p) (s .args .c) (s .args .k) (s .args .x) (s .args .y) (s .args .v) (s .args .w) (s .args .rows .now) (s .args .s .now) (s .pre) _ (s .args .k - 0) (omega arith) (c .before .before .before .before .before .before .before .mix .ensures)))
+    pair-asks (s .args .p) (s .args .c) (s .args .k) (s .args .x) (s .args .y) (s .args .v) (s .args .w) (s .args .rows .now) (s .args .s .now) (s .pre) (s .args .v)
+    (s .args .k) (s .args .k + s .args .k) _ (s .pre .v-room) (omega arith) (omega arith)
+    (omega (
+      arith,
+      pair-size (s .args .p) (s .args .c) (s .args .k) (s .args .x) (s .args .y) (s .args .v) (s .args .w) (s .args .rows .now) (s .args .s .now)
+          (s .pre) _ (s .args .k - 0) (omega arith) (at7 .mix .ensures),
+    ))
 
 same-length : tie.Need-same-length
-same-length c = let s = c .before .before .before .before .before .before .before .before .before .before .before .before .before .before .before .before .before .before in
-    pair-made (s .args .p) (s .args .c) (s .args .k) (s .args .x) (s .args .y) (s .args .v) (s .args .w) (s .args .rows .now) (s .args .s .now) (s .pre) _ (s .args .k - 0) (omega arith) (c .before .before .before .before .before .before .before .before .before .before .mix .ensures) _ (s .args .k + s .args .k - s .args .k) (omega arith) (c .before .before .mix2 .ensures) .size
+same-length c =
+    let at10 = c .before .before .before .before .before .before .before .before .before .before in
+    let s = at10 .before .before .before .before .before .before .before .before in
+    pair-made (s .args .p) (s .args .c) (s .args .k) (s .args .x) (s .args .y) (s .args .v) (s .args .w) (s .args .rows .now) (s .args .s .now) (s .pre) _
+    (s .args .k - 0) (omega arith) (at10 .mix .ensures) _ (s .args .k + s .args .k - s .args .k) (omega arith) (c .before .before .mix2 .ensures) .size
 
 returns : tie.Need-returns
-returns c = let s = c .before .before .before .before .before .before .before .before .before .before .before .before .before .before .before .before .before .before in
-    pair-made (s .args .p) (s .args .c) (s .args .k) (s .args .x) (s .args .y) (s .args .v) (s .args .w) (s .args .rows .now) (s .args .s .now) (s .pre) _ (s .args .k - 0) (omega arith) (c .before .before .before .before .before .before .before .before .before .before .mix .ensures) _ (s .args .k + s .args .k - s .args .k) (omega arith) (c .before .before .mix2 .ensures)
+returns c =
+    let at10 = c .before .before .before .before .before .before .before .before .before .before in
+    let s = at10 .before .before .before .before .before .before .before .before in
+    pair-made (s .args .p) (s .args .c) (s .args .k) (s .args .x) (s .args .y) (s .args .v) (s .args .w) (s .args .rows .now) (s .args .s .now) (s .pre) _
+    (s .args .k - 0) (omega arith) (at10 .mix .ensures) _ (s .args .k + s .args .k - s .args .k) (omega arith) (c .before .before .mix2 .ensures)
 
 pub pair-spec : {M : Type 1} → statement M
 pair-spec =

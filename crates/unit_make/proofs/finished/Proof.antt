@@ -19,24 +19,35 @@ monic-requires c κs =
 
 add-inverted : tie.Need-add-inverted
 add-inverted c =
-    let a = c .before .before .before .before .before .before .before .args in
-    let l : (a .d) < (a .c) = c .before .before .before .before .before .before .before .pre .task .room in let m : (a .c) ≤ 4096 = c .before .before .before .before .before .before .before .pre .task .most in omega arith
+    let at7 = c .before .before .before .before .before .before .before in
+    let a = at7 .args in
+    let l : (a .d) < (a .c) = at7 .pre .task .room in
+    let m : (a .c) ≤ 4096 = at7 .pre .task .most in
+    omega arith
 
 inverted-requires : tie.Need-inverted-requires
 inverted-requires c κs =
-    let a = c .before .before .before .before .before .before .before .before .before .args in
-    inverse-in (a .f) (a .c) (a .d) (a .rows .now) (a .s .now) (c .before .before .before .before .before .before .before .before .before .pre) _ (c .before .before .before .before .monic .ensures) _ refl
+    let at4 = c .before .before .before .before in
+    let at9 = at4 .before .before .before .before .before in
+    let a = at9 .args in
+    inverse-in (a .f) (a .c) (a .d) (a .rows .now) (a .s .now) (at9 .pre) _ (at4 .monic .ensures) _ refl
 
 same-length : tie.Need-same-length
 same-length c = c .before .before .before .before .inverted .ensures .size ∙ c .before .before .before .before .before .before .before .before .before .monic .ensures .size
 
 same-length-2 : tie.Need-same-length-2
-same-length-2 c = ap length (c .before .before .before .before .inverted .ensures .blank) ∙ length-replicate (length (c .before .before .before .before .before .before .before .before .before .before .before .before .before .before .args .s .now)) 0
+same-length-2 c =
+    let at4 = c .before .before .before .before in
+    let at14 = at4 .before .before .before .before .before .before .before .before .before .before in
+    ap length (at4 .inverted .ensures .blank) ∙ length-replicate (length (at14 .args .s .now)) 0
 
 returns : tie.Need-returns
 returns c =
-    let a = c .before .before .before .before .before .before .before .before .before .before .before .before .before .before .args in
-    finishes (a .f) (a .c) (a .d) (a .rows .now) (a .s .now) _ _ _ (c .before .before .before .before .before .before .before .before .before .monic .ensures) (c .before .before .before .before .inverted .ensures)
+    let at4 = c .before .before .before .before in
+    let at9 = at4 .before .before .before .before .before in
+    let at14 = at9 .before .before .before .before .before in
+    let a = at14 .args in
+    finishes (a .f) (a .c) (a .d) (a .rows .now) (a .s .now) _ _ _ (at9 .monic .ensures) (at4 .inverted .ensures)
 
 pub finished-spec : {M : Type 1} → statement M
 finished-spec =

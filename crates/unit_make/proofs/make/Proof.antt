@@ -13,28 +13,46 @@ started-requires c κs =
 
 product-requires : tie.Need-product-requires
 product-requires c κs =
-    let a = c .before .before .before .before .before .before .before .before .before .before .before .args in
-    make-product (a .f) (a .b) (a .steps) (a .d) (a .c) (a .rows .now) (a .s .now) _ _ (c .before .before .before .before .before .before .started .ensures) (c .before .before .before .before .before .before .before .before .before .before .before .pre)
+    let at6 = c .before .before .before .before .before .before in
+    let at11 = at6 .before .before .before .before .before in
+    let a = at11 .args in
+    make-product (a .f) (a .b) (a .steps) (a .d) (a .c) (a .rows .now) (a .s .now) _ _ (at6 .started .ensures) (at11 .pre)
 
 finished-requires : tie.Need-finished-requires
 finished-requires c κs =
-    let a = c .before .before .before .before .before .before .before .before .before .before .before .before .before .before .before .before .before .before .args in
-    make-finish (a .f) (a .b) (a .steps) (a .d) (a .c) (a .rows .now) (a .s .now) _ _ (c .before .before .before .before .before .before .before .before .before .before .before .before .before .started .ensures) _ _ (c .before .before .before .before .before .before .product .ensures) (c .before .before .before .before .before .before .before .before .before .before .before .before .before .before .before .before .before .before .pre)
+    let at6 = c .before .before .before .before .before .before in
+    let at13 = at6 .before .before .before .before .before .before .before in
+    let at18 = at13 .before .before .before .before .before in
+    let a = at18 .args in
+    make-finish (a .f) (a .b) (a .steps) (a .d) (a .c) (a .rows .now) (a .s .now) _ _ (at13 .started .ensures) _ _ (at6 .product .ensures) (at18 .pre)
 
 same-length : tie.Need-same-length
 same-length c =
-    let a = c .before .before .before .before .before .before .before .before .before .before .before .before .before .before .before .before .before .before .before .before .before .before .before .args in
-    making (a .f) (a .b) (a .steps) (a .d) (a .c) (a .rows .now) (a .s .now) _ _ (c .before .before .before .before .before .before .before .before .before .before .before .before .before .before .before .before .before .before .started .ensures) _ _ (c .before .before .before .before .before .before .before .before .before .before .before .product .ensures) _ _ (c .before .before .before .before .finished .ensures) .size
+    let at4 = c .before .before .before .before in
+    let at11 = at4 .before .before .before .before .before .before .before in
+    let at18 = at11 .before .before .before .before .before .before .before in
+    let at23 = at18 .before .before .before .before .before in
+    let a = at23 .args in
+    making (a .f) (a .b) (a .steps) (a .d) (a .c) (a .rows .now) (a .s .now) _ _ (at18 .started .ensures) _ _ (at11 .product .ensures) _ _ (at4 .finished .ensures) .size
 
 same-length-2 : tie.Need-same-length-2
 same-length-2 c =
-    let a = c .before .before .before .before .before .before .before .before .before .before .before .before .before .before .before .before .before .before .before .before .before .before .before .args in
-    ap length (making (a .f) (a .b) (a .steps) (a .d) (a .c) (a .rows .now) (a .s .now) _ _ (c .before .before .before .before .before .before .before .before .before .before .before .before .before .before .before .before .before .before .started .ensures) _ _ (c .before .before .before .before .before .before .before .before .before .before .before .product .ensures) _ _ (c .before .before .before .before .finished .ensures) .blank) ∙ length-replicate (length (a .s .now)) 0
+    let at4 = c .before .before .before .before in
+    let at11 = at4 .before .before .before .before .before .before .before in
+    let at18 = at11 .before .before .before .before .before .before .before in
+    let at23 = at18 .before .before .before .before .before in
+    let a = at23 .args in
+    ap length (making (a .f) (a .b) (a .steps) (a .d) (a .c) (a .rows .now) (a .s .now) _ _ (at18 .started .ensures) _ _ (at11 .product .ensures) _ _
+    (at4 .finished .ensures) .blank) ∙ length-replicate (length (a .s .now)) 0
 
 returns : tie.Need-returns
 returns c =
-    let a = c .before .before .before .before .before .before .before .before .before .before .before .before .before .before .before .before .before .before .before .before .before .before .before .args in
-    making (a .f) (a .b) (a .steps) (a .d) (a .c) (a .rows .now) (a .s .now) _ _ (c .before .before .before .before .before .before .before .before .before .before .before .before .before .before .before .before .before .before .started .ensures) _ _ (c .before .before .before .before .before .before .before .before .before .before .before .product .ensures) _ _ (c .before .before .before .before .finished .ensures)
+    let at4 = c .before .before .before .before in
+    let at11 = at4 .before .before .before .before .before .before .before in
+    let at18 = at11 .before .before .before .before .before .before .before in
+    let at23 = at18 .before .before .before .before .before in
+    let a = at23 .args in
+    making (a .f) (a .b) (a .steps) (a .d) (a .c) (a .rows .now) (a .s .now) _ _ (at18 .started .ensures) _ _ (at11 .product .ensures) _ _ (at4 .finished .ensures)
 
 pub make-spec : {M : Type 1} → statement M
 make-spec =

@@ -20,15 +20,22 @@ loop-holds c =
     let a = c .before .before .args in
     stepping-start (a .f) (a .c) (a .from) (a .steps) (a .rows .now) (a .s .now) (c .before .before .pre .blank)
 
-further-requires : tie.Need-further-requires Inv-loop μ-loop
-further-requires c κs =
-    let a = c .before .before .before .before .before .before .args in
-    stepping-further (a .f) (a .c) (a .from) (a .steps) (a .rows .now) (a .s .now) _ _ _ _ _ (c .before .before .before .loop .inv) (c .before .before .loop-test .taken) (c .before .before .before .before .before .before .pre)
+step-and-multiply-requires : tie.Need-step-and-multiply-requires Inv-loop μ-loop
+step-and-multiply-requires c κs =
+    let at6 = c .before .before .before .before .before .before in
+    let a = at6 .args in
+    stepping-further (a .f) (a .c) (a .from) (a .steps) (a .rows .now) (a .s .now) _ _ _ _ _ (c .before .before .before .loop .inv) (c .before .before .loop-test .taken) (at6 .pre)
 
 add-d : tie.Need-add-d Inv-loop μ-loop
 add-d c =
-    let a = c .before .before .before .before .before .before .before .before .before .before .before .before .args in
-    let l = stepping-below (a .f) (a .c) (a .from) (a .steps) (a .rows .now) (a .s .now) _ _ _ _ _ (c .before .before .before .before .before .before .before .before .before .loop .inv) (c .before .before .before .before .before .before .before .before .loop-test .taken) (c .before .before .before .before .before .before .before .before .before .before .before .before .pre) (c .before .before .before .before .before .further .result) _ _ (c .before .before .before .before .before .further .ensures) in omega (arith, l)
+    let at5 = c .before .before .before .before .before in
+    let at8 = at5 .before .before .before in
+    let at9 = at8 .before in
+    let at12 = at9 .before .before .before in
+    let a = at12 .args in
+    let l = stepping-below (a .f) (a .c) (a .from) (a .steps) (a .rows .now) (a .s .now) _ _ _ _ _ (at9 .loop .inv) (at8 .loop-test .taken) (at12 .pre)
+    (at5 .step-and-multiply .result) _ _ (at5 .step-and-multiply .ensures) in
+    omega (arith, l)
 
 add-i : tie.Need-add-i Inv-loop μ-loop
 add-i c = search needs
@@ -38,8 +45,12 @@ loop-less c = omega arith
 
 loop-again : tie.Need-loop-again Inv-loop μ-loop
 loop-again c =
-    let a = c .before .before .before .before .before .before .before .before .before .before .before .before .args in
-    stepping-more (a .f) (a .c) (a .from) (a .steps) (a .rows .now) (a .s .now) _ _ _ _ _ (c .before .before .before .before .before .before .before .before .before .loop .inv) (c .before .before .before .before .before .before .before .before .loop-test .taken) _ _ _ (c .before .before .before .before .before .further .ensures) _ (add-one _)
+    let at5 = c .before .before .before .before .before in
+    let at8 = at5 .before .before .before in
+    let at9 = at8 .before in
+    let at12 = at9 .before .before .before in
+    let a = at12 .args in
+    stepping-more (a .f) (a .c) (a .from) (a .steps) (a .rows .now) (a .s .now) _ _ _ _ _ (at9 .loop .inv) (at8 .loop-test .taken) _ _ _ (at5 .step-and-multiply .ensures) _ (add-one _)
 
 same-length : tie.Need-same-length Inv-loop μ-loop
 same-length c = c .before .loop .inv .size
@@ -59,7 +70,7 @@ product-spec =
     Inv-loop
     μ-loop
     loop-holds
-    further-requires
+    step-and-multiply-requires
     add-d
     add-i
     loop-less

@@ -132,17 +132,27 @@ part-quotient-end-8 : tie.Need-part-quotient-end-8
 part-quotient-end-8 c = search needs
 
 quotient-requires : tie.Need-quotient-requires
-quotient-requires c κs = let s = c .before .before .before .before .before .before .before .before .before .before .before .before .before .before .before .before .before .before in
+quotient-requires c κs =
+    let at8 = c .before .before .before .before .before .before .before .before in
+    let at9 = at8 .before in
+    let at10 = at9 .before in
+    let at11 = at10 .before in
+    let s = at11 .before .before .before .before .before .before .before in
     coordinate-asks (s .args .p) (s .args .c) (s .args .n) (s .args .a .now) (s .args .b .now) (s .args .d .now) (s .args .u .now) (s .args .e .now) (s .args .at) (s .args .s .now) _ _ _ _ (s .pre)
-    (c .before .before .before .before .before .before .before .before .before .before .before .size .ensures) (c .before .before .before .before .before .before .before .before .before .before .size2 .ensures) (c .before .before .before .before .before .before .before .before .before .size3 .ensures) (c .before .before .before .before .before .before .before .before .size4 .ensures)
+    (at11 .size .ensures) (at10 .size2 .ensures) (at9 .size3 .ensures) (at8 .size4 .ensures)
 
 same-length : tie.Need-same-length
 same-length c = search needs
 
 returns : tie.Need-returns
-returns c = let s = c .before .before .before .before .before .before .before .before .before .before .before .before .before .before .before .before .before .before .before .before .before in
+returns c =
+    let at11 = c .before .before .before .before .before .before .before .before .before .before .before in
+    let at12 = at11 .before in
+    let at13 = at12 .before in
+    let at14 = at13 .before in
+    let s = at14 .before .before .before .before .before .before .before in
     coordinate-made (s .args .p) (s .args .c) (s .args .n) (s .args .a .now) (s .args .b .now) (s .args .d .now) (s .args .u .now) (s .args .e .now) (s .args .at) (s .args .s .now) _ _ _ _ (s .pre)
-    (c .before .before .before .before .before .before .before .before .before .before .before .before .before .before .size .ensures) (c .before .before .before .before .before .before .before .before .before .before .before .before .before .size2 .ensures) (c .before .before .before .before .before .before .before .before .before .before .before .before .size3 .ensures) (c .before .before .before .before .before .before .before .before .before .before .before .size4 .ensures) _ (c .before .before .quotient .ensures) (s .args .at + s .args .n - s .args .at) (omega arith)
+    (at14 .size .ensures) (at13 .size2 .ensures) (at12 .size3 .ensures) (at11 .size4 .ensures) _ (c .before .before .quotient .ensures) (s .args .at + s .args .n - s .args .at) (omega arith)
 
 pub coordinate-spec : {M : Type 1} → statement M
 coordinate-spec =

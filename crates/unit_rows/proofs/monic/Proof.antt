@@ -55,8 +55,12 @@ same-length : tie.Need-same-length
 same-length c = search needs
 
 returns : tie.Need-returns
-returns c = let s = c .before .before .before .before .before .before .before .before in
-    monic-made (s .args .p) (s .args .c) (s .args .n) (s .args .rows .now) (s .pre) _ (c .before .before .before .before .before .wide .ensures) _ _ (s .args .c + s .args .c + s .args .c - 0) (omega arith) (c .before .before .before .before .inverse .ensures) (c .before .before .scale .ensures)
+returns c =
+    let at4 = c .before .before .before .before in
+    let at5 = at4 .before in
+    let s = at5 .before .before .before in
+    monic-made (s .args .p) (s .args .c) (s .args .n) (s .args .rows .now) (s .pre) _ (at5 .wide .ensures) _ _ (s .args .c + s .args .c + s .args .c - 0)
+    (omega arith) (at4 .inverse .ensures) (c .before .before .scale .ensures)
 
 pub monic-spec : {M : Type 1} → statement M
 monic-spec =

@@ -64,31 +64,43 @@ part-u-end : tie.Need-part-u-end
 part-u-end c = search needs
 
 by-requires : tie.Need-by-requires
-by-requires c κs = let s = c .before .before .before .before .before .before .before .before .before .before in
+by-requires c κs =
+    let s = c .before .before .before .before .before .before .before .before .before .before in
     record {
       modulus = s .pre .modulus;
-      room = let l : length (between 17 34 (s .args .b .now)) ≡ 17 = piece-length (s .args .p) (s .args .c) (s .args .n) (s .args .g .now) (s .args .h .now) (s .args .gh .now) (s .args .b .now) (s .args .e .now) (s .args .s .now) (s .pre) 17 34 (omega arith) (omega arith) in let k : length (s .args .gh .now) ≤ 33 = s .pre .gh-most in omega arith;
+      room = let l : length (between 17 34 (s .args .b .now)) ≡ 17 = piece-length (s .args .p) (s .args .c) (s .args .n) (s .args .g .now) (s .args .h .now)
+          (s .args .gh .now) (s .args .b .now) (s .args .e .now) (s .args .s .now) (s .pre) 17 34 (omega arith) (omega arith) in let k : length (s .args .gh .now) ≤ 33 =
+          s .pre .gh-most in omega arith;
     }
 
 by-requires-2 : tie.Need-by-requires-2
-by-requires-2 c κs = let s = c .before .before .before .before .before .before .before .before .before .before .before in
+by-requires-2 c κs =
+    let s = c .before .before .before .before .before .before .before .before .before .before .before in
     record {
       modulus = s .pre .modulus;
-      room = let l : length (between 34 51 (s .args .b .now)) ≡ 17 = piece-length (s .args .p) (s .args .c) (s .args .n) (s .args .g .now) (s .args .h .now) (s .args .gh .now) (s .args .b .now) (s .args .e .now) (s .args .s .now) (s .pre) 34 51 (omega arith) (omega arith) in let k : length (s .args .gh .now) ≤ 33 = s .pre .gh-most in omega arith;
+      room = let l : length (between 34 51 (s .args .b .now)) ≡ 17 = piece-length (s .args .p) (s .args .c) (s .args .n) (s .args .g .now) (s .args .h .now)
+          (s .args .gh .now) (s .args .b .now) (s .args .e .now) (s .args .s .now) (s .pre) 34 51 (omega arith) (omega arith) in let k : length (s .args .gh .now) ≤ 33 =
+          s .pre .gh-most in omega arith;
     }
 
 by-requires-3 : tie.Need-by-requires-3
-by-requires-3 c κs = let s = c .before .before .before .before .before .before .before .before .before .before .before .before in
+by-requires-3 c κs =
+    let s = c .before .before .before .before .before .before .before .before .before .before .before .before in
     record {
       modulus = s .pre .modulus;
-      room = let l : length (between 34 51 (s .args .b .now)) ≡ 17 = piece-length (s .args .p) (s .args .c) (s .args .n) (s .args .g .now) (s .args .h .now) (s .args .gh .now) (s .args .b .now) (s .args .e .now) (s .args .s .now) (s .pre) 34 51 (omega arith) (omega arith) in let k : length (s .args .g .now) ≤ 33 = s .pre .g-most in omega arith;
+      room = let l : length (between 34 51 (s .args .b .now)) ≡ 17 = piece-length (s .args .p) (s .args .c) (s .args .n) (s .args .g .now) (s .args .h .now)
+          (s .args .gh .now) (s .args .b .now) (s .args .e .now) (s .args .s .now) (s .pre) 34 51 (omega arith) (omega arith) in let k : length (s .args .g .now) ≤ 33 = s
+          .pre .g-most in omega arith;
     }
 
 by-requires-4 : tie.Need-by-requires-4
-by-requires-4 c κs = let s = c .before .before .before .before .before .before .before .before .before .before .before .before .before in
+by-requires-4 c κs =
+    let s = c .before .before .before .before .before .before .before .before .before .before .before .before .before in
     record {
       modulus = s .pre .modulus;
-      room = let l : length (between 17 34 (s .args .b .now)) ≡ 17 = piece-length (s .args .p) (s .args .c) (s .args .n) (s .args .g .now) (s .args .h .now) (s .args .gh .now) (s .args .b .now) (s .args .e .now) (s .args .s .now) (s .pre) 17 34 (omega arith) (omega arith) in let k : length (s .args .h .now) ≤ 33 = s .pre .h-most in omega arith;
+      room = let l : length (between 17 34 (s .args .b .now)) ≡ 17 = piece-length (s .args .p) (s .args .c) (s .args .n) (s .args .g .now) (s .args .h .now)
+          (s .args .gh .now) (s .args .b .now) (s .args .e .now) (s .args .s .now) (s .pre) 17 34 (omega arith) (omega arith) in let k : length (s .args .h .now) ≤ 33 = s
+          .pre .h-most in omega arith;
     }
 
 slice-aggregate-coordinate : tie.Need-slice-aggregate-coordinate
@@ -98,46 +110,81 @@ slice-aggregate-coordinate-2 : tie.Need-slice-aggregate-coordinate-2
 slice-aggregate-coordinate-2 c = search needs
 
 coordinate-requires : tie.Need-coordinate-requires
-coordinate-requires c κs = let s = c .before .before .before .before .before .before .before .before .before .before .before .before .before .before .before .before .before in
-    let l₀ : length (between 0 17 (s .args .b .now)) ≡ 17 = piece-length (s .args .p) (s .args .c) (s .args .n) (s .args .g .now) (s .args .h .now) (s .args .gh .now) (s .args .b .now) (s .args .e .now) (s .args .s .now) (s .pre) 0 17 (omega arith) (omega arith) in
-    let l₁ : length (between 17 34 (s .args .b .now)) ≡ 17 = piece-length (s .args .p) (s .args .c) (s .args .n) (s .args .g .now) (s .args .h .now) (s .args .gh .now) (s .args .b .now) (s .args .e .now) (s .args .s .now) (s .pre) 17 34 (omega arith) (omega arith) in
-    let l₂ : length (between 34 51 (s .args .b .now)) ≡ 17 = piece-length (s .args .p) (s .args .c) (s .args .n) (s .args .g .now) (s .args .h .now) (s .args .gh .now) (s .args .b .now) (s .args .e .now) (s .args .s .now) (s .pre) 34 51 (omega arith) (omega arith) in
-    times-asks (s .args .p) (s .args .c) (s .args .n) (s .args .g .now) (s .args .h .now) (s .args .gh .now) (s .args .b .now) (s .args .e .now) (s .args .s .now) (s .pre) _ _ _ 0 _ (omega arith) (omega (arith, c .before .before .before .before .before .by2 .ensures .size)) (omega (arith, c .before .before .before .before .before .before .by .ensures .size))
+coordinate-requires c κs =
+    let at5 = c .before .before .before .before .before in
+    let at6 = at5 .before in
+    let s = at6 .before .before .before .before .before .before .before .before .before .before .before in
+    let l₀ : length (between 0 17 (s .args .b .now)) ≡ 17 = piece-length (s .args .p) (s .args .c) (s .args .n) (s .args .g .now) (s .args .h .now) (s .args .gh .now)
+    (s .args .b .now) (s .args .e .now) (s .args .s .now) (s .pre) 0 17 (omega arith) (omega arith) in
+    let l₁ : length (between 17 34 (s .args .b .now)) ≡ 17 = piece-length (s .args .p) (s .args .c) (s .args .n) (s .args .g .now) (s .args .h .now)
+    (s .args .gh .now) (s .args .b .now) (s .args .e .now) (s .args .s .now) (s .pre) 17 34 (omega arith) (omega arith) in
+    let l₂ : length (between 34 51 (s .args .b .now)) ≡ 17 = piece-length (s .args .p) (s .args .c) (s .args .n) (s .args .g .now) (s .args .h .now)
+    (s .args .gh .now) (s .args .b .now) (s .args .e .now) (s .args .s .now) (s .pre) 34 51 (omega arith) (omega arith) in
+    times-asks (s .args .p) (s .args .c) (s .args .n) (s .args .g .now) (s .args .h .now) (s .args .gh .now) (s .args .b .now) (s .args .e .now) (s .args .s .now)
+    (s .pre) _ _ _ 0 _ (omega arith) (omega (arith, at5 .by2 .ensures .size)) (omega (arith, at6 .by .ensures .size))
     (let r : s .args .c + s .args .c + s .args .c ≤ length (s .args .s .now) = s .pre .s-room in let v : s .args .n ≤ s .args .c = s .pre .upto in omega arith)
 
 slice-aggregate-coordinate-3 : tie.Need-slice-aggregate-coordinate-3
 slice-aggregate-coordinate-3 c = search needs
 
 coordinate-requires-2 : tie.Need-coordinate-requires-2
-coordinate-requires-2 c κs = let s = c .before .before .before .before .before .before .before .before .before .before .before .before .before .before .before .before .before .before .before .before .before .before in
-    let l₀ : length (between 0 17 (s .args .b .now)) ≡ 17 = piece-length (s .args .p) (s .args .c) (s .args .n) (s .args .g .now) (s .args .h .now) (s .args .gh .now) (s .args .b .now) (s .args .e .now) (s .args .s .now) (s .pre) 0 17 (omega arith) (omega arith) in
-    let l₁ : length (between 17 34 (s .args .b .now)) ≡ 17 = piece-length (s .args .p) (s .args .c) (s .args .n) (s .args .g .now) (s .args .h .now) (s .args .gh .now) (s .args .b .now) (s .args .e .now) (s .args .s .now) (s .pre) 17 34 (omega arith) (omega arith) in
-    let l₂ : length (between 34 51 (s .args .b .now)) ≡ 17 = piece-length (s .args .p) (s .args .c) (s .args .n) (s .args .g .now) (s .args .h .now) (s .args .gh .now) (s .args .b .now) (s .args .e .now) (s .args .s .now) (s .pre) 34 51 (omega arith) (omega arith) in
-    times-asks (s .args .p) (s .args .c) (s .args .n) (s .args .g .now) (s .args .h .now) (s .args .gh .now) (s .args .b .now) (s .args .e .now) (s .args .s .now) (s .pre) _ _ _ (s .args .c) _ (omega arith) (omega arith) (omega (arith, c .before .before .before .before .before .before .before .before .before .by3 .ensures .size))
-    (let r : s .args .c + s .args .c + s .args .c ≤ length (s .args .s .now) = s .pre .s-room in let v : s .args .n ≤ s .args .c = s .pre .upto in omega (arith, c .before .before .before .before .coordinate .ensures .size))
+coordinate-requires-2 c κs =
+    let at4 = c .before .before .before .before in
+    let at9 = at4 .before .before .before .before .before in
+    let s = at9 .before .before .before .before .before .before .before .before .before .before .before .before .before in
+    let l₀ : length (between 0 17 (s .args .b .now)) ≡ 17 = piece-length (s .args .p) (s .args .c) (s .args .n) (s .args .g .now) (s .args .h .now) (s .args .gh .now)
+    (s .args .b .now) (s .args .e .now) (s .args .s .now) (s .pre) 0 17 (omega arith) (omega arith) in
+    let l₁ : length (between 17 34 (s .args .b .now)) ≡ 17 = piece-length (s .args .p) (s .args .c) (s .args .n) (s .args .g .now) (s .args .h .now)
+    (s .args .gh .now) (s .args .b .now) (s .args .e .now) (s .args .s .now) (s .pre) 17 34 (omega arith) (omega arith) in
+    let l₂ : length (between 34 51 (s .args .b .now)) ≡ 17 = piece-length (s .args .p) (s .args .c) (s .args .n) (s .args .g .now) (s .args .h .now)
+    (s .args .gh .now) (s .args .b .now) (s .args .e .now) (s .args .s .now) (s .pre) 34 51 (omega arith) (omega arith) in
+    times-asks (s .args .p) (s .args .c) (s .args .n) (s .args .g .now) (s .args .h .now) (s .args .gh .now) (s .args .b .now) (s .args .e .now) (s .args .s .now)
+    (s .pre) _ _ _ (s .args .c) _ (omega arith) (omega arith) (omega (arith, at9 .by3 .ensures .size))
+    (let r : s .args .c + s .args .c + s .args .c ≤ length (s .args .s .now) = s .pre .s-room in let v : s .args .n ≤ s .args .c = s .pre .upto in omega (arith, at4 .coordinate .ensures .size))
 
 slice-aggregate-coordinate-4 : tie.Need-slice-aggregate-coordinate-4
 slice-aggregate-coordinate-4 c = search needs
 
 add-coordinate : tie.Need-add-coordinate
-add-coordinate c = let m : c .before .before .before .before .before .before .before .before .before .before .before .before .before .before .before .before .before .before .before .before .before .before .before .before .before .before .args .c ≤ 4096 = c .before .before .before .before .before .before .before .before .before .before .before .before .before .before .before .before .before .before .before .before .before .before .before .before .before .before .pre .most in omega arith
+add-coordinate c =
+    let at26 = c .before .before .before .before .before .before .before .before .before .before .before .before .before .before .before .before .before .before
+    .before .before .before .before .before .before .before .before in
+    let m : at26 .args .c ≤ 4096 = at26 .pre .most in
+    omega arith
 
 coordinate-requires-3 : tie.Need-coordinate-requires-3
-coordinate-requires-3 c κs = let s = c .before .before .before .before .before .before .before .before .before .before .before .before .before .before .before .before .before .before .before .before .before .before .before .before .before .before .before in
-    let l₀ : length (between 0 17 (s .args .b .now)) ≡ 17 = piece-length (s .args .p) (s .args .c) (s .args .n) (s .args .g .now) (s .args .h .now) (s .args .gh .now) (s .args .b .now) (s .args .e .now) (s .args .s .now) (s .pre) 0 17 (omega arith) (omega arith) in
-    let l₁ : length (between 17 34 (s .args .b .now)) ≡ 17 = piece-length (s .args .p) (s .args .c) (s .args .n) (s .args .g .now) (s .args .h .now) (s .args .gh .now) (s .args .b .now) (s .args .e .now) (s .args .s .now) (s .pre) 17 34 (omega arith) (omega arith) in
-    let l₂ : length (between 34 51 (s .args .b .now)) ≡ 17 = piece-length (s .args .p) (s .args .c) (s .args .n) (s .args .g .now) (s .args .h .now) (s .args .gh .now) (s .args .b .now) (s .args .e .now) (s .args .s .now) (s .pre) 34 51 (omega arith) (omega arith) in
-    times-asks (s .args .p) (s .args .c) (s .args .n) (s .args .g .now) (s .args .h .now) (s .args .gh .now) (s .args .b .now) (s .args .e .now) (s .args .s .now) (s .pre) _ _ _ (s .args .c + s .args .c) _ (omega arith) (omega (arith, c .before .before .before .before .before .before .before .before .before .before .before .before .before .by4 .ensures .size)) (omega (arith, c .before .before .before .before .before .before .before .before .before .before .before .before .before .before .by3 .ensures .size))
-    (let r : s .args .c + s .args .c + s .args .c ≤ length (s .args .s .now) = s .pre .s-room in let v : s .args .n ≤ s .args .c = s .pre .upto in omega (arith, c .before .before .before .before .before .before .before .before .before .coordinate .ensures .size, c .before .before .before .before .coordinate2 .ensures .size))
+coordinate-requires-3 c κs =
+    let at4 = c .before .before .before .before in
+    let at9 = at4 .before .before .before .before .before in
+    let at13 = at9 .before .before .before .before in
+    let at14 = at13 .before in
+    let s = at14 .before .before .before .before .before .before .before .before .before .before .before .before .before in
+    let l₀ : length (between 0 17 (s .args .b .now)) ≡ 17 = piece-length (s .args .p) (s .args .c) (s .args .n) (s .args .g .now) (s .args .h .now) (s .args .gh .now)
+    (s .args .b .now) (s .args .e .now) (s .args .s .now) (s .pre) 0 17 (omega arith) (omega arith) in
+    let l₁ : length (between 17 34 (s .args .b .now)) ≡ 17 = piece-length (s .args .p) (s .args .c) (s .args .n) (s .args .g .now) (s .args .h .now)
+    (s .args .gh .now) (s .args .b .now) (s .args .e .now) (s .args .s .now) (s .pre) 17 34 (omega arith) (omega arith) in
+    let l₂ : length (between 34 51 (s .args .b .now)) ≡ 17 = piece-length (s .args .p) (s .args .c) (s .args .n) (s .args .g .now) (s .args .h .now)
+    (s .args .gh .now) (s .args .b .now) (s .args .e .now) (s .args .s .now) (s .pre) 34 51 (omega arith) (omega arith) in
+    times-asks (s .args .p) (s .args .c) (s .args .n) (s .args .g .now) (s .args .h .now) (s .args .gh .now) (s .args .b .now) (s .args .e .now) (s .args .s .now)
+    (s .pre) _ _ _ (s .args .c + s .args .c) _ (omega arith) (omega (arith, at13 .by4 .ensures .size)) (omega (arith, at14 .by3 .ensures .size))
+    (let r : s .args .c + s .args .c + s .args .c ≤ length (s .args .s .now) = s .pre .s-room in let v : s .args .n ≤ s .args .c = s .pre .upto in omega
+    (arith, at9 .coordinate .ensures .size, at4 .coordinate2 .ensures .size))
 
 same-length : tie.Need-same-length
 same-length c = search needs
 
 returns : tie.Need-returns
-returns c = let s = c .before .before .before .before .before .before .before .before .before .before .before .before .before .before .before .before .before .before .before .before .before .before .before .before .before .before .before .before .before .before in
+returns c =
+    let at7 = c .before .before .before .before .before .before .before in
+    let at12 = at7 .before .before .before .before .before in
+    let at16 = at12 .before .before .before .before in
+    let at17 = at16 .before in
+    let at18 = at17 .before in
+    let at19 = at18 .before in
+    let s = at19 .before .before .before .before .before .before .before .before .before .before .before in
     times-made (s .args .p) (s .args .c) (s .args .n) (s .args .g .now) (s .args .h .now) (s .args .gh .now) (s .args .b .now) (s .args .e .now) (s .args .s .now) (s .pre) _ _ _ _ _ _ _
-    (c .before .before .before .before .before .before .before .before .before .before .before .before .before .before .before .before .before .before .before .by .ensures) (c .before .before .before .before .before .before .before .before .before .before .before .before .before .before .before .before .before .before .by2 .ensures) (c .before .before .before .before .before .before .before .before .before .before .before .before .before .before .before .before .before .by3 .ensures) (c .before .before .before .before .before .before .before .before .before .before .before .before .before .before .before .before .by4 .ensures)
-    (c .before .before .before .before .before .before .before .before .before .before .before .before .coordinate .ensures) (c .before .before .before .before .before .before .before .coordinate2 .ensures) (c .before .before .coordinate3 .ensures)
+    (at19 .by .ensures) (at18 .by2 .ensures) (at17 .by3 .ensures) (at16 .by4 .ensures)
+    (at12 .coordinate .ensures) (at7 .coordinate2 .ensures) (c .before .before .coordinate3 .ensures)
 
 pub times-spec : {M : Type 1} → statement M
 times-spec =

@@ -10,14 +10,14 @@ use Rattle.units.proofs.run.Tie as tie
 large-buffer-requires : tie.Need-large-buffer-requires
 large-buffer-requires c κs = search needs
 
-slice-aggregate-turns : tie.Need-slice-aggregate-turns
-slice-aggregate-turns c = search needs
+slice-aggregate-read-all : tie.Need-slice-aggregate-read-all
+slice-aggregate-read-all c = search needs
 
-slice-aggregate-turns-2 : tie.Need-slice-aggregate-turns-2
-slice-aggregate-turns-2 c = search needs
+slice-aggregate-read-all-2 : tie.Need-slice-aggregate-read-all-2
+slice-aggregate-read-all-2 c = search needs
 
-turns-requires : tie.Need-turns-requires
-turns-requires c κs = search needs
+read-all-requires : tie.Need-read-all-requires
+read-all-requires c κs = search needs
 
 finish-requires : tie.Need-finish-requires
 finish-requires c κs = search needs
@@ -42,9 +42,9 @@ run-spec =
     tie.close
     (tie.spec
     large-buffer-requires
-    slice-aggregate-turns
-    slice-aggregate-turns-2
-    turns-requires
+    slice-aggregate-read-all
+    slice-aggregate-read-all-2
+    read-all-requires
     finish-requires
     slice-reshare-prefix-write-all
     slice-aggregate-write-all

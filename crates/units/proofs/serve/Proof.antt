@@ -33,19 +33,37 @@ write-all-requires : tie.Need-write-all-requires Inv-loop μ-loop
 write-all-requires c κs = search needs
 
 same-length : tie.Need-same-length Inv-loop μ-loop
-same-length c = (c .before .before .before .before .before .before .before .pass .kept .0) ∙ (c .before .before .before .before .before .before .before .before .before .before .before .before .loop .inv .0)
+same-length c =
+    let at7 = c .before .before .before .before .before .before .before in
+    let at12 = at7 .before .before .before .before .before in
+    (at7 .pass .kept .0) ∙ (at12 .loop .inv .0)
 
 same-length-2 : tie.Need-same-length-2 Inv-loop μ-loop
-same-length-2 c = (c .before .before .before .before .before .before .before .pass .kept .1 .1 .0) ∙ (c .before .before .before .before .before .before .before .before .before .before .before .before .loop .inv .1)
+same-length-2 c =
+    let at7 = c .before .before .before .before .before .before .before in
+    let at12 = at7 .before .before .before .before .before in
+    (at7 .pass .kept .1 .1 .0) ∙ (at12 .loop .inv .1)
 
 returns : tie.Need-returns Inv-loop μ-loop
 returns c = λ e. absurd (true≢false (sym e))
 
 loop-less : tie.Need-loop-less Inv-loop μ-loop
-loop-less c = let p = (c .before .before .before .before .before .before .before .before .before .before .before .before .before .before .before .before .pre) in let a = (c .before .before .before .before .before .before .before .before .before .before .before .before .loop .inv .1) in let l = (c .before .before .before .before .before .before .before .before .before .before .if1 .taken) in let h = passes-forward (c .before .before .before .before .before .before .before .pass .ensures) l (omega arith) in omega arith
+loop-less c =
+    let at7 = c .before .before .before .before .before .before .before in
+    let at10 = at7 .before .before .before in
+    let at12 = at10 .before .before in
+    let at16 = at12 .before .before .before .before in
+    let p = (at16 .pre) in
+    let a = (at12 .loop .inv .1) in
+    let l = (at10 .if1 .taken) in
+    let h = passes-forward (at7 .pass .ensures) l (omega arith) in
+    omega arith
 
 loop-again : tie.Need-loop-again Inv-loop μ-loop
-loop-again c = ((c .before .before .before .before .before .before .before .pass .kept .0) ∙ (c .before .before .before .before .before .before .before .before .before .before .before .before .loop .inv .0), (c .before .before .before .before .before .before .before .pass .kept .1 .1 .0) ∙ (c .before .before .before .before .before .before .before .before .before .before .before .before .loop .inv .1), heard-more (c .before .before .before .before .before .before .before .before .before .before .before .before .loop .inv .2) (c .before .before .before .before .before .before .before .pass .ensures))
+loop-again c =
+    let at7 = c .before .before .before .before .before .before .before in
+    let at12 = at7 .before .before .before .before .before in
+    ((at7 .pass .kept .0) ∙ (at12 .loop .inv .0), (at7 .pass .kept .1 .1 .0) ∙ (at12 .loop .inv .1), heard-more (at12 .loop .inv .2) (at7 .pass .ensures))
 
 same-length-3 : tie.Need-same-length-3 Inv-loop μ-loop
 same-length-3 c = (c .before .before .loop .inv .0)
