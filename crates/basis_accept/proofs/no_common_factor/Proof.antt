@@ -5,7 +5,7 @@ use Rattle.basis_accept.proofs.Sevens.{alone-yes, alone-no}
 use Rattle.basis_accept.proofs.no_common_factor.Statement.{statement}
 use Rattle.basis_accept.proofs.no_common_factor.Tie as tie
 use Rattle.basis_accept.proofs.no_common_factor.Reads as reads
-use Rattle.basis_accept.proofs.alone.Lts as lts
+use Rattle.basis_accept.proofs.no_common_factor.Lts as lts
 
 gcd-requires : tie.Need-gcd-requires
 gcd-requires c κs =

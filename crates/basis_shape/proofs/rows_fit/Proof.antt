@@ -6,7 +6,7 @@ use Rattle.basis_shape.proofs.Lengths.{too-long, ends-at}
 use Rattle.basis_shape.proofs.rows_fit.Statement.{statement}
 use Rattle.basis_shape.proofs.rows_fit.Tie as tie
 use Rattle.basis_shape.proofs.rows_fit.Reads as reads
-use Rattle.basis_shape.proofs.narrow.Lts as lts
+use Rattle.basis_shape.proofs.rows_fit.Lts as lts
 
 size-requires : tie.Need-size-requires
 size-requires c κs = search needs

@@ -11,7 +11,7 @@ use Rattle.field_fill.proofs.Filling.{short-a, short-b, turned}
 use Rattle.field_fill.proofs.next_pair.Statement.{statement}
 use Rattle.field_fill.proofs.next_pair.Tie as tie
 use Rattle.field_fill.proofs.next_pair.Reads as reads
-use Rattle.field_fill.proofs.turn.Lts as lts
+use Rattle.field_fill.proofs.next_pair.Lts as lts
 use Rattle.field_fill.proofs.coefficient.Reads as coefficient-reads
 use Rattle.field_fill.proofs.next_r.Reads as next-r-reads
 use Rattle.field_fill.proofs.next_w.Reads as next-w-reads

@@ -11,7 +11,7 @@ use borrow.Author.Needs.{needs}
 use Rattle.poly_long.proofs.to_stored.Statement.{statement}
 use Rattle.poly_long.proofs.to_stored.Tie as tie
 use Rattle.poly_long.proofs.to_stored.Reads as reads
-use Rattle.poly_long.proofs.narrow.Lts as lts
+use Rattle.poly_long.proofs.to_stored.Lts as lts
 
 abbrev Inv-loop : tie.InvT-loop
 Inv-loop x r₀ i₀ r i = Filled 32 (λ k. getD x k 0) r i

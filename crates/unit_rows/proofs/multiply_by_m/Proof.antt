@@ -10,7 +10,7 @@ use borrow.Author.Needs.{needs}
 use Rattle.unit_rows.proofs.multiply_by_m.Statement.{statement}
 use Rattle.unit_rows.proofs.multiply_by_m.Tie as tie
 use Rattle.unit_rows.proofs.multiply_by_m.Reads as reads
-use Rattle.unit_rows.proofs.turn.Lts as lts
+use Rattle.unit_rows.proofs.multiply_by_m.Lts as lts
 use Rattle.poly_long.proofs.clear.Reads as clear-reads
 use Rattle.poly_long.proofs.copy.Reads as copy-reads
 use Rattle.unit_rows.proofs.times.Reads as times-reads
