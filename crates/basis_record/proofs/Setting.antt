@@ -1,5 +1,5 @@
 -- The field's two series are the only ones.
---   roots-unique   any two series with a degree that obey r² = H w and r w = G H are r and w
+--   field-roots-unique   any two series with a degree that obey r² = H w and r w = G H are r and w
 use mathlib.Core.Path.{_≡_}
 use mathlib.Core.List.{List}
 use Prim.Native.Nat.{ℕ}
@@ -19,6 +19,6 @@ module _ {p : ℕ} {G H : List ℕ} (A : Accepted p G H) (pr : Prime p) where
   open Ops (𝓥 .L .ops) using (mul as _*_)
 
   infixl 70 _*_
-  pub roots-unique : (n : ℕ) (r w : 𝓥 .L .El) → Has 𝓥 r n
+  pub field-roots-unique : (n : ℕ) (r w : 𝓥 .L .El) → Has 𝓥 r n
       → r * r ≡ row (reading p pr) H * w → r * w ≡ row (reading p pr) G * row (reading p pr) H → (r ≡ roots A pr .r) × (w ≡ roots A pr .w)
-  roots-unique n r w = roots-unique (at (roots A pr)) {n = n} r w
+  field-roots-unique n r w = roots-unique (at (roots A pr)) {n = n} r w

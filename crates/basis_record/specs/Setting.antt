@@ -2,7 +2,7 @@
 --   roots A pr   G and H with the two series r, w of the field, over the series at pr, a proof that p is prime
 --   setting A    the field
 -- Two accepted pairs over one p, at one and the same proof, stand over one ring of series. r and w are those of crate field_roots,
--- proofs/Root.antt: they stay shut, and `roots-unique` in proofs/Setting.antt says that no other two series obey their laws.
+-- proofs/Root.antt: they stay shut, and `field-roots-unique` in proofs/Setting.antt says that no other two series obey their laws.
 use mathlib.Core.List.{List}
 use Prim.Native.Nat.{ℕ, _≤_}
 use native.Mathlib.Omega.{arith}

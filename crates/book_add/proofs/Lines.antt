@@ -2,7 +2,7 @@
 use mathlib.Core.Path.{_≡_, refl, sym, ap, ap₂, _∙_, subst}
 use mathlib.Core.List.{List, _++_}
 use Prim.Native.Nat.{ℕ, zero, suc, _+_, _*_, _<_, _≤_}
-use native.Mathlib.Numerals.{add-unique}
+use native.Mathlib.Numerals.{add-one}
 use native.Mathlib.Omega.{arith}
 use lib.ListN.{length}
 use Rattle.base_lists.specs.Pieces.{Written}
@@ -13,11 +13,11 @@ use Rattle.book_add.specs.Code.{lineEnd, lines}
 
 pub lineEnd-more : (s : List ℕ) (at i : ℕ) → lineEnd s at (i + 1) ≡ lineEnd s at i + lengthAt s i
 unfolding lineEnd
-lineEnd-more s at i = rw add-unique refl
+lineEnd-more s at i = rw add-one refl
 
 lines-suc : (s : List ℕ) (at i : ℕ) → lines s at (i + 1) ≡ lines s at i ++ (le 4 (lineEnd s at i) ++ le 4 (lengthAt s i))
 unfolding lines
-lines-suc s at i = rw add-unique refl
+lines-suc s at i = rw add-one refl
 
 pub lineEnd-first : (s : List ℕ) (at : ℕ) → lineEnd s at 0 ≡ at
 unfolding lineEnd

@@ -2,7 +2,7 @@
 use mathlib.Core.Path.{_≡_, refl, sym, ap, ap₂, _∙_}
 use mathlib.Core.List.{List, [], _∷_, _++_, append-assoc, append-nil}
 use Prim.Native.Nat.{ℕ, zero, suc, _+_, _-_, _*_, _<_, _≤_}
-use native.Mathlib.Numerals.{add-unique}
+use native.Mathlib.Numerals.{add-one}
 use native.Mathlib.Nat.{add-zero}
 use native.Mathlib.Omega.{arith}
 use native.Mathlib.Decide.{decLt}
@@ -144,7 +144,7 @@ module _ (s b : List ℕ) (bs : Bytes s) (bb : Bytes b) (a : Accepted s) (f : Fo
       shift (suc j) =
           let i : lineEnd s (6 + width * suc (count s)) j ≡ 8 + ends s j = shift j in
           let m : ends s (j + 1) ≡ ends s j + lengthAt s j = ends-more s j in
-          let k : ends s (j + 1) ≡ ends s (suc j) = ap (ends s) (add-unique j) in
+          let k : ends s (j + 1) ≡ ends s (suc j) = ap (ends s) (add-one j) in
           omega arith
 
       within : Dec (i < count s) → ends s i ≤ length s

@@ -37,10 +37,8 @@ canceled-requires c κs =
 
 loop-less : tie.Need-loop-less Inv-loop μ-loop
 loop-less c =
-    let at10 = c .before .before .before .before .before .before .before .before .before .before in
-    let at12 = at10 .before .before in
-    let h : c .canceled .result .n < at12 .loop .y2 .n = clear-less (clear-swap (at12 .loop .inv))
-    (at10 .if1 .taken) (omega arith) (c .canceled .ensures) in
+    let h : c .canceled .result .n < c .before .before .before .before .before .before .before .before .before .before .before .before .loop .y2 .n = clear-less (clear-swap (c .before .before .before .before .before .before .before .before .before .before .before .before .loop .inv))
+            (c .before .before .before .before .before .before .before .before .before .before .if1 .taken) (omega arith) (c .canceled .ensures) in
     omega arith
 
 loop-again : tie.Need-loop-again Inv-loop μ-loop

@@ -22,79 +22,43 @@ returns : tie.Need-returns
 returns c = (λ p G H r a b. (subst (ShapeTells _) (c .enum-told .given .1) (c .before .before .shape-of .ensures)) p G H r, refl, refl)
 
 returns-2 : tie.Need-returns-2
-returns-2 c =
-    let at2 = c .before .before in
-    let at4 = at2 .before .before in
-    let at8 = at4 .before .before .before .before in
-    let q : Sound (at8 .args .line .now) (at2 .s .given .0 .0) = subst (ShapeTells _) (at2 .s .given .1) (at4 .shape-of .ensures) in
+returns-2 c = let q : Sound (c .before .before .before .before .before .before .before .before .args .line .now) (c .before .before .s .given .0 .0) = subst (ShapeTells _) (c .before .before .s .given .1) (c .before .before .before .before .shape-of .ensures) in
     (λ p G H r a b. let n = q .count-G in let e = ap length (reads-unique r (q .reads) .1) in omega arith, refl, refl)
 
 returns-3 : tie.Need-returns-3
-returns-3 c =
-    let at3 = c .before .before .before in
-    let at5 = at3 .before .before in
-    let at9 = at5 .before .before .before .before in
-    let q : Sound (at9 .args .line .now) (at3 .s .given .0 .0) = subst (ShapeTells _) (at3 .s .given .1) (at5 .shape-of .ensures) in
+returns-3 c = let q : Sound (c .before .before .before .before .before .before .before .before .before .args .line .now) (c .before .before .before .s .given .0 .0) = subst (ShapeTells _) (c .before .before .before .s .given .1) (c .before .before .before .before .before .shape-of .ensures) in
     (λ p G H r a b. let n = q .count-H in let e = ap length (reads-unique r (q .reads) .2) in omega arith, refl, refl)
 
 sub-fill : tie.Need-sub-fill
-sub-fill c =
-    let at3 = c .before .before .before in
-    let at5 = at3 .before .before in
-    let at9 = at5 .before .before .before .before in
-    let q : Sound (at9 .args .line .now) (at3 .s .given .0 .0) = subst (ShapeTells _) (at3 .s .given .1) (at5 .shape-of .ensures) in
+sub-fill c = let q : Sound (c .before .before .before .before .before .before .before .before .before .args .line .now) (c .before .before .before .s .given .0 .0) = subst (ShapeTells _) (c .before .before .before .s .given .1) (c .before .before .before .before .before .shape-of .ensures) in
     q .G-from
 
 part-fill-start : tie.Need-part-fill-start
-part-fill-start c =
-    let at3 = c .before .before .before in
-    let at5 = at3 .before .before in
-    let at9 = at5 .before .before .before .before in
-    let q : Sound (at9 .args .line .now) (at3 .s .given .0 .0) = subst (ShapeTells _) (at3 .s .given .1) (at5 .shape-of .ensures) in
+part-fill-start c = let q : Sound (c .before .before .before .before .before .before .before .before .before .args .line .now) (c .before .before .before .s .given .0 .0) = subst (ShapeTells _) (c .before .before .before .s .given .1) (c .before .before .before .before .before .shape-of .ensures) in
     q .G-from
 
 part-fill-end : tie.Need-part-fill-end
-part-fill-end c =
-    let at3 = c .before .before .before in
-    let at5 = at3 .before .before in
-    let at9 = at5 .before .before .before .before in
-    let q : Sound (at9 .args .line .now) (at3 .s .given .0 .0) = subst (ShapeTells _) (at3 .s .given .1) (at5 .shape-of .ensures) in
+part-fill-end c = let q : Sound (c .before .before .before .before .before .before .before .before .before .args .line .now) (c .before .before .before .s .given .0 .0) = subst (ShapeTells _) (c .before .before .before .s .given .1) (c .before .before .before .before .before .shape-of .ensures) in
     q .G-to
 
 fill-requires : tie.Need-fill-requires
-fill-requires c κs =
-    let at5 = c .before .before .before .before .before in
-    let at7 = at5 .before .before in
-    let at11 = at7 .before .before .before .before in
-    let q : Sound (at11 .args .line .now) (at5 .s .given .0 .0) = subst (ShapeTells _) (at5 .s .given .1) (at7 .shape-of .ensures) in
-    room-for (at11 .args .g .now) (at5 .s .given .0 .0 .ng) (q .G-text) (q .count-G) (omega arith)
+fill-requires c κs = let q : Sound (c .before .before .before .before .before .before .before .before .before .before .before .args .line .now) (c .before .before .before .before .before .s .given .0 .0) = subst (ShapeTells _) (c .before .before .before .before .before .s .given .1) (c .before .before .before .before .before .before .before .shape-of .ensures) in
+    room-for (c .before .before .before .before .before .before .before .before .before .before .before .args .g .now) (c .before .before .before .before .before .s .given .0 .0 .ng) (q .G-text) (q .count-G) (omega arith)
 
 sub-fill-2 : tie.Need-sub-fill-2
-sub-fill-2 c =
-    let at8 = c .before .before .before .before .before .before .before .before in
-    let at10 = at8 .before .before in
-    let at14 = at10 .before .before .before .before in
-    let q : Sound (at14 .args .line .now) (at8 .s .given .0 .0) = subst (ShapeTells _) (at8 .s .given .1) (at10 .shape-of .ensures) in
+sub-fill-2 c = let q : Sound (c .before .before .before .before .before .before .before .before .before .before .before .before .before .before .args .line .now) (c .before .before .before .before .before .before .before .before .s .given .0 .0) = subst (ShapeTells _) (c .before .before .before .before .before .before .before .before .s .given .1) (c .before .before .before .before .before .before .before .before .before .before .shape-of .ensures) in
     q .H-from
 
 part-fill-start-2 : tie.Need-part-fill-start-2
-part-fill-start-2 c =
-    let at8 = c .before .before .before .before .before .before .before .before in
-    let at10 = at8 .before .before in
-    let at14 = at10 .before .before .before .before in
-    let q : Sound (at14 .args .line .now) (at8 .s .given .0 .0) = subst (ShapeTells _) (at8 .s .given .1) (at10 .shape-of .ensures) in
+part-fill-start-2 c = let q : Sound (c .before .before .before .before .before .before .before .before .before .before .before .before .before .before .args .line .now) (c .before .before .before .before .before .before .before .before .s .given .0 .0) = subst (ShapeTells _) (c .before .before .before .before .before .before .before .before .s .given .1) (c .before .before .before .before .before .before .before .before .before .before .shape-of .ensures) in
     q .H-from
 
 part-fill-end-2 : tie.Need-part-fill-end-2
 part-fill-end-2 c = search needs
 
 fill-requires-2 : tie.Need-fill-requires-2
-fill-requires-2 c κs =
-    let at10 = c .before .before .before .before .before .before .before .before .before .before in
-    let at12 = at10 .before .before in
-    let at16 = at12 .before .before .before .before in
-    let q : Sound (at16 .args .line .now) (at10 .s .given .0 .0) = subst (ShapeTells _) (at10 .s .given .1) (at12 .shape-of .ensures) in
-    room-for (at16 .args .h .now) (at10 .s .given .0 .0 .nh) (q .H-text) (q .count-H) (omega arith)
+fill-requires-2 c κs = let q : Sound (c .before .before .before .before .before .before .before .before .before .before .before .before .before .before .before .before .args .line .now) (c .before .before .before .before .before .before .before .before .before .before .s .given .0 .0) = subst (ShapeTells _) (c .before .before .before .before .before .before .before .before .before .before .s .given .1) (c .before .before .before .before .before .before .before .before .before .before .before .before .shape-of .ensures) in
+    room-for (c .before .before .before .before .before .before .before .before .before .before .before .before .before .before .before .before .args .h .now) (c .before .before .before .before .before .before .before .before .before .before .s .given .0 .0 .nh) (q .H-text) (q .count-H) (omega arith)
 
 same-length : tie.Need-same-length
 same-length c = search needs
@@ -103,12 +67,7 @@ same-length-2 : tie.Need-same-length-2
 same-length-2 c = search needs
 
 returns-4 : tie.Need-returns-4
-returns-4 c =
-    let at7 = c .before .before .before .before .before .before .before in
-    let at13 = at7 .before .before .before .before .before .before in
-    let at15 = at13 .before .before in
-    let at19 = at15 .before .before .before .before in
-    let q : Sound (at19 .args .line .now) (at13 .s .given .0 .0) = subst (ShapeTells _) (at13 .s .given .1) (at15 .shape-of .ensures) in
+returns-4 c = let q : Sound (c .before .before .before .before .before .before .before .before .before .before .before .before .before .before .before .before .before .before .before .args .line .now) (c .before .before .before .before .before .before .before .before .before .before .before .before .before .s .given .0 .0) = subst (ShapeTells _) (c .before .before .before .before .before .before .before .before .before .before .before .before .before .s .given .1) (c .before .before .before .before .before .before .before .before .before .before .before .before .before .before .before .shape-of .ensures) in
     record {
       G = q .G;
       H = q .H;
@@ -117,8 +76,8 @@ returns-4 c =
       count-H = q .count-H;
       room-G = omega arith;
       room-H = omega arith;
-      front-G = front (q .G) (at19 .args .g .now) _ (at13 .s .given .0 .0 .ng) (q .count-G) (at7 .fill .ensures (q .G) (q .G-text));
-      front-H = front (q .H) (at19 .args .h .now) _ (at13 .s .given .0 .0 .nh) (q .count-H) (c .before .before .fill2 .ensures (q .H) (q .H-text));
+      front-G = front (q .G) (c .before .before .before .before .before .before .before .before .before .before .before .before .before .before .before .before .before .before .before .args .g .now) _ (c .before .before .before .before .before .before .before .before .before .before .before .before .before .s .given .0 .0 .ng) (q .count-G) (c .before .before .before .before .before .before .before .fill .ensures (q .G) (q .G-text));
+      front-H = front (q .H) (c .before .before .before .before .before .before .before .before .before .before .before .before .before .before .before .before .before .before .before .args .h .now) _ (c .before .before .before .before .before .before .before .before .before .before .before .before .before .s .given .0 .0 .nh) (q .count-H) (c .before .before .fill2 .ensures (q .H) (q .H-text));
     }
 
 pub parse-spec : {M : Type 1} → statement M
