@@ -24,7 +24,7 @@ use Rattle.door_walk.proofs.Order.{from-order-unique}
 use Rattle.door_unit.proofs.Once.{makes-unique}
 use Rattle.door_compare.specs.declared.CompareAnswer.{CompareAnswer}
 use Rattle.door_compare.proofs.Once.{compares-unique}
-use Rattle.capi.specs.PeriodAnswer.{Left, OrderTells, StepTells, WalkTells, FromOrderTells, UnitTells, asNumber, OneFieldTells}
+use Rattle.capi.specs.Told.{Left, OrderTells, StepTells, WalkTells, FromOrderTells, UnitTells, asNumber, OneFieldTells}
 use Rattle.capi.specs.Books.{CheckSays, ListSays, WriteSays, AddSays, AttestSays}
 
 -- ---- what is lent

@@ -146,7 +146,7 @@ module _ {F : Frame} {q : Pair} {d x1 y1 B B′ : List ℕ} (μ : Meaning F) (h 
   kept : (c v : K .El) (z z′ : L .El) (m n : ℕ) → c ≢ K .ops .𝟎 → v ≢ K .ops .𝟎 → 𝓥 .Lead z m 0 v → 𝓥 .Lead z′ n 0 v → z′ ≡ const c ⊗ z → const c ≡ 𝟏
   kept c v z z′ m n hc hv l l′ e =
       ap const (k-cancel 𝓥 v c (K .ops .𝟏) hv
-      (K .laws .mul-comm v c ∙ leads-unique 𝓥 (m, 0, k-domain 𝓥 c v hc hv, lead-eq 𝓥 (lead-scale (rd μ) c l) (sym e) refl) (n, 0, hv, l′) ∙ sym (K .laws .mul-unique v)))
+      (K .laws .mul-comm v c ∙ leads-unique 𝓥 (m, 0, k-domain 𝓥 c v hc hv, lead-eq 𝓥 (lead-scale (rd μ) c l) (sym e) refl) (n, 0, hv, l′) ∙ sym (K .laws .mul-one v)))
       ∙ rd μ .const-one
 
   a-one : const (scaled .a) ≡ 𝟏

@@ -73,7 +73,7 @@ module _ {p : ℕ} (pr : Prime p) {x0 x2 y0 y2 : List ℕ} where
       let (h′, unit) = w .alone h e₁ e₂ e₃ e₄ in
       let (q, e) = comb-divides 𝓥 (w′ .g) (w .g) four h comb
       ((P (o′ .a0), sym (w .x0-eq) ∙ w′ .x0-eq), ((P (o′ .a2), sym (w .x2-eq) ∙ w′ .x2-eq), ((P (o′ .b0), sym (w .y0-eq) ∙ w′ .y0-eq), ((P (o′ .b2), sym (w .y2-eq) ∙ w′ .y2-eq), tt)))) in
-      (R .ops .mul q h′, sym (R .laws .mul-unique (w .g)) ∙ ap (λ t. R .ops .mul (w .g) t) unit ∙ sym (R .laws .mul-assoc (w .g) h h′) ∙ ap (λ t. R .ops .mul t h′) e ∙ R .laws .mul-assoc (w′ .g) q h′)
+      (R .ops .mul q h′, sym (R .laws .mul-one (w .g)) ∙ ap (λ t. R .ops .mul (w .g) t) unit ∙ sym (R .laws .mul-assoc (w .g) h h′) ∙ ap (λ t. R .ops .mul t h′) e ∙ R .laws .mul-assoc (w′ .g) q h′)
 
   pub taken-off-unique : (o o′ : Four) → Without p pr x0 x2 y0 y2 o → Without p pr x0 x2 y0 y2 o′ → Multiples pr o o′
   taken-off-unique o o′ w w′ =

@@ -99,7 +99,7 @@ module _ (𝓥 : Valued) where
   divisors g h (a, e) (b, f) = go (view 𝓥 g) (view 𝓥 h)
     where
       go : (g .0 ≡ 𝓥 .L .ops .𝟎) ⊎ ((n : ℕ) × Has 𝓥 (g .0) n) → (h .0 ≡ 𝓥 .L .ops .𝟎) ⊎ ((n : ℕ) × Has 𝓥 (h .0) n) → (v : Poly 𝓥) × IsUnit 𝓥 v × (h ≡ polys 𝓥 .ops .mul g v)
-      go (inl z) y = (polys 𝓥 .ops .𝟏, (polys 𝓥 .ops .𝟏, sym (polys 𝓥 .laws .mul-unique (polys 𝓥 .ops .𝟏))), P-path 𝓥 {a = h} {b = g} (zero-divides 𝓥 g h z (a, e) ∙ sym z) ∙ sym (polys 𝓥 .laws .mul-unique g))
+      go (inl z) y = (polys 𝓥 .ops .𝟏, (polys 𝓥 .ops .𝟏, sym (polys 𝓥 .laws .mul-one (polys 𝓥 .ops .𝟏))), P-path 𝓥 {a = h} {b = g} (zero-divides 𝓥 g h z (a, e) ∙ sym z) ∙ sym (polys 𝓥 .laws .mul-one g))
       go (inr (m, x)) (inl z) = absurd (not-zero 𝓥 x (zero-divides 𝓥 h g z (b, f)))
       go (inr (m, x)) (inr (n, y)) =
           let (i, s, p) = factor 𝓥 g a h x y e in

@@ -19,7 +19,7 @@ use Rattle.door_transfer.specs.Transfer.{Goes, unfit, carried, Transfers}
 use Rattle.door_transfer.proofs.Once.{transfers-unique}
 use Rattle.pair_theory.proofs.Refused.{accept-carry}
 use Rattle.pair_answers.proofs.UnitRows.{rows-way, rows-below, holds-over}
-use Rattle.pair_answers.proofs.UnitAnswer.{made-rows}
+use Rattle.pair_answers.proofs.Made.{made-rows}
 
 pub transferred-holds : (p : ℕ) {G H G′ H′ : List ℕ} {l d c : ℕ} {r r₁ : List ℕ}
     → Holds p G H l d c r → Transfers p G H G′ H′ r 0 r₁ → Holds p G′ H′ l d c r₁
