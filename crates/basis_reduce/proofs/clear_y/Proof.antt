@@ -38,7 +38,7 @@ canceled-requires c κs =
 loop-less : tie.Need-loop-less Inv-loop μ-loop
 loop-less c =
     let h : c .canceled .result .n < c .before .before .before .before .before .before .before .before .before .before .before .before .loop .y2 .n = clear-less (clear-swap (c .before .before .before .before .before .before .before .before .before .before .before .before .loop .inv))
-            (c .before .before .before .before .before .before .before .before .before .before .if1 .taken) (omega arith) (c .canceled .ensures) in
+    (c .before .before .before .before .before .before .before .before .before .before .if1 .taken) (omega arith) (c .canceled .ensures) in
     omega arith
 
 loop-again : tie.Need-loop-again Inv-loop μ-loop
