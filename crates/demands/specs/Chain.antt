@@ -49,5 +49,7 @@ module _ (S : Setting) where
     pub N2 : Lt 𝓥 (B .N .c .0) (suc (dGH S))
 
 pub record Demand3 : Type 0 where
-  pub after : {p : ℕ} {G H : List ℕ} (A : Accepted p G H) (B₀ : Basis (setting A)) → Start (setting A) B₀ → {s d : ℕ} {B : Basis (setting A)} (c : Chain (setting A) B₀ s d B) → After (setting A) c
-  pub exactly-one : {p : ℕ} {G H : List ℕ} (A : Accepted p G H) (B₀ : Basis (setting A)) {l d : ℕ} {E F : O (setting A) .El} → UnitOf (setting A) B₀ l d E F → O (setting A) .ops .mul E F ≡ O (setting A) .ops .𝟏
+  pub after : {p : ℕ} {G H : List ℕ} (A : Accepted p G H) (B₀ : Basis (setting A)) → Start (setting A) B₀
+      → {s d : ℕ} {B : Basis (setting A)} (c : Chain (setting A) B₀ s d B) → After (setting A) c
+  pub exactly-one : {p : ℕ} {G H : List ℕ} (A : Accepted p G H) (B₀ : Basis (setting A)) {l d : ℕ} {E F : O (setting A) .El}
+      → UnitOf (setting A) B₀ l d E F → O (setting A) .ops .mul E F ≡ O (setting A) .ops .𝟏

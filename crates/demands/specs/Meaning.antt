@@ -42,18 +42,27 @@ pub record BackFirst (S : Setting) (B₀ : Basis S) (l d : ℕ) : Type 0 where
 
 pub record Demand2 : Type 0 where
   -- one ideal, one record
-  pub one-basis : {p : ℕ} {G H : List ℕ} (A : Accepted p G H) (B B′ : List ℕ) → IsRecord p G H B → IsRecord p G H B′ → Same (setting A) (basisOf A B) (basisOf A B′) → B ≡ B′
+  pub one-basis : {p : ℕ} {G H : List ℕ} (A : Accepted p G H) (B B′ : List ℕ) → IsRecord p G H B → IsRecord p G H B′
+      → Same (setting A) (basisOf A B) (basisOf A B′) → B ≡ B′
   -- what is handed out: by `order`, the basis of the whole order; by `step`, that of the ideal divided by m; by `walk`, that of the ideal at
   -- the chain's end
   pub order-basis : {p : ℕ} {G H : List ℕ} (o : OrderAnswer) → Orders p G H o → o .refusal ≡ 0 → IsFirst p G H (o .basis)
-  pub step-basis : {p : ℕ} {G H B : List ℕ} (s : StepAnswer) → Answers p G H B s → s .refusal ≡ 0 → IsRecord p G H (s .basis) × ((A : Accepted p G H) → Next (setting A) (basisOf A B) (basisOf A (s .basis)))
-  pub walk-basis : {p n : ℕ} {G H B : List ℕ} (w : WalkAnswer) → Walks p G H n B w → (w .refusal ≡ 0) ⊎ (w .refusal ≡ 10) → Reaches p G H B (w .steps) (w .sum) (w .basis)
+  pub step-basis : {p : ℕ} {G H B : List ℕ} (s : StepAnswer) → Answers p G H B s → s .refusal ≡ 0
+      → IsRecord p G H (s .basis) × ((A : Accepted p G H) → Next (setting A) (basisOf A B) (basisOf A (s .basis)))
+  pub walk-basis : {p n : ℕ} {G H B : List ℕ} (w : WalkAnswer) → Walks p G H n B w → (w .refusal ≡ 0) ⊎ (w .refusal ≡ 10)
+      → Reaches p G H B (w .steps) (w .sum) (w .basis)
   -- period and regulator, of a walk from the order and beside a unit
-  pub period : {p n : ℕ} {G H : List ℕ} (o : PeriodAnswer) → FromOrder p G H n o → o .refusal ≡ 0 → (A : Accepted p G H) (B₀ : Basis (setting A)) → Start (setting A) B₀ → BackFirst (setting A) B₀ (o .period .0) (o .regulator .0 + o .regulator .0)
+  pub period : {p n : ℕ} {G H : List ℕ} (o : PeriodAnswer) → FromOrder p G H n o → o .refusal ≡ 0
+      → (A : Accepted p G H) (B₀ : Basis (setting A)) → Start (setting A) B₀
+      → BackFirst (setting A) B₀ (o .period .0) (o .regulator .0 + o .regulator .0)
   -- the unit: E from the first three rows, its inverse from the last three, c coefficients each
-  pub unit : {p n : ℕ} {G H rows scratch rows′ scratch′ : List ℕ} (m : UnitAnswer) → Makes p G H n rows scratch m rows′ scratch′ → m .refusal ≡ 0 → (c : ℕ) × ((A : Accepted p G H) (B₀ : Basis (setting A)) → Start (setting A) B₀ → UnitOf (setting A) B₀ (m .period .0) (m .regulator .0 + m .regulator .0) (six A c 0 rows′) (six A c (c + c + c) rows′))
+  pub unit : {p n : ℕ} {G H rows scratch rows′ scratch′ : List ℕ} (m : UnitAnswer)
+      → Makes p G H n rows scratch m rows′ scratch′ → m .refusal ≡ 0
+      → (c : ℕ) × ((A : Accepted p G H) (B₀ : Basis (setting A)) → Start (setting A) B₀
+      → UnitOf (setting A) B₀ (m .period .0) (m .regulator .0 + m .regulator .0) (six A c 0 rows′) (six A c (c + c + c) rows′))
   -- the book
   pub written-accepted : (bs : List Body) → Obeys bs → book.Accepted (bookBytes bs)
-  pub reads-back : (bs : List Body) → Obeys bs → (book.count (bookBytes bs) ≡ length bs) × ((i : ℕ) → i < length bs → book.entry (bookBytes bs) i ≡ at bs i)
+  pub reads-back : (bs : List Body) → Obeys bs
+      → (book.count (bookBytes bs) ≡ length bs) × ((i : ℕ) → i < length bs → book.entry (bookBytes bs) i ≡ at bs i)
   pub accepted-written : (s : List ℕ) → Bytes s → book.Accepted s → Obeys (valueOf s) × (bookBytes (valueOf s) ≡ s)
   pub one-writing : (bs cs : List Body) → Obeys bs → Obeys cs → bookBytes bs ≡ bookBytes cs → bs ≡ cs

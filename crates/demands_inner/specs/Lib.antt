@@ -1,58 +1,65 @@
 -- Tightness: for each public function, by the crate that has it, the theorem that two outcomes which meet its contract at one input are
 -- equal: result, and contents of each lent slice after the call. Functions that are not named have a contract that is an equation.
---   num_mod       inverse, cube_root: inverse-one, cube-root-one (num_mod/proofs/Unique); add_product, mod p: add-product-unique (Poly)
---   prime         is_prime: is-prime-unique (Poly)
---   poly_rows     size_from, size: size-unique; from_list: from-list-unique; for a prime p: minus, mul: minus-unique, mul-unique;
---                 scale_in, cross_in: scale-in-unique, cross-in-unique (Poly)
---   poly_factors  squarefree, coprime: squarefree-unique, coprime-unique; gcd, up to a constant: gcd-unique (Poly)
---   poly_lent     for a prime p: mix_in, both_in, times_in, det_in, quotient_in, less_in, divide_in: mix-in-unique, both-in-unique,
---                 times-in-unique, det-in-unique, quotient-in-unique, less-in-unique, divide-in-unique (Sized)
---   poly_content  taken_off, up to a constant: taken-off-unique (Lattice)
---   field         list_length: list-one (field/proofs/Parts); refusal: refusal-one; open: opens-one (field/proofs)
---   pairs         one_field: decides-unique (base_answers/proofs/Tests); paired, refusal, compare: pairs-unique, refusals-one, compares-one (pairs/proofs/Once)
---   series        series, open_with_series: answer-one, expands-one (series/proofs/Answer)
---   basis_parts   part: part-unique; lead_of, where the size has a degree: lead-of-unique (Reduction)
---   basis_reduce  reduced, up to constants: reduced-unique (Reduction)
---   step_divide   divided, up to a constant: divided-unique, and its lengths: divided-lengths (Generators)
---   basis_record  load, stored: load-unique, stored-unique (Bases)
---   basis_lattice lengths_of, coordinates, member: lengths-of-unique, coordinates-unique, member-unique (Lattice)
---   basis_closed  under: under-unique (Tests)
---   basis         reduced_basis, order: reduced-basis-unique, order-unique (Bases)
---   shape         below, narrow, shape: decides-unique (base_answers/proofs/Tests)
---   accepts       accepts: accepts-unique (Tests)
---   basis_field   order_basis: first-unique (Steps)
---   door_basis    order, check: orders-one, checks-one (door_basis/proofs/Answer)
---   step_next     advanced, next_in_field: advanced-unique, next-unique (Steps)
---   door_step     step: answers-one (door_step/proofs/Answers)
---   walk_chain    go, walk_in_field: go-unique, walked-unique (Steps)
---   door_walk     from_order, walk: from-order-one, walks-one (door_walk/proofs/Order, walk_chain/proofs/Walk)
---   walk_in_place     put: puts-one (walk_in_place/proofs/Once)
---   long          size: size-unique (Poly); mix, times, for a prime p: mix-unique, times-unique; scale: scale-unique; quotient, where there is one that
---                 fits: quotient-unique (Long)
---   six           monic: monic-unique; turn, where `Turnable`: turn-unique (Long)
---   six_invert    invert: invert-unique (Long)
---   unit          unit: makes-one (unit/proofs/Once)
---   transfer      transfer: transfers-one (transfer/proofs/Once)
---   book_bytes    read_list, put_two, put_four, put_list, copy_in, lift: written-unique (base_lists/proofs/Puts)
---   book_body     period_of: period-of-unique (Bytes); list_of: got-one (book_body/proofs/One)
---   book_rule     body_rule, unit_list, first_list: decides-unique (base_answers/proofs/Tests)
---   book_field    of_field: decides-unique (base_answers/proofs/Tests); field_refusal: field-refusal-unique (Bytes)
---   book_contents marked, listed: decides-unique (base_answers/proofs/Tests)
---   book          check, ask_answer: check-unique, ask-answer-unique (Bytes); ask, earlier, judge: part-unique, earliest-one, judge-one (book/proofs/One)
---   book_add      may_add, add: verdict-one, added-one (book_add/proofs/One)
---   book_attest   attest: attestation-one (book_attest/proofs/One)
---   book_asked    ask: ask-says-one (book_asked/proofs/Once)
---   book_write    write_body: wrote-one (book_write/proofs/One)
---   text_put      put_byte, put_bytes, put_number, put_list, put_refused: placed-unique (base_lists/proofs/Puts)
---   text_cut      cut: cut-unique (text_cut/proofs/Steps)
---   text_number   number, list_size: number-unique, size-unique (text_number/proofs/Answers)
---   text_read     parse: parse-unique (text_read/proofs/Answers)
---   lister_print  put_made, finish: placed-unique (base_lists/proofs/Puts)
---   lister        answer, pass: answer-one, passes-one (lister/proofs/Once)
---   capi          zaminuk_refusal, zaminuk_series, zaminuk_check, zaminuk_transfer: refusal-one, answer-one, checks-one, transfers-one as
---                 above; zaminuk_order, zaminuk_step, zaminuk_walk, zaminuk_from_order, zaminuk_unit, zaminuk_one_field: order-tells-one,
---                 step-tells-one, walk-tells-one, from-order-tells-one, unit-tells-one, one-field-tells-one; zaminuk_book_check, _attest,
---                 _write, _add, zaminuk_body_list: check-says-one, attest-says-one, write-says-one, add-says-one, list-says-one
---                 (capi/proofs/Once); zaminuk_book_ask: ask-says-one as above
+--   num_mod        inverse, cube_root: inverse-unique, cube-root-unique (num_mod/proofs/Unique); add_product, mod p: add-product-unique (Poly)
+--   num_prime      is_prime: is-prime-unique (Poly)
+--   base_lists     list_length: list-unique (base_lists/proofs/Coefs)
+--   poly_rows      size_from, size: size-unique; from_list: from-list-unique; for a prime p: minus, mul: minus-unique, mul-unique;
+--                  scale_in, cross_in: scale-in-unique, cross-in-unique (Poly)
+--   poly_factors   squarefree, coprime: squarefree-unique, coprime-unique; gcd, up to a constant: gcd-unique (Poly)
+--   poly_lent      for a prime p: mix_in, both_in, times_in, det_in, quotient_in, less_in, divide_in: mix-in-unique, both-in-unique,
+--                  times-in-unique, det-in-unique, quotient-in-unique, less-in-unique, divide-in-unique (Sized)
+--   poly_content   without_content, up to a constant: taken-off-unique (Lattice)
+--   poly_long      size: size-unique (Poly); mix, times, for a prime p: mix-unique, times-unique; scale: scale-unique; quotient, where
+--                  there is one that fits: quotient-unique (Long)
+--   field_open     list_length: list-unique (base_lists/proofs/Coefs); refusal: refusal-unique (field_open/proofs/Stages); open:
+--                  opens-unique (field_open/proofs/Opening)
+--   field_fill     grow: grow-unique (Steps)
+--   field_series   series, open_with_series: answer-unique, expands-unique (field_series/proofs/Answer)
+--   pair_agree     one_field: decides-unique (base_answers/proofs/Tests); paired: pairs-unique (pair_agree/proofs/Once)
+--   basis_record   load, stored: load-unique, stored-unique (Bases)
+--   basis_parts    floor: part-unique; lead_of, where the size has a degree: lead-of-unique (Reduction)
+--   basis_reduce   reduced, up to constants: reduced-unique (Reduction)
+--   basis_scale    reduced_basis, order: reduced-basis-unique, order-unique (Bases)
+--   basis_lattice  lengths_of, coordinates, member: lengths-of-unique, coordinates-unique, member-unique (Lattice)
+--   basis_shape    below, rows_fit, shape: decides-unique (base_answers/proofs/Tests)
+--   basis_closed   closed_under_r_and_w: under-unique (Tests)
+--   basis_accept   accepts: accepts-unique (Tests)
+--   basis_field    order_basis: first-unique (Steps)
+--   step_divide    next_generators, up to a constant: divided-unique, and its lengths: divided-lengths (Generators)
+--   step_next      step_on_rows, step_in_field: advanced-unique, next-unique (Steps)
+--   walk_chain     walk_on_rows, walk_in_field: go-unique, walked-unique (Steps)
+--   unit_rows      monic: monic-unique; multiply_by_m, where `Turnable`: turn-unique (Long)
+--   unit_inverse   invert: invert-unique (Long)
+--   unit_make      make: make-unique (Steps)
+--   door_basis     order, check: orders-unique, checks-unique (door_basis/proofs/Answer)
+--   door_step      step: answers-unique (door_step/proofs/Answers)
+--   door_walk      from_order, walk: from-order-unique, walks-unique (door_walk/proofs/Order, walk_chain/proofs/Walk)
+--   door_unit      unit: makes-unique (door_unit/proofs/Once)
+--   door_compare   refusal, compare: refusals-unique, compares-unique (door_compare/proofs/Once)
+--   door_transfer  transfer: transfers-unique (door_transfer/proofs/Once)
+--   book_bytes     read_list, put_two, put_four, put_list, copy_in, lift: written-unique (base_lists/proofs/Puts)
+--   book_body      period_of: period-of-unique (Bytes); list_of: got-unique (book_body/proofs/One)
+--   book_rule      body_rule, unit_list, first_list: decides-unique (base_answers/proofs/Tests)
+--   book_field     of_field: decides-unique (base_answers/proofs/Tests); field_refusal: field-refusal-unique (Bytes)
+--   book_contents  marked, listed: decides-unique (base_answers/proofs/Tests)
+--   book_check     check, ask_answer: check-unique, ask-answer-unique (Bytes); ask, earlier, judge: part-unique, earliest-unique,
+--                  judge-unique (book_check/proofs/One)
+--   book_add       may_add, add: verdict-unique, added-unique (book_add/proofs/One)
+--   book_attest    attest: attestation-unique (book_attest/proofs/One)
+--   book_write     write_body: wrote-unique (book_write/proofs/One)
+--   book_place     ask: ask-says-unique (book_place/proofs/Once)
+--   text_put       put_byte, put_bytes, put_number, put_list, put_refused: placed-unique (base_lists/proofs/Puts)
+--   text_cut       next_line: cut-unique (text_cut/proofs/Steps)
+--   text_number    number, list_size: number-unique, size-unique (text_number/proofs/Answers)
+--   text_read      parse: parse-unique (text_read/proofs/Answers)
+--   lister_print   put_made, finish: placed-unique (base_lists/proofs/Puts)
+--   lister         answer, pass: answer-unique, passes-unique (lister/proofs/Once)
+--   capi_walk      put: puts-unique (capi_walk/proofs/Once)
+--   capi           zaminuk_refusal, zaminuk_series, zaminuk_check, zaminuk_transfer: refusal-unique, answer-unique, checks-unique,
+--                  transfers-unique as above; zaminuk_order, zaminuk_step, zaminuk_walk, zaminuk_from_order, zaminuk_unit,
+--                  zaminuk_one_field: order-tells-unique, step-tells-unique, walk-tells-unique, from-order-tells-unique,
+--                  unit-tells-unique, one-field-tells-unique; zaminuk_book_check, _attest, _write, _add, zaminuk_body_list:
+--                  check-says-unique, attest-says-unique, write-says-unique, add-says-unique, list-says-unique (capi/proofs/Once);
+--                  zaminuk_book_ask: ask-says-unique as above
 pub mod Turnable
 pub mod UpTo

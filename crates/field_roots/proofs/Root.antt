@@ -3,7 +3,7 @@
 --   root-r, root-w      the two series; they stay shut
 --   root-pair           r² = H w, r w = G H, and r has degree degR and leads with leadR
 --   G-has .. w-degree   the four degrees
--- That no other two series obey the two laws is `roots-only` of crate basis_record.
+-- That no other two series obey the two laws is `field-roots-unique` of crate basis_record.
 use mathlib.Core.Path.{_≡_, refl, sym, ap, ap₂, _∙_}
 use mathlib.Core.Logic.{_≢_}
 use mathlib.Core.List.{List, [], _∷_}

@@ -9,7 +9,7 @@
 --   RowsCarry                 six rows of c numbers, E0, E1, E2, F0, F1, F2, of the one pair and of the other
 --   RecordCarries             a record of 119 numbers, M0, M1, M2, N0, N1, N2, U, of the one pair and of the other: m carries over, n with
 --                             the other sign where the pairs are exchanged
--- In proofs/Laws: `law-unique`, the leading coefficients settle x and y. In crate door_transfer: `rows-one`, and so the rows; `there-and-back`, rows
+-- In proofs/Laws: `law-unique`, the leading coefficients settle x and y. In crate door_transfer: `rows-unique`, and so the rows; `there-and-back`, rows
 -- carried over and back are the rows.
 use mathlib.Core.Path.{_≡_}
 use mathlib.Core.List.{List}

@@ -3,7 +3,7 @@
 --   Quotient   q, with a − q b of lower degree than b
 --   Exact      the polynomial w with b w = a, if there is one: a quotient is it (`exact-made` in proofs/Division.antt)
 --   Divided    a = q b + r, with r of lower degree than b; there is one such pair: `divided-unique` in proofs/Division.antt
---   digit      Digit: one coefficient of a quotient
+--   Digit      one coefficient of a quotient
 use mathlib.Core.Path.{_≡_}
 use mathlib.Core.List.{List}
 use Prim.Native.Nat.{ℕ, _+_, _-_, _*_, _%_, _<_, _≤_}

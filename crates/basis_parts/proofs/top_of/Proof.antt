@@ -1,4 +1,4 @@
--- `basis_parts::top_of` meets its contract: the lemmas `seek` of Tops.
+-- `basis_parts::top_of` meets its contract: the lemmas of Tops that begin with seek.
 use mathlib.Core.Path.{refl}
 use Prim.Native.Nat.{_*_, _≤_, _<_}
 use native.Mathlib.Omega.{arith}
