@@ -87,4 +87,7 @@ returns-2 c =
     (c .before .before .before .size6 .ensures) (c .before .before .size7 .ensures) (c .before .ordered .ensures .no! (c .if1 .left)))
 
 pub shape-spec : {M : Type 1} → statement M
-shape-spec = tie.close (tie.spec size-requires size-requires-2 size-requires-3 size-requires-4 size-requires-5 size-requires-6 size-requires-7 ordered-requires sub-units mul-units element-copy-out-units sub-units-2 mul-units-2 element-copy-out-units-2 sub-units-3 mul-units-3 element-copy-out-units-3 units-requires returns returns-2)
+shape-spec =
+    tie.close (tie.spec size-requires size-requires-2 size-requires-3 size-requires-4 size-requires-5 size-requires-6 size-requires-7 ordered-requires sub-units
+    mul-units element-copy-out-units sub-units-2 mul-units-2 element-copy-out-units-2 sub-units-3 mul-units-3 element-copy-out-units-3 units-requires returns
+    returns-2)

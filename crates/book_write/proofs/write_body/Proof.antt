@@ -19,7 +19,13 @@ rule-of-requires : tie.Need-rule-of-requires
 rule-of-requires c κs = search needs
 
 returns-2 : tie.Need-returns-2
-returns-2 c = let a = c .before .before .before .before .before .before .before .before .before .before .args in let b = bodyFrom (a .p) (a .g .now) (a .h .now) (a .period .0) (a .a .now) (a .b .now) (a .c .now) in (rule (says-none b _ (c .before .before .if1 .left) (c .before .before .before .refusal .ensures)) (λ r. c .before .rule-of .ensures .no! (not-true _ (c .if2 .taken)) (rule-any (a .p) (a .g .now) (a .h .now) [] [] (a .period .0) (a .a .now) (a .b .now) (a .c .now) r)) refl refl, tt)
+returns-2 c =
+    let a = c .before .before .before .before .before .before .before .before .before .before .args in let b = bodyFrom (a .p) (a .g .now) (a .h .now) (a .period .0)
+    (a .a .now) (a .b .now) (a .c .now) in (
+      rule (says-none b _ (c .before .before .if1 .left) (c .before .before .before .refusal .ensures)) (λ r. c .before .rule-of
+          .ensures .no! (not-true _ (c .if2 .taken)) (rule-any (a .p) (a .g .now) (a .h .now) [] [] (a .period .0) (a .a .now) (a .b .now) (a .c .now) r)) refl refl,
+      tt,
+    )
 
 mul-size : tie.Need-mul-size
 mul-size c = search needs
@@ -52,19 +58,44 @@ add-size-5 : tie.Need-add-size-5
 add-size-5 c = search needs
 
 returns-3 : tie.Need-returns-3
-returns-3 c = let a = c .before .before .before .before .before .before .before .before .before .before .before .args in let b = bodyFrom (a .p) (a .g .now) (a .h .now) (a .period .0) (a .a .now) (a .b .now) (a .c .now) in let k = known (a .p) (a .g .now) (a .h .now) (a .period .0) (a .a .now) (a .b .now) (a .c .now) _ (c .before .before .before .if1 .left) (c .before .before .before .before .refusal .ensures) (c .before .before .rule-of .ensures .yes! (not-false _ (c .before .if2 .left))) in (short (k .field) (k .rule) (let e = long-body b in omega arith) refl refl, tt)
+returns-3 c =
+    let a = c .before .before .before .before .before .before .before .before .before .before .before .args in let b = bodyFrom (a .p) (a .g .now) (a .h .now)
+    (a .period .0) (a .a .now) (a .b .now) (a .c .now) in let k = known (a .p) (a .g .now) (a .h .now) (a .period .0) (a .a .now) (a .b .now) (a .c .now) _
+    (c .before .before .before .if1 .left) (c .before .before .before .before .refusal .ensures)
+    (c .before .before .rule-of .ensures .yes! (not-false _ (c .before .if2 .left))) in
+    (short (k .field) (k .rule) (let e = long-body b in omega arith) refl refl, tt)
 
 put-head-requires : tie.Need-put-head-requires
-put-head-requires c κs = let a = c .before .before .before .before .before .before .before .before .before .before .before .before .args in let b = bodyFrom (a .p) (a .g .now) (a .h .now) (a .period .0) (a .a .now) (a .b .now) (a .c .now) in let k = known (a .p) (a .g .now) (a .h .now) (a .period .0) (a .a .now) (a .b .now) (a .c .now) _ (c .before .before .before .before .if1 .left) (c .before .before .before .before .before .refusal .ensures) (c .before .before .before .rule-of .ensures .yes! (not-false _ (c .before .before .if2 .left))) in head-of b _ k (omega arith)
+put-head-requires c κs =
+    let a = c .before .before .before .before .before .before .before .before .before .before .before .before .args in let b = bodyFrom (a .p) (a .g .now) (a .h .now)
+    (a .period .0) (a .a .now) (a .b .now) (a .c .now) in let k = known (a .p) (a .g .now) (a .h .now) (a .period .0) (a .a .now) (a .b .now) (a .c .now) _
+    (c .before .before .before .before .if1 .left) (c .before .before .before .before .before .refusal .ensures)
+    (c .before .before .before .rule-of .ensures .yes! (not-false _ (c .before .before .if2 .left))) in head-of b _ k (omega arith)
 
 put-lists-requires : tie.Need-put-lists-requires
-put-lists-requires c κs = let a = c .before .before .before .before .before .before .before .before .before .before .before .before .before .before .before .before .args in let b = bodyFrom (a .p) (a .g .now) (a .h .now) (a .period .0) (a .a .now) (a .b .now) (a .c .now) in let k = known (a .p) (a .g .now) (a .h .now) (a .period .0) (a .a .now) (a .b .now) (a .c .now) _ (c .before .before .before .before .before .before .before .before .if1 .left) (c .before .before .before .before .before .before .before .before .before .refusal .ensures) (c .before .before .before .before .before .before .before .rule-of .ensures .yes! (not-false _ (c .before .before .before .before .before .before .if2 .left))) in lists-of b (a .out .now) _ _ _ k (omega arith) (c .before .before .before .put-head .ensures)
+put-lists-requires c κs =
+    let a = c .before .before .before .before .before .before .before .before .before .before .before .before .before .before .before .before .args in let b =
+    bodyFrom (a .p) (a .g .now) (a .h .now) (a .period .0) (a .a .now) (a .b .now) (a .c .now) in let k = known (a .p) (a .g .now) (a .h .now) (a .period .0)
+    (a .a .now) (a .b .now) (a .c .now) _ (c .before .before .before .before .before .before .before .before .if1 .left)
+    (c .before .before .before .before .before .before .before .before .before .refusal .ensures)
+    (c .before .before .before .before .before .before .before .rule-of .ensures .yes! (not-false _ (c .before .before .before .before .before .before .if2 .left)))
+    in lists-of b (a .out .now) _ _ _ k (omega arith) (c .before .before .before .put-head .ensures)
 
 same-length : tie.Need-same-length
 same-length c = search needs
 
 returns-4 : tie.Need-returns-4
-returns-4 c = let a = c .before .before .before .before .before .before .before .before .before .before .before .before .before .before .before .before .before .before .before .args in let b = bodyFrom (a .p) (a .g .now) (a .h .now) (a .period .0) (a .a .now) (a .b .now) (a .c .now) in let k = known (a .p) (a .g .now) (a .h .now) (a .period .0) (a .a .now) (a .b .now) (a .c .now) _ (c .before .before .before .before .before .before .before .before .before .before .before .if1 .left) (c .before .before .before .before .before .before .before .before .before .before .before .before .refusal .ensures) (c .before .before .before .before .before .before .before .before .before .before .rule-of .ensures .yes! (not-false _ (c .before .before .before .before .before .before .before .before .before .if2 .left))) in (done-of b (a .out .now) _ _ _ _ (k .field) (k .rule) (omega arith) (c .before .before .before .before .before .before .put-head .ensures) (c .before .before .put-lists .ensures), tt)
+returns-4 c =
+    let a = c .before .before .before .before .before .before .before .before .before .before .before .before .before .before .before .before .before .before .before
+    .args in let b = bodyFrom (a .p) (a .g .now) (a .h .now) (a .period .0) (a .a .now) (a .b .now) (a .c .now) in let k = known (a .p) (a .g .now) (a .h .now) (a
+    .period .0) (a .a .now) (a .b .now) (a .c .now) _ (c .before .before .before .before .before .before .before .before .before .before .before .if1 .left) (c
+    .before .before .before .before .before .before .before .before .before .before .before .before .refusal .ensures) (c .before .before .before .before .before
+    .before .before .before .before .before .rule-of .ensures .yes!
+    (not-false _ (c .before .before .before .before .before .before .before .before .before .if2 .left))) in (
+      done-of b (a .out .now) _ _ _ _ (k .field) (k .rule)
+          (omega arith) (c .before .before .before .before .before .before .put-head .ensures) (c .before .before .put-lists .ensures),
+      tt,
+    )
 
 pub write-body-spec : {M : Type 1} → statement M
 write-body-spec =

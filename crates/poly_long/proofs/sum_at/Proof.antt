@@ -68,7 +68,9 @@ left c = omega (arith, c .before .shared-slice-known .given (c .before .before .
 right : (c : C) → getD (c .before .before .before .before .before .before .before .args .y .now) (c .before .before .before .before .before .before .before .args .k - c .before .before .before .before .loop .i) 0 < 65536
 right c = omega (arith, c .shared-slice-known2 .given (c .before .before .before .before .before .before .before .args .k - c .before .before .before .before .loop .i))
 
-small : (c : C) → getD (c .before .before .before .before .before .before .before .args .x .now) (c .before .before .before .before .loop .i) 0 * getD (c .before .before .before .before .before .before .before .args .y .now) (c .before .before .before .before .before .before .before .args .k - c .before .before .before .before .loop .i) 0 ≤ 4294836225
+small : (c : C) → getD (c .before .before .before .before .before .before .before .args .x .now) (c .before .before .before .before .loop .i) 0 * getD
+    (c .before .before .before .before .before .before .before .args .y .now)
+    (c .before .before .before .before .before .before .before .args .k - c .before .before .before .before .loop .i) 0 ≤ 4294836225
 small c = product-small _ _ (left c) (right c)
 
 mul-s-3 : tie.Need-mul-s-3 Inv-loop μ-loop

@@ -10,7 +10,10 @@ use Rattle.step_next.proofs.parted.Statement.{statement}
 use Rattle.step_next.proofs.parted.Tie as tie
 
 -- the seven rows
-seven-loaded : (c : tie.After-load7) → SevenLoaded (c .before .before .before .before .before .before .before .args .b .now) (seven (c .before .before .before .before .before .before .load .result) (c .before .before .before .before .before .load2 .result) (c .before .before .before .before .load3 .result) (c .before .before .before .load4 .result) (c .before .before .load5 .result) (c .before .load6 .result) (c .load7 .result))
+seven-loaded : (c : tie.After-load7) → SevenLoaded (c .before .before .before .before .before .before .before .args .b .now) (seven
+    (c .before .before .before .before .before .before .load .result) (c .before .before .before .before .before .load2 .result)
+    (c .before .before .before .before .load3 .result) (c .before .before .before .load4 .result) (c .before .before .load5 .result) (c .before .load6 .result)
+    (c .load7 .result))
 seven-loaded c =
     let at4 = c .before .before .before .before in
     let at5 = at4 .before in

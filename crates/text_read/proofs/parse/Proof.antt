@@ -42,23 +42,39 @@ part-fill-end c = let q : Sound (c .before .before .before .before .before .befo
     q .G-to
 
 fill-requires : tie.Need-fill-requires
-fill-requires c κs = let q : Sound (c .before .before .before .before .before .before .before .before .before .before .before .args .line .now) (c .before .before .before .before .before .s .given .0 .0) = subst (ShapeTells _) (c .before .before .before .before .before .s .given .1) (c .before .before .before .before .before .before .before .shape-of .ensures) in
+fill-requires c κs =
+    let q : Sound (c .before .before .before .before .before .before .before .before .before .before .before .args .line .now)
+    (c .before .before .before .before .before .s .given .0 .0) = subst (ShapeTells _) (c .before .before .before .before .before .s .given .1)
+    (c .before .before .before .before .before .before .before .shape-of .ensures) in
     room-for (c .before .before .before .before .before .before .before .before .before .before .before .args .g .now) (c .before .before .before .before .before .s .given .0 .0 .ng) (q .G-text) (q .count-G) (omega arith)
 
 sub-fill-2 : tie.Need-sub-fill-2
-sub-fill-2 c = let q : Sound (c .before .before .before .before .before .before .before .before .before .before .before .before .before .before .args .line .now) (c .before .before .before .before .before .before .before .before .s .given .0 .0) = subst (ShapeTells _) (c .before .before .before .before .before .before .before .before .s .given .1) (c .before .before .before .before .before .before .before .before .before .before .shape-of .ensures) in
+sub-fill-2 c =
+    let q : Sound (c .before .before .before .before .before .before .before .before .before .before .before .before .before .before .args .line .now)
+    (c .before .before .before .before .before .before .before .before .s .given .0 .0) = subst (ShapeTells _)
+    (c .before .before .before .before .before .before .before .before .s .given .1)
+    (c .before .before .before .before .before .before .before .before .before .before .shape-of .ensures) in
     q .H-from
 
 part-fill-start-2 : tie.Need-part-fill-start-2
-part-fill-start-2 c = let q : Sound (c .before .before .before .before .before .before .before .before .before .before .before .before .before .before .args .line .now) (c .before .before .before .before .before .before .before .before .s .given .0 .0) = subst (ShapeTells _) (c .before .before .before .before .before .before .before .before .s .given .1) (c .before .before .before .before .before .before .before .before .before .before .shape-of .ensures) in
+part-fill-start-2 c =
+    let q : Sound (c .before .before .before .before .before .before .before .before .before .before .before .before .before .before .args .line .now)
+    (c .before .before .before .before .before .before .before .before .s .given .0 .0) = subst (ShapeTells _)
+    (c .before .before .before .before .before .before .before .before .s .given .1)
+    (c .before .before .before .before .before .before .before .before .before .before .shape-of .ensures) in
     q .H-from
 
 part-fill-end-2 : tie.Need-part-fill-end-2
 part-fill-end-2 c = search needs
 
 fill-requires-2 : tie.Need-fill-requires-2
-fill-requires-2 c κs = let q : Sound (c .before .before .before .before .before .before .before .before .before .before .before .before .before .before .before .before .args .line .now) (c .before .before .before .before .before .before .before .before .before .before .s .given .0 .0) = subst (ShapeTells _) (c .before .before .before .before .before .before .before .before .before .before .s .given .1) (c .before .before .before .before .before .before .before .before .before .before .before .before .shape-of .ensures) in
-    room-for (c .before .before .before .before .before .before .before .before .before .before .before .before .before .before .before .before .args .h .now) (c .before .before .before .before .before .before .before .before .before .before .s .given .0 .0 .nh) (q .H-text) (q .count-H) (omega arith)
+fill-requires-2 c κs =
+    let q : Sound (c .before .before .before .before .before .before .before .before .before .before .before .before .before .before .before .before .args .line .now)
+    (c .before .before .before .before .before .before .before .before .before .before .s .given .0 .0) = subst (ShapeTells _)
+    (c .before .before .before .before .before .before .before .before .before .before .s .given .1)
+    (c .before .before .before .before .before .before .before .before .before .before .before .before .shape-of .ensures) in
+    room-for (c .before .before .before .before .before .before .before .before .before .before .before .before .before .before .before .before .args .h .now)
+    (c .before .before .before .before .before .before .before .before .before .before .s .given .0 .0 .nh) (q .H-text) (q .count-H) (omega arith)
 
 same-length : tie.Need-same-length
 same-length c = search needs
@@ -67,7 +83,11 @@ same-length-2 : tie.Need-same-length-2
 same-length-2 c = search needs
 
 returns-4 : tie.Need-returns-4
-returns-4 c = let q : Sound (c .before .before .before .before .before .before .before .before .before .before .before .before .before .before .before .before .before .before .before .args .line .now) (c .before .before .before .before .before .before .before .before .before .before .before .before .before .s .given .0 .0) = subst (ShapeTells _) (c .before .before .before .before .before .before .before .before .before .before .before .before .before .s .given .1) (c .before .before .before .before .before .before .before .before .before .before .before .before .before .before .before .shape-of .ensures) in
+returns-4 c =
+    let q : Sound (c .before .before .before .before .before .before .before .before .before .before .before .before .before .before .before .before .before .before
+    .before .args .line .now) (c .before .before .before .before .before .before .before .before .before .before .before .before .before .s .given .0 .0) = subst
+    (ShapeTells _) (c .before .before .before .before .before .before .before .before .before .before .before .before .before .s .given .1) (c .before .before .before
+    .before .before .before .before .before .before .before .before .before .before .before .before .shape-of .ensures) in
     record {
       G = q .G;
       H = q .H;
@@ -76,8 +96,12 @@ returns-4 c = let q : Sound (c .before .before .before .before .before .before .
       count-H = q .count-H;
       room-G = omega arith;
       room-H = omega arith;
-      front-G = front (q .G) (c .before .before .before .before .before .before .before .before .before .before .before .before .before .before .before .before .before .before .before .args .g .now) _ (c .before .before .before .before .before .before .before .before .before .before .before .before .before .s .given .0 .0 .ng) (q .count-G) (c .before .before .before .before .before .before .before .fill .ensures (q .G) (q .G-text));
-      front-H = front (q .H) (c .before .before .before .before .before .before .before .before .before .before .before .before .before .before .before .before .before .before .before .args .h .now) _ (c .before .before .before .before .before .before .before .before .before .before .before .before .before .s .given .0 .0 .nh) (q .count-H) (c .before .before .fill2 .ensures (q .H) (q .H-text));
+      front-G = front (q .G) (c .before .before .before .before .before .before .before .before .before .before .before .before .before .before .before .before
+          .before .before .before .args .g .now) _ (c .before .before .before .before .before .before .before .before .before .before .before .before .before .s .given .0
+          .0 .ng) (q .count-G) (c .before .before .before .before .before .before .before .fill .ensures (q .G) (q .G-text));
+      front-H = front (q .H) (c .before .before .before .before .before .before .before .before .before .before .before .before .before .before .before .before
+          .before .before .before .args .h .now) _ (c .before .before .before .before .before .before .before .before .before .before .before .before .before .s .given .0
+          .0 .nh) (q .count-H) (c .before .before .fill2 .ensures (q .H) (q .H-text));
     }
 
 pub parse-spec : {M : Type 1} → statement M

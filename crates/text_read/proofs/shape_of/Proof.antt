@@ -174,4 +174,7 @@ returns-6 c =
     }
 
 pub shape-of-spec : {M : Type 1} → statement M
-shape-of-spec = tie.close (tie.spec returns fields-requires enum-known-f enum-told returns-2 add-a add-b slice-aggregate-number number-requires enum-known-first enum-told-2 returns-3 sub-list-size part-list-size-start part-list-size-end list-size-requires enum-known-second enum-told-3 returns-4 sub-list-size-2 part-list-size-start-2 part-list-size-end-2 list-size-requires-2 enum-known-third enum-told-4 returns-5 returns-6)
+shape-of-spec =
+    tie.close (tie.spec returns fields-requires enum-known-f enum-told returns-2 add-a add-b slice-aggregate-number number-requires enum-known-first enum-told-2
+    returns-3 sub-list-size part-list-size-start part-list-size-end list-size-requires enum-known-second enum-told-3 returns-4 sub-list-size-2 part-list-size-start-2
+    part-list-size-end-2 list-size-requires-2 enum-known-third enum-told-4 returns-5 returns-6)
