@@ -1,9 +1,9 @@
 // The C interface where the archive's x86-64 code cannot be linked: a process that has it (serve.c) runs under an emulator, and each
 // function here is a request to that process. serve.c says what requests and answers are.
 use self::Arg::{Given, Lent, Number};
+use std::cell::RefCell;
 use std::io::{Read, Write};
 use std::process::{Child, Command, Stdio};
-use std::sync::Mutex;
 use std::{mem, slice};
 
 #[cfg(not(all(target_endian = "little", target_pointer_width = "64")))]
@@ -45,12 +45,17 @@ fn start() -> Child {
     command.arg("target/tests/serve").stdin(Stdio::piped()).stdout(Stdio::piped()).spawn().expect("tests/machine")
 }
 
-static SERVER: Mutex<Option<Child>> = Mutex::new(None);
+thread_local! {
+    /// A process for each thread that asks.
+    static SERVER: RefCell<Option<Child>> = const { RefCell::new(None) };
+}
 
 /// Sends words, and waits for as many. Where they do not come the tests are over.
 fn asked(words: &[u8]) -> Vec<u8> {
-    let mut server = SERVER.lock().expect("a process that answers");
-    let child = server.get_or_insert_with(start);
+    SERVER.with_borrow_mut(|server| asked_of(server.get_or_insert_with(start), words))
+}
+
+fn asked_of(child: &mut Child, words: &[u8]) -> Vec<u8> {
     let (to, from) = (child.stdin.as_mut().expect("its input"), child.stdout.as_mut().expect("its output"));
     let mut answer = vec![0; words.len()];
     let request = [&(words.len() / 8).to_le_bytes(), words].concat();

@@ -1,6 +1,6 @@
 // Vector files by name. A file whose kind is not known is reported and skipped.
 use crate::api::{Field, Record};
-use crate::{books, lister, pairs, units};
+use crate::{books, lister, pairs, units, Job};
 use std::fs;
 
 /// What a case says went wrong, or nothing.
@@ -257,37 +257,43 @@ pub fn names(dir: &str) -> Vec<String> {
     names
 }
 
-/// Every file of a folder.
-pub fn folder(dir: &str) -> (usize, usize) {
-    let (mut passed, mut failed) = (0, 0);
+/// What is run of a file, by its kind; nothing for an output that stands beside its input.
+fn job(path: String, kind: &str) -> Option<Job> {
+    let case: fn(&str) -> Verdict = match kind {
+        "openings.txt" => opening_case,
+        "series.txt" => series_case,
+        "series-refused.txt" => series_refused_case,
+        "orders.txt" => order_case,
+        "bases.txt" => basis_case,
+        "steps.txt" => step_case,
+        "walks.txt" => walk_case,
+        "walks-from.txt" => walk_from_case,
+        "units.txt" => units::unit_case,
+        "unit-calls.txt" => units::call_case,
+        "unit-lengths.txt" => units::lengths_case,
+        "periods.txt" => period_case,
+        "pairs.txt" => pairs::pair_case,
+        "e3-transfer.txt" => pairs::transfer_case,
+        "books.txt" | "e3-books.txt" => return Some(Box::new(move || books::file(&path))),
+        k if k.starts_with("lister") && k.ends_with(".in") => return Some(Box::new(move || lister::file(&path))),
+        k if k.starts_with("lister") && k.ends_with(".out") => return None,
+        _ => {
+            println!("{}: not known, skipped", path);
+            return None;
+        }
+    };
+    Some(Box::new(move || lines(&path, case)))
+}
+
+/// A job for every file of a folder whose kind is known, the largest first.
+pub fn folder(dir: &str) -> Vec<Job> {
+    let mut paths: Vec<(u64, String, String)> = Vec::new();
     for name in names(dir) {
         let path = format!("{}/{}", dir, name);
-        let kind = name.splitn(2, '-').nth(1).unwrap_or("");
-        let (a, b) = match kind {
-            "openings.txt" => lines(&path, opening_case),
-            "series.txt" => lines(&path, series_case),
-            "series-refused.txt" => lines(&path, series_refused_case),
-            "orders.txt" => lines(&path, order_case),
-            "bases.txt" => lines(&path, basis_case),
-            "steps.txt" => lines(&path, step_case),
-            "walks.txt" => lines(&path, walk_case),
-            "walks-from.txt" => lines(&path, walk_from_case),
-            "units.txt" => lines(&path, units::unit_case),
-            "unit-calls.txt" => lines(&path, units::call_case),
-            "unit-lengths.txt" => lines(&path, units::lengths_case),
-            "periods.txt" => lines(&path, period_case),
-            "pairs.txt" => lines(&path, pairs::pair_case),
-            "e3-transfer.txt" => lines(&path, pairs::transfer_case),
-            "books.txt" | "e3-books.txt" => books::file(&path),
-            k if k.starts_with("lister") && k.ends_with(".in") => lister::file(&path),
-            k if k.starts_with("lister") && k.ends_with(".out") => (0, 0),
-            _ => {
-                println!("{}: not known, skipped", path);
-                (0, 0)
-            }
-        };
-        passed += a;
-        failed += b;
+        let size = fs::metadata(&path).map_or(0, |m| m.len());
+        let kind = name.splitn(2, '-').nth(1).unwrap_or("").to_string();
+        paths.push((size, path, kind));
     }
-    (passed, failed)
+    paths.sort_by_key(|p| std::cmp::Reverse(p.0));
+    paths.into_iter().filter_map(|(_, path, kind)| job(path, &kind)).collect()
 }

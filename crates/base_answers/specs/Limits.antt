@@ -3,8 +3,13 @@
 --   longest        the most coefficients of a row of a unit, and of a series
 --   longest-six    the most numbers of a unit's six rows
 --   blank          119 zeros: the record beside a refusal
+--   Over m n r     r says whether n is over the limit m
+--   SixRows n      n is a length of six equal rows of at most 4,096 numbers; NoSixRows n r: r says whether it is none
+-- In proofs/Limits.antt: `over-yes`, `over-no`, `six-of`, what an answer says; `over-unique`, `no-six-unique`, that the number settles it.
+use mathlib.Core.Path.{_≡_}
+use mathlib.Core.Bool.{Bool, true, false}
 use mathlib.Core.List.{List}
-use Prim.Native.Nat.{ℕ}
+use Prim.Native.Nat.{ℕ, _%_, _≤_, _<_}
 use lib.ListN.{replicate}
 
 abbrev pub most : ℕ
@@ -19,3 +24,14 @@ longest-six = 24576
 
 abbrev pub blank : List ℕ
 blank = replicate 119 0
+
+abbrev pub Over : ℕ → ℕ → Bool → Type 0
+Over m n true = m < n
+Over m n false = n ≤ m
+
+abbrev pub SixRows : ℕ → Type 0
+SixRows n = (n % 6 ≡ 0) × (n ≤ longest-six)
+
+abbrev pub NoSixRows : ℕ → Bool → Type 0
+NoSixRows n true = SixRows n → ⊥
+NoSixRows n false = SixRows n

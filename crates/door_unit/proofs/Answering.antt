@@ -34,13 +34,13 @@ use Rattle.door_unit.specs.Fit.{Rule}
 -- ---- lengths and budget
 module _ (rows scratch : List ℕ) (n : ℕ) where
   lent-of : Rule (length rows) (length scratch) n → Lent (length rows / 6) rows scratch n
-  lent-of (a, b, c, d) = record { room = omega arith; whole = omega arith; even = a; budget = d }
+  lent-of (a, (b, c), d) = record { room = omega arith; whole = omega arith; even = a; budget = d }
 
   lent-not : (Rule (length rows) (length scratch) n → ⊥) → (c : ℕ) → Lent c rows scratch n → ⊥
   lent-not f c l =
       let w : length rows ≡ 6 * c = l .whole in
       let r : c ≤ longest = l .room in
-      f (l .even, omega arith, omega arith, l .budget)
+      f (l .even, (omega arith, omega arith), l .budget)
 
 -- the walk from the order's record is the walk from the order
 module _ {p : ℕ} {G H B : List ℕ} (first : IsFirst p G H B) where
@@ -95,7 +95,7 @@ module _ {p : ℕ} {G H : List ℕ} {n : ℕ} {rows scratch : List ℕ} {e : Ope
   makes-goes g = door-goes (expands-number (k .opens)) (k .zero) g
 
   pub walked-at : WalkInFieldAsks (e .cubic) b n
-  walked-at = record { G = G; H = H; keeps = kept-at; is-record = first-q .is-record; within = k .rule .3 }
+  walked-at = record { G = G; H = H; keeps = kept-at; is-record = first-q .is-record; within = k .rule .2 }
 
   -- ---- after the walk
   module _ (w : WalkAnswer) (out : WalkInFieldGives (e .cubic) b n w) where

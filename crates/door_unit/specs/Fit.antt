@@ -3,11 +3,11 @@
 --   Unfit n m k r   r says whether they are out of it
 use mathlib.Core.Path.{_≡_}
 use mathlib.Core.Bool.{Bool, true, false}
-use Prim.Native.Nat.{ℕ, _%_, _≤_}
-use Rattle.base_answers.specs.Limits.{most, longest-six}
+use Prim.Native.Nat.{ℕ, _≤_}
+use Rattle.base_answers.specs.Limits.{most, SixRows}
 
 abbrev pub Rule : ℕ → ℕ → ℕ → Type 0
-Rule n m k = (m ≡ n) × (n % 6 ≡ 0) × (n ≤ longest-six) × (k ≤ most)
+Rule n m k = (m ≡ n) × SixRows n × (k ≤ most)
 
 abbrev pub Unfit : ℕ → ℕ → ℕ → Bool → Type 0
 Unfit n m k true = Rule n m k → ⊥

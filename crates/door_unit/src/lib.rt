@@ -1,6 +1,8 @@
 // The unit of a field and its inverse, with all refusals. specs/Unit.antt says what the answer and the two lent slices are.
 use base_answers::Period;
 use base_answers::Regulator;
+use base_answers::no_six_rows;
+use base_answers::over_budget;
 ghost use Rattle.door_unit.specs.Unit.{refusal, Makes};
 ghost use Rattle.door_unit.specs.Fit.{Unfit};
 ghost use mathlib.Core.Path.{_≡_};
@@ -19,16 +21,11 @@ fn unfit(n: usize, m: usize, budget: u64) -> bool
     if n != m {
         return true;
     }
-    if n % 6 != 0 {
+    let odd = no_six_rows(n);
+    if odd {
         return true;
     }
-    if n > 24576 {
-        return true;
-    }
-    if budget > 1000000 {
-        return true;
-    }
-    false
+    over_budget(budget)
 }
 
 // A refusal: the other results are 0.

@@ -1,6 +1,7 @@
 // The public walks: from a record, and from the order. specs/ has their contracts.
 use base_answers::Period;
 use base_answers::Regulator;
+use base_answers::over_budget;
 use basis_accept::accepts;
 use walk_chain::WalkAnswer;
 use walk_chain::walk_in_field;
@@ -35,7 +36,8 @@ pub fn from_order(p: u64, g: &[u64], h: &[u64], budget: u64) -> PeriodAnswer
     if n != 0 {
         return refused(n);
     }
-    if budget > 1000000 {
+    let over = over_budget(budget);
+    if over {
         return refused(14);
     }
     let c = e.cubic;
@@ -74,7 +76,8 @@ pub fn walk(p: u64, g: &[u64], h: &[u64], rows: [u16; 119], budget: u64) -> Walk
     if n != 0 {
         return no_walk(n);
     }
-    if budget > 1000000 {
+    let over = over_budget(budget);
+    if over {
         return no_walk(14);
     }
     let c = e.cubic;

@@ -1,5 +1,6 @@
 // The series of r and w: `series` writes them into lent slices; `open_with_series` opens a field and keeps their first 32 coefficients with
 // it. Both refuse what they cannot do; specs/Answer.antt has their contracts. The filling itself is in crate field_fill.
+use base_answers::over_longest;
 ghost use mathlib.Core.Path.{_≡_};
 ghost use Rattle.field_open.specs.Opening as F;
 ghost use Rattle.field_series.specs.Keeps.{Holding};
@@ -18,8 +19,6 @@ pub struct OpenedAnswer {
     pub cubic: OpenedField,
 }
 
-const LONGEST: usize = 4096;
-
 // The first coefficients of r and of w into two lent slices of equal length.
 pub fn series(p: u64, g: &[u64], h: &[u64], r: &mut [u16], w: &mut [u16]) -> u32
     ensures { λ n. ⌜ Answer p (now (g .entry)) (now (h .entry)) (now (r .entry)) (now (w .entry)) (now (r .exit)) (now (w .exit)) n ⌝ }
@@ -31,7 +30,8 @@ pub fn series(p: u64, g: &[u64], h: &[u64], r: &mut [u16], w: &mut [u16]) -> u32
     if w.len() != r.len() {
         return 14;
     }
-    if r.len() > LONGEST {
+    let long = over_longest(r.len());
+    if long {
         return 14;
     }
     field_fill::grow(p, g, h, r, w);

@@ -5,6 +5,7 @@ use borrow.Author.Needs.{needs}
 use lib.ListN.{length}
 use Rattle.field_open.specs.Refusal.{Refusal}
 use Rattle.field_open.proofs.Accept.{accepted}
+use Rattle.base_answers.proofs.Limits.{over-yes, over-no}
 use Rattle.field_series.specs.Answer.{Fits}
 use Rattle.field_series.proofs.Answer.{refused, wrong, done}
 use Rattle.field_series.proofs.series.Statement.{statement}
@@ -24,11 +25,16 @@ returns-2 : tie.Need-returns-2
 returns-2 c = wrong (c .before .before .refusal .ensures) (omega arith) (λ f. c .if2 .taken (f .even))
 
 returns-3 : tie.Need-returns-3
-returns-3 c = wrong (c .before .before .before .refusal .ensures) (omega arith) (λ f. omega (arith, f .short, c .if3 .taken))
+returns-3 c =
+    let l = over-yes (c .before .over-longest .ensures) (c .if3 .taken) in
+    wrong (c .before .before .before .before .refusal .ensures) (omega arith) (λ f. omega (arith, f .short, l))
+
+over-longest-requires : tie.Need-over-longest-requires
+over-longest-requires c κs = search needs
 
 grow-requires : tie.Need-grow-requires
-grow-requires c κs = record {
-  accepted = accepted _ _ _ (subst (Refusal _ _ _) (omega arith) (c .before .before .before .before .before .refusal .ensures));
+grow-requires c κs = let l = over-no (c .before .before .before .over-longest .ensures) (c .before .before .if3 .left) in record {
+  accepted = accepted _ _ _ (subst (Refusal _ _ _) (omega arith) (c .before .before .before .before .before .before .refusal .ensures));
   even = omega arith;
   near = omega arith;
 }
@@ -41,8 +47,10 @@ same-length-2 c = search needs
 
 returns-4 : tie.Need-returns-4
 returns-4 c =
-    let a = c .before .before .before .before .before .before .before .before .before .before in
-    done (a .refusal .ensures) (omega arith) (record { even = omega arith; short = omega arith }) (c .before .before .before .before .grow .ensures)
+    let g = c .before .before .before .before in
+    let l = over-no (g .before .before .before .before .over-longest .ensures) (g .before .before .before .if3 .left) in
+    let a = g .before .before .before .before .before .before .before in
+    done (a .refusal .ensures) (omega arith) (record { even = omega arith; short = omega arith }) (g .grow .ensures)
 
 pub series-spec : {M : Type 1} → statement M
 series-spec =
@@ -51,6 +59,7 @@ series-spec =
     refusal-requires
     returns
     returns-2
+    over-longest-requires
     returns-3
     grow-requires
     same-length
