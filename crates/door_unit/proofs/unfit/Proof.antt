@@ -11,9 +11,9 @@ use Rattle.door_unit.proofs.unfit.Statement.{statement}
 use Rattle.door_unit.proofs.unfit.Tie as tie
 
 -- the budget is what is left to be tested
-last : {n m k : ℕ} (r : Bool) → m ≡ n → SixRows n → Over most k r → Unfit n m k r
-last true e s o = λ q. absurd (omega (arith, q .2, o))
-last false e s o = (e, s, o)
+last : {n m : ℕ} (k : ℕ) (r : Bool) → m ≡ n → SixRows n → Over most k r → Unfit n m k r
+last k true e s o = λ q. absurd (omega (arith, q .2, o))
+last k false e s o = (e, s, o)
 
 returns : tie.Need-returns
 returns c = λ r. absurd (omega (arith, r .0))
@@ -30,7 +30,8 @@ over-budget-requires c κs = search needs
 returns-3 : tie.Need-returns-3
 returns-3 c =
     let at2 = c .before .before in
-    last _ (omega arith) (six-of (at2 .no-six-rows .ensures) (c .before .if2 .left)) (c .over-budget .ensures)
+    let a = at2 .before .before .args in
+    last {n = a .n} {m = a .m} (a .budget) (c .over-budget .result) (omega arith) (six-of (at2 .no-six-rows .ensures) (c .before .if2 .left)) (c .over-budget .ensures)
 
 pub unfit-spec : {M : Type 1} → statement M
 unfit-spec = tie.close (tie.spec returns no-six-rows-requires returns-2 over-budget-requires returns-3)
