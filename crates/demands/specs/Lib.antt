@@ -3,3 +3,4 @@ pub mod Meaning
 pub mod Chain
 pub mod Smallest
 pub mod SameField
+pub mod Tabled
