@@ -5,3 +5,4 @@ pub mod Demand3
 pub mod Smallest
 pub mod SameField
 pub mod Tabled
+pub mod TakenUp

@@ -4,3 +4,4 @@ pub mod Chain
 pub mod Smallest
 pub mod SameField
 pub mod Tabled
+pub mod TakenUp
