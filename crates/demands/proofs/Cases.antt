@@ -125,7 +125,9 @@ module _ (p n : ℕ) (G H rows scratch rows′ scratch′ : List ℕ) (m : UnitA
   unit-accepted z = door-out (λ k f l e. let q = refused-number e in absurd (f (sym q ∙ z))) (λ A _. A) h
 
 -- the rows are the unit of the chain, with the period and the regulator told
-pub success-unit : (p : ℕ) (G H rows : List ℕ) (m : UnitAnswer) {l d c : ℕ} {scratch scratch′ : List ℕ} → unit.Success p G H l d c scratch m rows scratch′ →
+pub success-unit :
+    (p : ℕ) (G H rows : List ℕ) (m : UnitAnswer) {l d c : ℕ} {scratch scratch′ : List ℕ} →
+    unit.Success p G H l d c scratch m rows scratch′ →
     (A : Accepted p G H) (B₀ : Basis (setting A)) → Start (setting A) B₀ →
     UnitOf (setting A) B₀ (m .period .0) (m .regulator .0 + m .regulator .0) (six A c 0 rows) (six A c (c + c + c) rows)
 success-unit p G H rows m {l} {d} {c} r A B₀ st =

@@ -29,7 +29,7 @@ use Rattle.book_check.proofs.Value.{book-back, book-obeys}
 use Rattle.book_check.proofs.Written.{writing-accepted, written-count, reads-back, one-value}
 use Rattle.demands.specs.Meaning.{BackFirst, UnitRows, Demand2}
 use Rattle.demands.proofs.Cases.{walk-closed, walk-reaches, told-closed, unit-made, success-unit}
-use Rattle.demands.proofs.Tabled.{order-tabled, check-tabled, step-tabled, walk-tabled, period-tabled, unit-tabled, order-closing}
+use Rattle.demands.proofs.Tabled.{order-tabled, series-tabled, check-tabled, step-tabled, walk-tabled, period-tabled, unit-tabled, order-closing}
 use Rattle.demands.proofs.TakenUp.{together, together-agrees}
 
 -- ---- the step
@@ -53,10 +53,14 @@ back-first S B₀ st l d B c = record {
   first = λ m e B′ lo hi ch s. c .none m e B′ lo hi ch (s .U-one);
 }
 
-closes-first : {p l d : ℕ} {G H B B′ : List ℕ} → IsFirst p G H B → Closes p G H B l d B′ → (A : Accepted p G H) → BackFirst (setting A) (basisOf A B) l d
+closes-first :
+    {p l d : ℕ} {G H B B′ : List ℕ} →
+    IsFirst p G H B → Closes p G H B l d B′ →
+    (A : Accepted p G H) → BackFirst (setting A) (basisOf A B) l d
 closes-first {B = B} {B′} f c A = back-first (setting A) (basisOf A B) (f .start A) _ _ (basisOf A B′) (c .closing A)
 
-period-back : (p n : ℕ) (G H : List ℕ) (o : PeriodAnswer) → FromOrder p G H n o → o .refusal ≡ 0 →
+period-back :
+    (p n : ℕ) (G H : List ℕ) (o : PeriodAnswer) → FromOrder p G H n o → o .refusal ≡ 0 →
     (A : Accepted p G H) (B₀ : Basis (setting A)) → Start (setting A) B₀ →
     BackFirst (setting A) B₀ (o .period .0) (o .regulator .0 + o .regulator .0)
 period-back p n G H o h z A B₀ st =
@@ -64,8 +68,10 @@ period-back p n G H o h z A B₀ st =
     back-first (setting A) B₀ st _ _ (basisOf A (c .last)) (order-closing p G H f A B₀ st (c .closes))
 
 -- ---- the unit
-pub unit-is : (p n : ℕ) (G H rows scratch rows′ scratch′ : List ℕ) (m : UnitAnswer) →
-    Makes p G H n rows scratch m rows′ scratch′ → m .refusal ≡ 0 → UnitRows p G H m rows′
+pub unit-is :
+    (p n : ℕ) (G H rows scratch rows′ scratch′ : List ℕ) (m : UnitAnswer) →
+    Makes p G H n rows scratch m rows′ scratch′ → m .refusal ≡ 0 →
+    UnitRows p G H m rows′
 unit-is p n G H rows scratch rows′ scratch′ m h z =
     let (c, l, d, f, r) = unit-made p n G H rows scratch rows′ scratch′ m h z in
     record {
@@ -90,6 +96,7 @@ demand-2 = record {
   taken-up-period = λ f t z. closes-first f (together _ _ _ _ t .closes z);
   taken-up-agrees = λ o f t z h y. together-agrees _ _ _ _ o f t z h y;
   order-tabled = λ o h. order-tabled _ _ _ o h;
+  series-tabled = λ h. series-tabled _ _ _ _ _ _ _ _ h;
   check-tabled = check-tabled;
   step-tabled = λ s h. step-tabled _ _ _ _ s h;
   walk-tabled = λ w h. walk-tabled _ _ _ _ _ w h;

@@ -41,6 +41,11 @@ after S B₀ st c =
 
 -- ---- what the functions hand out
 module _ (p : ℕ) (G H : List ℕ) where
+  handed-accepted : {s d : ℕ} {B : List ℕ} → HandedOut p G H s d B → Accepted p G H
+  handed-accepted (by-order o h z) = orders-first h z .0
+  handed-accepted (by-step a t h z) = handed-accepted t
+  handed-accepted (by-walk n w t h z) = handed-accepted t
+
   handed-record : {s d : ℕ} {B : List ℕ} → HandedOut p G H s d B → IsRecord p G H B
   handed-record (by-order o h z) = orders-first h z .1 .is-record
   handed-record (by-step {B = B} a t h z) = step-taken p G H B a z h .is-record
@@ -48,7 +53,9 @@ module _ (p : ℕ) (G H : List ℕ) where
 
   module _ (A : Accepted p G H) (B₀ : Basis (setting A)) (st : Start (setting A) B₀) where
     handed-chain : {s d : ℕ} {B : List ℕ} → HandedOut p G H s d B → Chain (setting A) B₀ s d (basisOf A B)
-    handed-chain (by-order o h z) = subst (Chain (setting A) B₀ 0 0) (start-unique (setting A) B₀ (basisOf A (o .basis)) st (orders-first h z .1 .start A)) here
+    handed-chain (by-order o h z) =
+        let e = start-unique (setting A) B₀ (basisOf A (o .basis)) st (orders-first h z .1 .start A) in
+        subst (Chain (setting A) B₀ 0 0) e here
     handed-chain (by-step {B = B} a t h z) =
         let k = step-taken p G H B a z h in
         then (a .degree) (basisOf A (a .basis)) (handed-chain t) (k .degree A) (k .next A) (k .is-record .good A)
@@ -59,7 +66,11 @@ demand-3 = record {
   order = λ A. order-exists (setting A);
   any-steps = λ A B₀ st s. chain-exists (setting A) B₀ (st .good) s;
   after = λ A B₀ st c. after (setting A) B₀ st c;
-  handed-out = λ t. (handed-record _ _ _ t, λ A B₀ st. let c = handed-chain _ _ _ A B₀ st t in (c, after (setting A) B₀ st c));
+  handed-out = λ t. (
+    handed-accepted _ _ _ t,
+    handed-record _ _ _ t,
+    λ A B₀ st. let c = handed-chain _ _ _ A B₀ st t in (c, after (setting A) B₀ st c),
+  );
   exactly-one = λ A B₀ u. u .inverse;
   rows-one = λ m h z.
       let u = unit-is _ _ _ _ _ _ _ _ m h z in

@@ -1,6 +1,6 @@
--- Refusals come exactly as tabled. Of each function: the table at a number from 1 to 8, and at each number that an accepted field may bring.
---   order-tabled record-tabled walk-tabled period-tabled unit-tabled   an outcome that meets the contract has its number by the table
---   order-open order-closing   what holds from the order's record holds from the order's basis
+-- Refusals come exactly as tabled. Of each function: its table at a number from 1 to 8, and at each number that an accepted field brings.
+--   order-tabled, series-tabled ..   an outcome that meets the function's contract has its number by the table
+--   order-open order-closing         what holds from the order's record holds from its basis
 use mathlib.Core.Path.{_≡_, refl, sym, ap, subst}
 use mathlib.Core.Logic.{_≢_, _⊎_, inl, inr, _↔_}
 use mathlib.Core.List.{List}
@@ -14,6 +14,7 @@ use Rattle.field_open.specs.Refusal.{Refusal, Accepted}
 use Rattle.field_open.specs.Door.{Door}
 use Rattle.field_open.proofs.Stages.{refusal-unique, numbered}
 use Rattle.field_open.proofs.Accept.{accepted, accepted-none}
+use Rattle.field_series.specs.Answer as series
 use Rattle.math_ideals.specs.Ideal.{Basis}
 use Rattle.math_ideals.specs.Next.{Start}
 use Rattle.math_chain.specs.Chain.{Closing, Open}
@@ -34,7 +35,7 @@ use Rattle.door_walk.specs.Order as walks
 use Rattle.door_unit.specs.declared.UnitAnswer.{UnitAnswer}
 use Rattle.door_unit.specs.Unit as unit
 use Rattle.door_unit.proofs.Once.{refused-number}
-use Rattle.demands.specs.Tabled.{ClosesWithin, FieldTabled, OrderTabled, RecordTabled, WalkTabled, PeriodTabled, UnitWithin, UnitTabled}
+use Rattle.demands.specs.Tabled.{FieldTabled, OrderTabled, SeriesTabled, RecordTabled, WalkTabled, PeriodTabled, UnitWithin, UnitTabled}
 
 both : {A B : Type 0} → A → B → A ↔ B
 both a b = (λ x. b, λ y. a)
@@ -73,7 +74,45 @@ module _ (p : ℕ) (G H : List ℕ) where
   order-passed A = record { field = field-passed 0 A (λ k lo hi e. omega arith); passes = both refl A; only = omega arith }
 
   pub order-tabled : (o : OrderAnswer) → bases.Orders p G H o → OrderTabled p G H (o .refusal)
-  order-tabled o = door-tabled (OrderTabled p G H) (λ k. ap (λ a. a .refusal)) order-refused (λ A (z, f). subst (OrderTabled p G H) (sym z) (order-passed A))
+  order-tabled o =
+      door-tabled (OrderTabled p G H) (λ k. ap (λ a. a .refusal)) order-refused
+      (λ A (z, f). subst (OrderTabled p G H) (sym z) (order-passed A))
+
+  -- ---- the series
+  module _ (r w : List ℕ) where
+    abbrev AtSeries : ℕ → Type 0
+    AtSeries = SeriesTabled p G H r w
+
+    series-refused : (k : ℕ) → Refusal p G H k → 1 ≤ k → k ≤ 8 → AtSeries k
+    series-refused k q lo hi = record {
+      field = field-refused k q;
+      out-of-rule = neither (λ e. omega arith) (λ c. never k q lo (c .0));
+      passes = neither (λ e. omega arith) (λ c. never k q lo (c .0));
+      only = inl hi;
+    }
+
+    series-out : Accepted p G H → (series.Fits r w → ⊥) → AtSeries 14
+    series-out A f = record {
+      field = field-passed 14 A (λ k lo hi e. omega arith);
+      out-of-rule = both refl (A, f);
+      passes = neither (λ e. omega arith) (λ c. f (c .1));
+      only = inr refl;
+    }
+
+    series-passed : Accepted p G H → series.Fits r w → AtSeries 0
+    series-passed A f = record {
+      field = field-passed 0 A (λ k lo hi e. omega arith);
+      out-of-rule = neither (λ e. omega arith) (λ c. c .1 f);
+      passes = both refl (A, f);
+      only = inl (omega arith);
+    }
+
+    pub series-tabled : (x : ℕ) (r′ w′ : List ℕ) → series.Answer p G H r w r′ w′ x → AtSeries x
+    series-tabled x r′ w′ = door-tabled AtSeries (λ k q. q .number) series-refused case
+      where
+        case : Accepted p G H → series.Goes p G H r w r′ w′ x → AtSeries x
+        case A (series.unfit f q) = subst AtSeries (sym (q .number)) (series-out A f)
+        case A (series.filled f e l s) = subst AtSeries (sym e) (series-passed A f)
 
   -- ---- a record
   module _ (B : List ℕ) where
@@ -168,7 +207,8 @@ module _ (p : ℕ) (G H : List ℕ) where
       field = field-passed 0 A (λ k lo hi e. omega arith);
       out-of-rule = neither (λ e. omega arith) (λ (A′, h). omega arith);
       no-record = neither (λ e. omega arith) (λ (A′, h, f). f r);
-      no-closing = neither (λ e. omega arith) (λ (A′, h, r′, o). let k = c .closing A′ in o _ _ (basisOf A′ B′) (k .some) w (k .chain) (k .closed));
+      no-closing = neither (λ e. omega arith) (λ (A′, h, r′, o).
+          let k = c .closing A′ in o _ _ (basisOf A′ B′) (k .some) w (k .chain) (k .closed));
       passes = both refl (let k = c .closing A in (A, l, r, (_, _, basisOf A B′, k .some, w, k .chain, k .closed)));
       only = inl (omega arith);
     }
@@ -225,12 +265,15 @@ module _ (p : ℕ) (G H : List ℕ) where
       only = inr (inl refl);
     }
 
-    period-passed : {s d : ℕ} {B B′ : List ℕ} → Accepted p G H → n ≤ most → IsFirst p G H B → s ≤ n → walk.Closes p G H B s d B′ → AtPeriod 0
+    period-passed :
+        {s d : ℕ} {B B′ : List ℕ} → Accepted p G H →
+        n ≤ most → IsFirst p G H B → s ≤ n → walk.Closes p G H B s d B′ →
+        AtPeriod 0
     period-passed {B = B} {B′} A l f w c = record {
       field = field-passed 0 A (λ k lo hi e. omega arith);
       out-of-rule = neither (λ e. omega arith) (λ (A′, h). omega arith);
-      no-closing = neither (λ e. omega arith)
-          (λ (A′, h, B₀, st, o). let k = order-closing f A′ B₀ st c in o _ _ (basisOf A′ B′) (k .some) w (k .chain) (k .closed));
+      no-closing = neither (λ e. omega arith) (λ (A′, h, B₀, st, o).
+          let k = order-closing f A′ B₀ st c in o _ _ (basisOf A′ B′) (k .some) w (k .chain) (k .closed));
       passes = both refl (let k = c .closing A in (A, l, basisOf A B, f .start A, (_, _, basisOf A B′, k .some, w, k .chain, k .closed)));
       only = inl (omega arith);
     }
@@ -268,7 +311,10 @@ module _ (p : ℕ) (G H : List ℕ) where
     same-c {c} {c′} x y = let e : length rows ≡ 6 * c = x .whole in let f : length rows ≡ 6 * c′ = y .whole in omega arith
 
     -- what closes within the budget does not stay open
-    not-open : {l d : ℕ} → l ≤ n → unit.Finds p G H l d → (A : Accepted p G H) (B₀ : Basis (setting A)) → Start (setting A) B₀ → Open (setting A) B₀ n → ⊥
+    not-open :
+        {l d : ℕ} → l ≤ n → unit.Finds p G H l d →
+        (A : Accepted p G H) (B₀ : Basis (setting A)) → Start (setting A) B₀ → Open (setting A) B₀ n →
+        ⊥
     not-open h f A B₀ st o = let (B, k) = f A B₀ st in o _ _ B (k .some) h (k .chain) (k .closed)
 
     unit-refused : (k : ℕ) → Refusal p G H k → 1 ≤ k → k ≤ 8 → AtUnit k
@@ -302,7 +348,9 @@ module _ (p : ℕ) (G H : List ℕ) where
     }
       where
         missed : {k : ℕ} (A′ : Accepted p G H) → UnitWithin A′ n k → ⊥
-        missed A′ u = let k = u .unit .closing in o A′ (u .B₀) (u .unit .start) _ _ (u .unit .B) (k .some) (u .within) (k .chain) (k .closed)
+        missed A′ u =
+            let k = u .unit .closing in
+            o A′ (u .B₀) (u .unit .start) _ _ (u .unit .B) (k .some) (u .within) (k .chain) (k .closed)
 
     unit-narrow : {l d : ℕ} (c : ℕ) → Accepted p G H → unit.Lent c rows scratch n → l ≤ n → unit.Finds p G H l d → c ≤ d → AtUnit 11
     unit-narrow {l} {d} c A b h f g = record {

@@ -54,11 +54,16 @@ module _ (p : ℕ) (G H B : List ℕ) where
       reached (inl z) = let k = closing t z in record { is-record = k .is-record; chain = λ A. k .closing A .chain }
       reached (inr z) = going t z .reaches
 
-  pub together-agrees : {n s d : ℕ} {w : WalkAnswer} (o : PeriodAnswer) → IsFirst p G H B → TakenUp p G H B s d w → w .refusal ≡ 0 →
-      FromOrder p G H n o → o .refusal ≡ 0 → (o .period .0 ≡ s) × (o .regulator .0 + o .regulator .0 ≡ d)
-  together-agrees {n} o first t z h y =
-      let A = told-accepted p n G H o h y in
-      let (B′, first′, k) = told-closed p n G H o h y in
-      let same = subst (λ b. Closes p G H b (o .period .0) (o .regulator .0 + o .regulator .0) (k .last)) (first-unique A B′ B first′ first) (k .closes) in
-      let (x, e, q) = closes-unique p G H A B (first .is-record) same (closing t z) in
-      (x, e)
+  pub together-agrees :
+      {n s d : ℕ} {w : WalkAnswer} (o : PeriodAnswer) →
+      IsFirst p G H B →
+      TakenUp p G H B s d w → w .refusal ≡ 0 →
+      FromOrder p G H n o → o .refusal ≡ 0 →
+      (o .period .0 ≡ s) × (o .regulator .0 + o .regulator .0 ≡ d)
+  together-agrees {n} o first t z h u =
+      let A = told-accepted p n G H o h u in
+      let (B′, first′, k) = told-closed p n G H o h u in
+      let e = first-unique A B′ B first′ first in
+      let same = subst (λ b. Closes p G H b (o .period .0) (o .regulator .0 + o .regulator .0) (k .last)) e (k .closes) in
+      let (x, y, q) = closes-unique p G H A B (first .is-record) same (closing t z) in
+      (x, y)

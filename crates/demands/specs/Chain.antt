@@ -85,11 +85,11 @@ pub record Demand3 : Type 0 where
       Start (setting A) B₀ →
       {s d : ℕ} {B : Basis (setting A)} (c : Chain (setting A) B₀ s d B) →
       After (setting A) c
-  -- what the functions hand out is such a chain
+  -- what the functions hand out is a record at the end of such a chain
   pub handed-out :
       {p s d : ℕ} {G H B : List ℕ} →
       HandedOut p G H s d B →
-      IsRecord p G H B
+      Accepted p G H × IsRecord p G H B
       × ((A : Accepted p G H) (B₀ : Basis (setting A)) → Start (setting A) B₀
       → (c : Chain (setting A) B₀ s d (basisOf A B)) × After (setting A) c)
   -- "at closing, unit times inverse is exactly 1": of every closing chain, and of the rows that `unit` leaves in the slice

@@ -1,9 +1,9 @@
 -- Demand 2: "Each basis handed out is the one scaled reduced basis of the ideal it stands for; the period is the first count of steps at
 -- which the chain is back at the whole order, the regulator half the degree passed, the unit the product of the minima passed with E0
 -- monic. A book written reads back as the same rows, and an accepted book has one writing."
---   BackFirst B₀ l d      l is the first count of steps at which the chain from B₀ is back at the whole order, and d the degree passed
---   UnitRows p G H m rows the rows beside the answer m hold the unit and its inverse, with m's period and regulator
---   Demand2               the demand, a field for each clause and for each function that it speaks of
+--   BackFirst B₀ l d        l is the first count of steps at which the chain from B₀ is back at the whole order, and d the degree passed
+--   UnitRows p G H m rows   the rows beside the answer m hold the unit and its inverse, with m's period and regulator
+--   Demand2                 the demand, a field for each clause and each function that it speaks of
 -- How to read it: each field takes an outcome that meets the contract of a public function and gives its meaning in the words of the
 -- theory; after `≡ 0` it is no refusal. `Start B` says that B is the scaled reduced basis of the whole order. When each refusal comes is
 -- in specs/Tabled.antt, what walks taken up again are in specs/TakenUp.antt.
@@ -15,6 +15,7 @@ use Prim.Native.Nat.{ℕ, _+_, _*_, _≤_, _<_}
 use lib.ListN.{length}
 use Rattle.math_valued.specs.Degree.{Has}
 use Rattle.field_open.specs.Refusal.{Accepted}
+use Rattle.field_series.specs.Answer as series
 use Rattle.math_ideals.specs.Setting.{Setting}
 use Rattle.math_ideals.specs.Element.{ev}
 use Rattle.math_ideals.specs.Ideal.{Basis}
@@ -38,7 +39,7 @@ use Rattle.book_bytes.specs.Bytes.{Bytes}
 use Rattle.book_body.specs.Body.{Body}
 use Rattle.book_check.specs.Book as book
 use Rattle.book_check.specs.Value.{Obeys, bookBytes, valueOf, at}
-use Rattle.demands.specs.Tabled.{OrderTabled, RecordTabled, WalkTabled, PeriodTabled, UnitTabled}
+use Rattle.demands.specs.Tabled.{OrderTabled, SeriesTabled, RecordTabled, WalkTabled, PeriodTabled, UnitTabled}
 use Rattle.demands.specs.TakenUp.{TakenUp, Together}
 
 pub record BackFirst (S : Setting) (B₀ : Basis S) (l d : ℕ) : Type 0 where
@@ -68,8 +69,8 @@ pub record Demand2 : Type 0 where
       IsRecord p G H B → IsRecord p G H B′ →
       Same (setting A) (basisOf A B) (basisOf A B′) →
       B ≡ B′
-  -- what is handed out: by `order`, the basis of the whole order; by `step`, that of the ideal divided by m, with the degree of m; by `walk`,
-  -- that of the ideal at the chain's end
+  -- what is handed out: by `order`, the basis of the whole order; by `step`, that of the ideal divided by m, with the degree of m; by
+  -- `walk`, that of the ideal at the chain's end
   pub order-basis :
       {p : ℕ} {G H : List ℕ} (o : OrderAnswer) →
       Orders p G H o → o .refusal ≡ 0 →
@@ -83,8 +84,8 @@ pub record Demand2 : Type 0 where
       {p n : ℕ} {G H B : List ℕ} (w : WalkAnswer) →
       Walks p G H n B w → (w .refusal ≡ 0) ⊎ (w .refusal ≡ 10) →
       Reaches p G H B (w .steps) (w .sum) (w .basis)
-  -- the first closing count: of a walk from any record that after which U = 1, of a walk from the order that at which it is back at the whole
-  -- order; period and regulator of `from_order` are the same, and so are those beside a unit
+  -- the first closing count: of `walk` from any record the first after which U = 1; from the order's record, of `from_order` and beside a
+  -- unit the first at which the chain is back at the whole order, with the degree passed or half of it
   pub walk-closing :
       {p n : ℕ} {G H B : List ℕ} (w : WalkAnswer) →
       Walks p G H n B w → w .refusal ≡ 0 →
@@ -122,6 +123,10 @@ pub record Demand2 : Type 0 where
       (o .period .0 ≡ s) × (o .regulator .0 + o .regulator .0 ≡ d)
   -- "refusals come exactly as tabled"
   pub order-tabled : {p : ℕ} {G H : List ℕ} (o : OrderAnswer) → Orders p G H o → OrderTabled p G H (o .refusal)
+  pub series-tabled :
+      {p x : ℕ} {G H r w r′ w′ : List ℕ} →
+      series.Answer p G H r w r′ w′ x →
+      SeriesTabled p G H r w x
   pub check-tabled : (p : ℕ) (G H B : List ℕ) (x : ℕ) → Checks p G H B x → RecordTabled p G H B x
   pub step-tabled : {p : ℕ} {G H B : List ℕ} (s : StepAnswer) → Answers p G H B s → RecordTabled p G H B (s .refusal)
   pub walk-tabled : {p n : ℕ} {G H B : List ℕ} (w : WalkAnswer) → Walks p G H n B w → WalkTabled p G H n B (w .refusal)

@@ -1,15 +1,17 @@
--- Demand 2: "refusals come exactly as tabled". A table for each function that refuses by number: when each number comes, and no other comes.
---   FieldTabled p G H x       a number from 1 to 8 is the field's first refusal
---   OrderTabled p G H x       the table of `order`
---   RecordTabled p G H B x    the table of `check` and of `step`, of the rows B
---   WalkTabled p G H n B x    the table of `walk` from the rows B with the budget n
---   PeriodTabled p G H n x    the table of `from_order` with the budget n
---   UnitTabled p G H n rows scratch x   the table of `unit` with the budget n and the two lent slices
---   ClosesWithin B₀ n         a count of steps from 1 to n closes; that none does is `Open B₀ n` of crate math_chain
---   UnitWithin A n k          a walk of at most n steps from the order closes, and the degree of the unit E, that of its series, is k
--- How to read it: x is the number of the answer, `Refusal p G H k` that k is the first of 1 to 8 that the field meets, A that the field is
--- accepted, B₀ the basis of the order. The order of the numbers is that of the conditions: each takes in that none before it came.
--- `demand-2` cites them for every outcome that meets the function's contract; the proofs are in proofs/Tabled.antt.
+-- Demand 2: "refusals come exactly as tabled". A table for each function from the series to the unit: exactly when each number comes, and
+-- that no other comes.
+--   FieldTabled p G H x                 a number from 1 to 8 comes exactly when it is the field's first refusal
+--   OrderTabled p G H x                 the table of `order`
+--   SeriesTabled p G H r w x            the table of `series`, of the two lent slices r and w
+--   RecordTabled p G H B x              the table of `check` and of `step`, of the rows B
+--   WalkTabled p G H n B x              the table of `walk`, from the rows B with the budget n
+--   PeriodTabled p G H n x              the table of `from_order`, with the budget n
+--   UnitTabled p G H n rows scratch x   the table of `unit`, with the budget n and the two lent slices
+--   ClosesWithin B₀ n                   a count of steps from 1 to n closes; that none does is `Open B₀ n` of crate math_chain
+--   UnitWithin A n k                    a walk of at most n steps from the order closes, and the unit E has degree k, that of its series
+-- How to read it: x is the number of the answer, 0 for none; `Refusal p G H k` says that k is the number of the field's first fault of 1 to
+-- 8; A says that the field is accepted, and B₀ is the basis of the order. What each number asks takes in that none before it came.
+-- The fields `..-tabled` of Demand2 say it of every outcome that meets the function's contract; their proofs are in proofs/Tabled.antt.
 use mathlib.Core.Path.{_≡_}
 use mathlib.Core.Logic.{_⊎_, _↔_}
 use mathlib.Core.List.{List}
@@ -18,6 +20,7 @@ use Rattle.base_answers.specs.Limits.{most}
 use Rattle.math_valued.specs.Degree.{Has}
 use Rattle.math_valued.specs.Polynomial.{polys}
 use Rattle.field_open.specs.Refusal.{Refusal, Accepted}
+use Rattle.field_series.specs.Answer.{Fits}
 use Rattle.math_ideals.specs.Setting.{Setting}
 use Rattle.math_ideals.specs.Element.{O, ev}
 use Rattle.math_ideals.specs.Ideal.{Basis}
@@ -37,6 +40,12 @@ pub record OrderTabled (p : ℕ) (G H : List ℕ) (x : ℕ) : Type 0 where
   pub field : FieldTabled p G H x
   pub passes : (x ≡ 0) ↔ Accepted p G H
   pub only : x ≤ 8
+
+pub record SeriesTabled (p : ℕ) (G H r w : List ℕ) (x : ℕ) : Type 0 where
+  pub field : FieldTabled p G H x
+  pub out-of-rule : (x ≡ 14) ↔ (Accepted p G H × (Fits r w → ⊥))
+  pub passes : (x ≡ 0) ↔ (Accepted p G H × Fits r w)
+  pub only : (x ≤ 8) ⊎ (x ≡ 14)
 
 pub record RecordTabled (p : ℕ) (G H B : List ℕ) (x : ℕ) : Type 0 where
   pub field : FieldTabled p G H x

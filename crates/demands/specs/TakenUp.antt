@@ -1,4 +1,4 @@
--- Walks taken up again (document 01: "a walk refused with 10 returns B, the degree sum and the basis reached, so it can be taken up again").
+-- Walks taken up again: "a walk refused with 10 returns B, the degree sum and the basis reached, so it can be taken up again".
 --   TakenUp p G H B s d w    any number of walks, the first from B, each further one from where the one before it was refused with 10;
 --                            w is the last answer, s all steps together and d all degree sums together. The budgets are free: each walk
 --                            has its own, and their sum is under no bound

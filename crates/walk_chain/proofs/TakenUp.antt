@@ -1,7 +1,7 @@
 -- A walk that spent its budget and is taken up again gives what one long walk gives.
---   open-then closing-then      of any chain
---   reaches-then stays-then closes-then    of records
---   taken-up                    of the whole answers: a walk refused with 10, and the walk from where it stopped, are the long walk
+--   open-then closing-then                of any chain
+--   reaches-then stays-then closes-then   of records, whatever the budgets
+--   taken-up                              of answers: a walk refused with 10, and the walk from where it stopped, are the long walk
 use mathlib.Core.Path.{_≡_, refl, sym, ap, _∙_}
 use mathlib.Core.Logic.{_≢_}
 use mathlib.Core.List.{List}
@@ -23,8 +23,10 @@ use Rattle.base_answers.specs.Limits.{most}
 -- ---- of any chain
 module _ (S : Setting) (B₀ B₁ : Basis S) (good : Good S B₀) {n d : ℕ} (c : Chain S B₀ n d B₁) (open-to : Open S B₀ n) where
   -- what a chain from B₁ shows of a count i is so of the count n + i from B₀
-  later : (j m e : ℕ) (B : Basis S) → Chain S B₀ j e B → n < j → j ≤ n + m → ((i e′ : ℕ) (B′ : Basis S) → 1 ≤ i → i ≤ m → Chain S B₁ i e′ B′ → B′ .U ≢ polys (S .𝓥) .ops .𝟏)
-      → {k f : ℕ} {B₂ : Basis S} → Chain S B₁ k f B₂ → j ≤ n + k → B .U ≢ polys (S .𝓥) .ops .𝟏
+  later :
+      (j m e : ℕ) (B : Basis S) → Chain S B₀ j e B → n < j → j ≤ n + m → Open S B₁ m →
+      {k f : ℕ} {B₂ : Basis S} → Chain S B₁ k f B₂ → j ≤ n + k →
+      B .U ≢ polys (S .𝓥) .ops .𝟏
   later j m e B a l h none b r one =
       let i : ℕ = j - n in
       let (e′, B′, b′, q) = prefix S B₁ b i (omega arith) in
@@ -36,7 +38,7 @@ module _ (S : Setting) (B₀ B₁ : Basis S) (good : Good S B₀) {n d : ℕ} (c
     where
       go : Dec (j ≤ n) → B .U ≢ polys (S .𝓥) .ops .𝟏
       go (yes k) = open-to j e B l k a
-      go (no k) = later j m e B a (omega arith) h (λ i e′ B′ u v w. o i e′ B′ u v w) b h
+      go (no k) = later j m e B a (omega arith) h o b h
 
   pub closing-then : {s f : ℕ} {B₂ : Basis S} → Closing S B₁ s f B₂ → Closing S B₀ (n + s) (d + f) B₂
   closing-then {s} {f} {B₂} k = record {
@@ -106,5 +108,7 @@ module _ (p : ℕ) (G H : List ℕ) (n m : ℕ) (B : List ℕ) (v w : WalkAnswer
         let l : a .no ≤ 8 = numbered p G H (a .no) (a .first) in
         let e : a .no ≡ 10 = sym (ap (λ z. z .refusal) (a .none f)) ∙ t in
         omega arith);
-    goes = λ z. let (rec, sp) = was-spent (a .goes z) t in goes-later rec sp (b .goes (refusal-unique p G H (b .no) (a .no) (b .first) (a .first) ∙ z));
+    goes = λ z.
+        let (rec, sp) = was-spent (a .goes z) t in
+        goes-later rec sp (b .goes (refusal-unique p G H (b .no) (a .no) (b .first) (a .first) ∙ z));
   }
