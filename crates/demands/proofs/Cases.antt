@@ -1,10 +1,12 @@
 -- Which case of its contract an answer is, by its number: every other case has another number.
 --   walk-closed walk-spent   a walk answered with 0 has closed; one answered with 10 has spent its budget
+--   walk-reaches walk-stays  with either number it has reached its basis; with 10 none of its steps closed
 --   told-closed told-spent   the same of a walk from the order
 --   unit-made success-unit   a unit answered with 0 was made, and the rows are that unit
 --   unit-spent unit-narrow   with 10 the budget was spent, with 11 the room was too little
 --   told-accepted unit-accepted   then the field is accepted
 use mathlib.Core.Path.{_≡_, sym, ap, _∙_, subst}
+use mathlib.Core.Logic.{_⊎_, inl, inr}
 use mathlib.Core.List.{List}
 use Prim.Native.Nat.{ℕ, _+_, _≤_}
 use native.Mathlib.Omega.{arith}
@@ -46,6 +48,13 @@ module _ (p n : ℕ) (G H B : List ℕ) (w : WalkAnswer) (h : walk.Walks p G H n
       case (walk.no-record l f e) = let k = walk-number e in absurd (omega arith)
       case (walk.closed l r c) = let k = c .number in absurd (omega arith)
       case (walk.spent l r s) = s
+
+  pub walk-reaches : (w .refusal ≡ 0) ⊎ (w .refusal ≡ 10) → walk.Reaches p G H B (w .steps) (w .sum) (w .basis)
+  walk-reaches (inl z) = let k = walk-closed z .closes in record { is-record = k .is-record; chain = λ A. k .closing A .chain }
+  walk-reaches (inr z) = let s = walk-spent z in subst (λ k. walk.Reaches p G H B k (w .sum) (w .basis)) (sym (s .all)) (s .reaches)
+
+  pub walk-stays : w .refusal ≡ 10 → walk.StaysOpen p G H B (w .steps)
+  walk-stays z = let s = walk-spent z in subst (walk.StaysOpen p G H B) (sym (s .all)) (s .none)
 
 -- ---- the walk from the order
 module _ (p n : ℕ) (G H : List ℕ) (o : PeriodAnswer) (h : walks.FromOrder p G H n o) where
@@ -116,7 +125,9 @@ module _ (p n : ℕ) (G H rows scratch rows′ scratch′ : List ℕ) (m : UnitA
   unit-accepted z = door-out (λ k f l e. let q = refused-number e in absurd (f (sym q ∙ z))) (λ A _. A) h
 
 -- the rows are the unit of the chain, with the period and the regulator told
-pub success-unit : (p : ℕ) (G H rows : List ℕ) (m : UnitAnswer) {l d c : ℕ} {scratch scratch′ : List ℕ} → unit.Success p G H l d c scratch m rows scratch′ →
+pub success-unit :
+    (p : ℕ) (G H rows : List ℕ) (m : UnitAnswer) {l d c : ℕ} {scratch scratch′ : List ℕ} →
+    unit.Success p G H l d c scratch m rows scratch′ →
     (A : Accepted p G H) (B₀ : Basis (setting A)) → Start (setting A) B₀ →
     UnitOf (setting A) B₀ (m .period .0) (m .regulator .0 + m .regulator .0) (six A c 0 rows) (six A c (c + c + c) rows)
 success-unit p G H rows m {l} {d} {c} r A B₀ st =

@@ -1,55 +1,48 @@
 -- Demand 2 holds: each clause is what its contract's case says.
 use mathlib.Core.Path.{_≡_, sym, ap, _∙_, subst}
-use mathlib.Core.Logic.{_⊎_, inl, inr}
 use mathlib.Core.List.{List}
-use Prim.Native.Nat.{ℕ, _+_, _≤_}
+use Prim.Native.Nat.{ℕ, _+_}
 use native.Mathlib.Omega.{arith}
 use Rattle.field_open.specs.Refusal.{Accepted}
 use Rattle.field_open.proofs.Door.{door-out}
 use Rattle.math_ideals.specs.Setting.{Setting}
 use Rattle.math_ideals.specs.Ideal.{Basis}
-use Rattle.math_ideals.specs.Next.{Next, Start}
+use Rattle.math_ideals.specs.Next.{Start}
 use Rattle.math_chain.specs.Chain.{Chain, Closing}
-use Rattle.math_chain.specs.Unit.{UnitOf}
 use Rattle.math_chain.proofs.Walk.{chain-good}
-use Rattle.math_chain.proofs.Closing.{start-unique, closing-start}
-use Rattle.basis_record.specs.Record.{setting, basisOf, IsRecord}
+use Rattle.math_chain.proofs.Closing.{closing-start}
+use Rattle.math_chain.proofs.Exists.{order-exists}
+use Rattle.math_chain.proofs.Unit.{unit-degree}
+use Rattle.basis_record.specs.Record.{setting, basisOf}
 use Rattle.basis_record.proofs.Unique.{record-unique}
 use Rattle.door_basis.proofs.Answer.{orders-first}
+use Rattle.step_next.specs.Steps.{Steps}
 use Rattle.door_step.specs.declared.StepAnswer.{StepAnswer}
 use Rattle.door_step.specs.Answer as stepped
-use Rattle.walk_chain.specs.declared.WalkAnswer.{WalkAnswer}
-use Rattle.walk_chain.specs.Walk as walk
+use Rattle.walk_chain.specs.Walk.{Closes}
+use Rattle.basis_field.specs.First.{IsFirst}
 use Rattle.door_walk.specs.declared.PeriodAnswer.{PeriodAnswer}
-use Rattle.door_walk.specs.Order as walks
+use Rattle.door_walk.specs.Order.{FromOrder}
 use Rattle.door_unit.specs.declared.UnitAnswer.{UnitAnswer}
-use Rattle.door_unit.specs.Unit as unit
-use Rattle.unit_make.specs.Rows.{six}
+use Rattle.door_unit.specs.Unit.{Makes}
 use Rattle.book_check.proofs.Value.{book-back, book-obeys}
 use Rattle.book_check.proofs.Written.{writing-accepted, written-count, reads-back, one-value}
-use Rattle.demands.specs.Meaning.{BackFirst, Demand2}
-use Rattle.demands.proofs.Cases.{walk-closed, walk-spent, told-closed, unit-made, success-unit}
+use Rattle.demands.specs.Meaning.{BackFirst, UnitRows, Demand2}
+use Rattle.demands.proofs.Cases.{walk-closed, walk-reaches, told-closed, unit-made, success-unit}
+use Rattle.demands.proofs.Tabled.{order-tabled, series-tabled, check-tabled, step-tabled, walk-tabled, period-tabled, unit-tabled, order-closing}
+use Rattle.demands.proofs.TakenUp.{together, together-agrees}
 
 -- ---- the step
 module _ (p : ℕ) (G H B : List ℕ) (s : StepAnswer) (z : s .refusal ≡ 0) where
   abbrev Stepping : Type 0
-  Stepping = IsRecord p G H (s .basis) × ((A : Accepted p G H) → Next (setting A) (basisOf A B) (basisOf A (s .basis)))
+  Stepping = Steps p G H B (record { degree = s .degree; basis = s .basis })
 
   step-goes : stepped.Goes p G H B s → Stepping
   step-goes (stepped.no-record f e) = let n = ap (λ (x : StepAnswer). x .refusal) e in absurd (omega arith)
-  step-goes (stepped.taken r n t) = (t .is-record, t .next)
+  step-goes (stepped.taken r n t) = t
 
-  step-basis : stepped.Answers p G H B s → Stepping
-  step-basis = door-out (λ k f l e. let n = ap (λ (x : StepAnswer). x .refusal) e in absurd (f (sym n ∙ z))) (λ A. step-goes)
-
--- ---- the walk
-module _ (p n : ℕ) (G H B : List ℕ) (w : WalkAnswer) (h : walk.Walks p G H n B w) where
-  abbrev Reached : Type 0
-  Reached = walk.Reaches p G H B (w .steps) (w .sum) (w .basis)
-
-  walk-basis : (w .refusal ≡ 0) ⊎ (w .refusal ≡ 10) → Reached
-  walk-basis (inl z) = let c = walk-closed p n G H B w h z in record { is-record = c .closes .is-record; chain = λ A. c .closes .closing A .chain }
-  walk-basis (inr z) = let s = walk-spent p n G H B w h z in subst (λ k. walk.Reaches p G H B k (w .sum) (w .basis)) (sym (s .all)) (s .reaches)
+  pub step-taken : stepped.Answers p G H B s → Stepping
+  step-taken = door-out (λ k f l e. let n = ap (λ (x : StepAnswer). x .refusal) e in absurd (f (sym n ∙ z))) (λ A. step-goes)
 
 -- ---- period and regulator
 -- closing is being back at the whole order, for the first time
@@ -60,30 +53,55 @@ back-first S B₀ st l d B c = record {
   first = λ m e B′ lo hi ch s. c .none m e B′ lo hi ch (s .U-one);
 }
 
-period-back : (p n : ℕ) (G H : List ℕ) (o : PeriodAnswer) → walks.FromOrder p G H n o → o .refusal ≡ 0 → (A : Accepted p G H) (B₀ : Basis (setting A)) → Start (setting A) B₀ →
+closes-first :
+    {p l d : ℕ} {G H B B′ : List ℕ} →
+    IsFirst p G H B → Closes p G H B l d B′ →
+    (A : Accepted p G H) → BackFirst (setting A) (basisOf A B) l d
+closes-first {B = B} {B′} f c A = back-first (setting A) (basisOf A B) (f .start A) _ _ (basisOf A B′) (c .closing A)
+
+period-back :
+    (p n : ℕ) (G H : List ℕ) (o : PeriodAnswer) → FromOrder p G H n o → o .refusal ≡ 0 →
+    (A : Accepted p G H) (B₀ : Basis (setting A)) → Start (setting A) B₀ →
     BackFirst (setting A) B₀ (o .period .0) (o .regulator .0 + o .regulator .0)
 period-back p n G H o h z A B₀ st =
-    let S = setting A in
     let (B, f, c) = told-closed p n G H o h z in
-    let e = start-unique S (basisOf A B) B₀ (f .start A) st in
-    back-first S B₀ st _ _ _ (subst (λ X. Closing S X (o .period .0) (o .regulator .0 + o .regulator .0) (basisOf A (c .last))) e (c .closes .closing A))
+    back-first (setting A) B₀ st _ _ (basisOf A (c .last)) (order-closing p G H f A B₀ st (c .closes))
 
 -- ---- the unit
-module _ (p n : ℕ) (G H rows scratch rows′ scratch′ : List ℕ) (m : UnitAnswer) where
-  abbrev Unit-is : Type 0
-  Unit-is = (c : ℕ) × ((A : Accepted p G H) (B₀ : Basis (setting A)) → Start (setting A) B₀ → UnitOf (setting A) B₀ (m .period .0) (m .regulator .0 + m .regulator .0) (six A c 0 rows′) (six A c (c + c + c) rows′))
-
-  unit-is : unit.Makes p G H n rows scratch m rows′ scratch′ → m .refusal ≡ 0 → Unit-is
-  unit-is h z = let (c, l, d, f, r) = unit-made p n G H rows scratch rows′ scratch′ m h z in (c, λ A B₀ st. success-unit p G H rows′ m r A B₀ st)
+pub unit-is :
+    (p n : ℕ) (G H rows scratch rows′ scratch′ : List ℕ) (m : UnitAnswer) →
+    Makes p G H n rows scratch m rows′ scratch′ → m .refusal ≡ 0 →
+    UnitRows p G H m rows′
+unit-is p n G H rows scratch rows′ scratch′ m h z =
+    let (c, l, d, f, r) = unit-made p n G H rows scratch rows′ scratch′ m h z in
+    record {
+      c = c;
+      long = r .rows-hold .whole;
+      unit = success-unit p G H rows′ m r;
+      period = λ A B₀ st. let u = success-unit p G H rows′ m r A B₀ st in back-first (setting A) B₀ st _ _ (u .B) (u .closing);
+      degree = λ A. let (B₀, st) = order-exists (setting A) in unit-degree (setting A) B₀ st (success-unit p G H rows′ m r A B₀ st) .0;
+    }
 
 pub demand-2 : Demand2
 demand-2 = record {
   one-basis = λ A B B′ h h′ s. record-unique A B B′ h h′ s;
   order-basis = λ o h z. orders-first h z .1;
-  step-basis = λ s h z. step-basis _ _ _ _ s z h;
-  walk-basis = λ w h z. walk-basis _ _ _ _ _ w h z;
+  step-basis = λ s h z. let t = step-taken _ _ _ _ s z h in (t .is-record, λ A. (t .next A, t .degree A));
+  walk-basis = λ w h z. walk-reaches _ _ _ _ _ w h z;
+  walk-closing = λ w h z. walk-closed _ _ _ _ _ w h z .closes;
+  walk-period = λ w f h z. closes-first f (walk-closed _ _ _ _ _ w h z .closes);
   period = λ o h z A B₀ st. period-back _ _ _ _ o h z A B₀ st;
   unit = λ m h z. unit-is _ _ _ _ _ _ _ _ m h z;
+  taken-up = λ t. together _ _ _ _ t;
+  taken-up-period = λ f t z. closes-first f (together _ _ _ _ t .closes z);
+  taken-up-agrees = λ o f t z h y. together-agrees _ _ _ _ o f t z h y;
+  order-tabled = λ o h. order-tabled _ _ _ o h;
+  series-tabled = λ h. series-tabled _ _ _ _ _ _ _ _ h;
+  check-tabled = check-tabled;
+  step-tabled = λ s h. step-tabled _ _ _ _ s h;
+  walk-tabled = λ w h. walk-tabled _ _ _ _ _ w h;
+  period-tabled = λ o h. period-tabled _ _ _ _ o h;
+  unit-tabled = λ m h. unit-tabled _ _ _ _ _ _ m _ _ h;
   written-accepted = λ bs o. writing-accepted bs o;
   reads-back = λ bs o. (written-count bs o, reads-back bs o);
   accepted-written = λ s b a. (book-obeys s b a, book-back s b a);

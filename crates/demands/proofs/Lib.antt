@@ -4,3 +4,5 @@ pub mod Demand2
 pub mod Demand3
 pub mod Smallest
 pub mod SameField
+pub mod Tabled
+pub mod TakenUp

@@ -1,13 +1,15 @@
 -- The table holds.
 --   hints         what the tests are helped with: the series of each of the three fields, and the bases passed
 --   table-holds   every line of the table holds: by one computation
+--   table-whole   the lines are those of P1 to P12: each number is there, in order, and no other
+use mathlib.Core.Path.{_≡_, refl}
 use mathlib.Core.List.{List, [], _∷_}
 use Rattle.math_fp.specs.Trial.{primeb}
 use Rattle.math_rows.specs.Row.{tab, fallAt}
 use Rattle.math_rows.specs.Sum.{sumTo}
 use Rattle.field_roots.specs.First.{conv}
 use Rattle.field_roots.specs.Prefix.{partAt, plusPart, minusPart}
-use Rattle.examples.specs.Lines.{element, AllHold}
+use Rattle.examples.specs.Lines.{element, AllHold, labels}
 use Rattle.examples.specs.Table.{num, t, b₁, b₂, b₃, b₄, e₃, f₃, table}
 use Rattle.examples.specs.Decide.{Hints}
 use Rattle.examples.proofs.Sound.{all-sound}
@@ -58,3 +60,6 @@ hints =
 pub table-holds : AllHold table
 unfolding primeb tab fallAt sumTo conv partAt plusPart minusPart
 table-holds = all-sound table hints tt
+
+pub table-whole : labels table ≡ 1 ∷ 2 ∷ 3 ∷ 4 ∷ 5 ∷ 6 ∷ 7 ∷ 8 ∷ 9 ∷ 10 ∷ 11 ∷ 12 ∷ []
+table-whole = refl

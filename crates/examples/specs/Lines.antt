@@ -7,11 +7,14 @@
 --   Only             one outcome meets a contract, and nothing else does
 --   Holds            what a line says: at that input the contract is met by the line's answer only
 --   AllHold          all of a list of lines hold
--- A polynomial is a list of coefficients, lowest first. The contracts' definitions are those of crates field, series, bases, stepped, walk,
--- walks, unit and book; `Rows` and `stored` (crate examples_tests) write a basis and its record of 119 numbers.
+--   labels           the numbers that stand before the lines, each once where lines in a row share it
+-- A polynomial is a list of coefficients, lowest first. The contracts' definitions are those of crates field_open, field_series, door_basis,
+-- door_step, walk_chain, door_walk, door_unit and book_check; `Rows` and `stored` (crate examples_tests) write a basis and its record of 119
+-- numbers.
 use mathlib.Core.Path.{_≡_}
 use mathlib.Core.List.{List, [], _∷_, _++_}
 use Prim.Native.Nat.{ℕ, _*_, _≤_}
+use native.Mathlib.Decide.{ℕ-discrete}
 use lib.ListN.{length, take, replicate}
 use Rattle.math_triple.specs.Tri.{Tri}
 use Rattle.math_ideals.specs.Element.{norm}
@@ -120,3 +123,12 @@ Holds (no-book n) = (s : List ℕ) → length s ≡ n → Only (λ (a : Answer).
 abbrev pub AllHold : List (ℕ × Line) → Type 0
 AllHold [] = Unit {0}
 AllHold ((n, l) ∷ ls) = Holds l × AllHold ls
+
+-- n before the numbers, unless they begin with it
+abbrev pub before : ℕ → List ℕ → List ℕ
+before n [] = n ∷ []
+before n (m ∷ ms) = elim (ℕ-discrete n m) [ yes e ↦ m ∷ ms | no f ↦ n ∷ m ∷ ms ]
+
+abbrev pub labels : List (ℕ × Line) → List ℕ
+labels [] = []
+labels ((n, l) ∷ ls) = before n (labels ls)

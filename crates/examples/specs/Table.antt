@@ -1,4 +1,5 @@
--- P1 to P12 of document 01 ("Worked by hand, p = 5"), each line with its number. `table-holds` in proofs/Table.antt: every line holds.
+-- P1 to P12 of document 01 ("Worked by hand, p = 5"), each line with its number. In proofs/Table.antt: `table-holds`, every line holds;
+-- `table-whole`, the numbers of the lines are 1 to 12, in order, none left out and no other.
 -- A polynomial is written by t, its powers, sums and multiples, mod 5.
 use mathlib.Core.List.{List, [], _∷_}
 use Prim.Native.Nat.{ℕ}
