@@ -106,10 +106,11 @@ module _ {M : Modulus} {va : List ℕ} {na : ℕ} {vb : List ℕ} {nb : ℕ} {vc
       }
 
   pub coords-made : {k α : List ℕ} {n m : ℕ} → BothInGives (M .p) true β (b .m0) true γ (b .n0) va k n → QuotientInGives (M .p) k (b .u) α m
-      → Coordinates (M .p) va vb vc b e (three α β γ) (record { a = m; b = o .b; c = o .c })
+      → Coordinates (M .p) va vb vc b e (three α β γ) k (record { a = m; b = o .b; c = o .c })
   coords-made {k} {α} g ha = record {
     spans = record { ha = ha .quotient .is-row; hb = h .β-is .quotient .is-row; hc = h .γ-is .quotient .is-row; sa = ha .size; sb = h .β-is .size; sc = h .γ-is .size };
-    law = λ pr α′ β′ γ′ q. (ha .exact .law pr α′ (q .α-poly) (sym (q .U-α) ∙ sym (off pr q)), β-is pr q, γ-is pr q);
+    is-row = g .is-row;
+    law = λ pr α′ β′ γ′ q. (ha .exact .law pr α′ (q .α-poly) (sym (q .U-α) ∙ sym (off pr q)), β-is pr q, γ-is pr q, off pr q ∙ q .U-α);
   }
     where
       off : (pr : Prime (M .p)) {α′ β′ γ′ : reading (M .p) pr .𝓥 .L .El} → Quotients pr va vb vc b e α′ β′ γ′

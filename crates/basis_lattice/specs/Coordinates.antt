@@ -3,7 +3,8 @@
 --   lengths_of     LengthsOfAsks, Found: the lengths of the seven rows, by number, and e = M1 N2 − M2 N1 with its length
 --   ElementAsks      an element and a basis on rows, with lengths; e and U can be divided by, and the products for β and γ fit
 --   outer          OuterAsks, OuterGives: what e divides for β and γ, and the two quotients
---   coordinates    CoordinatesAsks, Coordinates: there are exact quotients, and the products on the way fit; three rows hold them
+--   coordinates    CoordinatesAsks, Coordinates: there are exact quotients, and the products on the way fit; three rows hold them, and the
+--                  row va holds U α
 -- Exact quotients are the coordinates of the theory: `quot-of`, `coords-from` in proofs/Elements.antt.
 use mathlib.Core.Path.{_≡_}
 use mathlib.Core.List.{List}
@@ -130,7 +131,9 @@ pub record AreSpans (p : ℕ) (t : Three) (o : Spans) : Type 0 where
   pub sb : Size (t .b) (o .b)
   pub sc : Size (t .c) (o .c)
 
-pub record Coordinates (p : ℕ) (va vb vc : List ℕ) (b : Seven) (e : List ℕ) (t : Three) (o : Spans) : Type 0 where
+pub record Coordinates (p : ℕ) (va vb vc : List ℕ) (b : Seven) (e : List ℕ) (t : Three) (va′ : List ℕ) (o : Spans) : Type 0 where
   pub spans : AreSpans p t o
+  pub is-row : Row p va′
   pub law : (pr : Prime p) (α β γ : reading p pr .𝓥 .L .El) → Quotients pr va vb vc b e α β γ
       → (row (reading p pr) (t .a) ≡ α) × (row (reading p pr) (t .b) ≡ β) × (row (reading p pr) (t .c) ≡ γ)
+      × (row (reading p pr) va′ ≡ reading p pr .𝓥 .L .ops .mul (row (reading p pr) (b .u)) α)

@@ -2,7 +2,7 @@
 use mathlib.Core.Path.{_≡_, refl, sym, ap, ap₂, _∙_, subst}
 use mathlib.Core.Logic.{_≢_, inl}
 use mathlib.Core.Bool.{true, false}
-use mathlib.Core.List.{List, [], _∷_}
+use mathlib.Core.List.{List, [], _∷_, _++_}
 use Prim.Native.Nat.{ℕ, zero, suc, _+_, _*_, _-_, _/_, _%_, _<_, _≤_}
 use native.Mathlib.Omega.{arith}
 use lib.ListN.{getD, replicate}
@@ -37,9 +37,10 @@ use Rattle.basis_reduce.proofs.Clearing.{part-in, rows-of}
 use Rattle.basis_scale.specs.Levels.{Monic}
 use Rattle.basis_scale.specs.Place.{off, ElementAsks, PlacedAt, FilledAsks, Filled}
 use Rattle.basis_scale.specs.Scales.{FactorsOfAsks, Scaling}
-use Rattle.basis_scale.specs.Based.{BasisAsks, BasedAt, Based, Z, at, Mpt, Npt}
+use Rattle.basis_scale.specs.Based.{BasisAsks, BasedAt, Based, Left, Z, at, Mpt, Npt}
 use Rattle.basis_record.proofs.Store.{stored-part, stored-other, stored-each, part-same}
 use Rattle.poly_rows.proofs.Lengths.{size-below, scaled-size}
+use Rattle.basis_scale.proofs.Place.{stored-padded}
 use Rattle.basis_scale.proofs.Two.{const-two, half}
 
 positive : (v : ℕ) → v ≢ 0 → 0 < v
@@ -164,7 +165,7 @@ module _ {F : Frame} {q : Pair} {top : ℕ} {d x1 y1 : List ℕ} (g : BasisAsks 
             pub based-fill : FilledAsks (F .m) top k (o .mb) (o .mc) (o .mx) (o .nb) (o .nc) (o .nx) x2 n1 y2 n2 u lu
             based-fill = record { m = element (hk .m-low) (h .hm); n = element (hk .n-low) (h .hn) }
 
-            module _ {B₃ : List ℕ} (fl : Filled (F .m .p) k (o .mb) (o .mc) (o .mx) (o .nb) (o .nc) (o .nx) x2 y2 u B₃) where
+            module _ {o₁ : Pair} {B₃ : List ℕ} (fl : Filled (F .m .p) k (o .mb) (o .mc) (o .mx) (o .nb) (o .nc) (o .nx) x2 y2 u o₁ B₃) where
               open Filled fl using (B₁, B₂, at-m as pm, at-n as pn, at-u as st)
 
               part-M : (j : ℕ) → j < 3 → part j B₁ ≡ part j B₃
@@ -280,3 +281,14 @@ module _ {F : Frame} {q : Pair} {top : ℕ} {d x1 y1 : List ℕ} (g : BasisAsks 
                 each = stored-each (F .m .p) B₂ 6 u B₃ st (pn .each (pm .each (λ j. let w : _≡_ {A = ℕ} (getD (replicate 119 0) j 0) 0 = zeros-at 119 j in let b : 1 < F .m .p = g .clear .room .fine .modulus .big in omega arith))) (su .is-row .each);
                 meant = based-at;
               }
+
+              pub left : Left (F .m .p) x1 y1 B₃ o₁ u x2 y2
+              left = record {
+                rows = λ i. record { mb = (pm .left-b ∙ pad (part-M 1 (omega arith))) i; mc = (pm .left-c ∙ pad (part-M 2 (omega arith))) i; nb = (pn .left-b ∙ pad (part-N 4 (omega arith))) i; nc = (pn .left-c ∙ pad (part-N 5 (omega arith))) i };
+                u = stored-padded st (so .short) (size-below (g .hd) sd);
+                twice-x = e1 .scaled;
+                twice-y = e2 .scaled;
+              }
+                where
+                  pad : {x y : List ℕ} → x ≡ y → x ++ replicate 15 0 ≡ y ++ replicate 15 0
+                  pad e = ap (λ z. z ++ replicate 15 0) e

@@ -36,16 +36,16 @@ lengths-of-unique pr f g =
     let same : (i : ℕ) → _ = λ i. size-unique (f .sizes i) (g .sizes i) in
     (x, λ i. record { m0 = same 0 i; m1 = same 1 i; m2 = same 2 i; n0 = same 3 i; n1 = same 4 i; n2 = same 5 i; u = same 6 i; e = y i })
 
-pub coordinates-unique : {M : Modulus} {va : List ℕ} {na : ℕ} {vb : List ℕ} {nb : ℕ} {vc : List ℕ} {nc : ℕ} {b : Seven} {l : Lengths} {e : List ℕ} {ie : ℕ} {z t t′ : Three} {o o′ : Spans}
-    → CoordinatesAsks M va na vb nb vc nc b l e ie z → Coordinates (M .p) va vb vc b e t o → Coordinates (M .p) va vb vc b e t′ o′ → (t ≡ t′) × (o ≡ o′)
+pub coordinates-unique : {M : Modulus} {va : List ℕ} {na : ℕ} {vb : List ℕ} {nb : ℕ} {vc : List ℕ} {nc : ℕ} {b : Seven} {l : Lengths} {e : List ℕ} {ie : ℕ} {z t t′ : Three} {v v′ : List ℕ} {o o′ : Spans}
+    → CoordinatesAsks M va na vb nb vc nc b l e ie z → Coordinates (M .p) va vb vc b e t v o → Coordinates (M .p) va vb vc b e t′ v′ o′ → (t ≡ t′) × (v ≡ v′) × (o ≡ o′)
 coordinates-unique {M} i h k =
     let ρ = reading (M .p) (i .prime) in
-    let (ha, hb, hc) = h .law (i .prime) (i .α) (i .β) (i .γ) (i .some) in
-    let (ka, kb, kc) = k .law (i .prime) (i .α) (i .β) (i .γ) (i .some) in
+    let (ha, hb, hc, hv) = h .law (i .prime) (i .α) (i .β) (i .γ) (i .some) in
+    let (ka, kb, kc, kv) = k .law (i .prime) (i .α) (i .β) (i .γ) (i .some) in
     let (a, la) = both (by-row ρ (h .spans .ha) (k .spans .ha) ha ka) (h .spans .sa) (k .spans .sa) in
     let (b, lb) = both (by-row ρ (h .spans .hb) (k .spans .hb) hb kb) (h .spans .sb) (k .spans .sb) in
     let (c, lc) = both (by-row ρ (h .spans .hc) (k .spans .hc) hc kc) (h .spans .sc) (k .spans .sc) in
-    ((λ i. record { a = a i; b = b i; c = c i }), (λ i. record { a = la i; b = lb i; c = lc i }))
+    ((λ i. record { a = a i; b = b i; c = c i }), by-row ρ (h .is-row) (k .is-row) hv kv, (λ i. record { a = la i; b = lb i; c = lc i }))
 
 pub member-unique : {p : ℕ} (pr : Prime p) {va vb vc : List ℕ} {b : Seven} {e : List ℕ} (o o′ : Bool) → Member p va vb vc b e o → Member p va vb vc b e o′ → o ≡ o′
 member-unique pr {va} {vb} {vc} {b} {e} o o′ h k = decides-unique o o′ (MemberAt pr va vb vc b e) (h pr) (k pr)

@@ -115,10 +115,10 @@ module _ {p cap : ℕ} {g h gh : List ℕ} {ie : ℕ} {b : Seven} (i : Generator
       blank = t;
     }
 
-    pub turned-r : {t : Three} {o : Spans} → Coordinates p xx (b .m0) zz b e t o → TurnedR p h gh b t o
-    turned-r {t} {o} c = record {
+    pub turned-r : {t : Three} {v : List ℕ} {o : Spans} → Coordinates p xx (b .m0) zz b e t v o → TurnedR p h gh b t o
+    turned-r c = record {
       spans = c .spans;
-      law = λ σ holds q. let (a, b, c) = c .law (σ .prime) _ _ _ (quot-r σ holds b (f .det) hx hz q) in (P-path (setting σ .𝓥) a, P-path (setting σ .𝓥) b, P-path (setting σ .𝓥) c);
+      law = λ σ holds q. let (a, b, c, _) = c .law (σ .prime) _ _ _ (quot-r σ holds b (f .det) hx hz q) in (P-path (setting σ .𝓥) a, P-path (setting σ .𝓥) b, P-path (setting σ .𝓥) c);
     }
 
   -- ---- w m
@@ -167,10 +167,10 @@ module _ {p cap : ℕ} {g h gh : List ℕ} {ie : ℕ} {b : Seven} (i : Generator
       blank = t;
     }
 
-    pub turned-w : {t : Three} {o : Spans} → Coordinates p xx yy (b .m0) b e t o → TurnedW p g gh b t o
-    turned-w {t} {o} c = record {
+    pub turned-w : {t : Three} {v : List ℕ} {o : Spans} → Coordinates p xx yy (b .m0) b e t v o → TurnedW p g gh b t o
+    turned-w c = record {
       spans = c .spans;
-      law = λ σ holds q. let (a, b, c) = c .law (σ .prime) _ _ _ (quot-w σ holds b (f .det) kx hy q) in (P-path (setting σ .𝓥) a, P-path (setting σ .𝓥) b, P-path (setting σ .𝓥) c);
+      law = λ σ holds q. let (a, b, c, _) = c .law (σ .prime) _ _ _ (quot-w σ holds b (f .det) kx hy q) in (P-path (setting σ .𝓥) a, P-path (setting σ .𝓥) b, P-path (setting σ .𝓥) c);
     }
 
   -- ---- what they have in common

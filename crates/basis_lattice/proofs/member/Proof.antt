@@ -39,8 +39,8 @@ returns-2 c =
 
 inside-requires : tie.Need-inside-requires
 inside-requires c κs =
-    let m = c .before .before .before .before .before .before .before .before .before .before .before .before .before .before .before .before .pre in
-    let o = c .before .before .before .before .before .before .before .before .before .before .before .outer .ensures in
+    let m = c .before .before .before .before .before .before .before .before .before .before .before .before .before .before .before .before .before .pre in
+    let o = c .before .before .before .before .before .before .before .before .before .before .before .before .outer .ensures in
     let i = m .inp in
     record {
       modulus = i .modulus;
@@ -62,7 +62,7 @@ inside-requires c κs =
 
 returns-3 : tie.Need-returns-3
 returns-3 c =
-    let at4 = c .before .before .before .before in
+    let at4 = c .before .before .before .before .before in
     let at5 = at4 .before in
     let at8 = at5 .before .before .before in
     let at9 = at8 .before in
