@@ -29,7 +29,7 @@ use Rattle.poly_rows.proofs.Leaf.{size-unique}
 use Rattle.poly_lent.proofs.Mixing.{size-cut}
 use Rattle.basis_record.specs.Record.{part}
 use Rattle.basis_parts.specs.Frame.{Frame, Meaning, Short, Held, point, rd, Ser, rowμ, pt, X, Y, Ltμ}
-use Rattle.basis_parts.specs.Leaves.{PartAsks, Led}
+use Rattle.basis_parts.specs.Leaves.{LeadOfAsks, Led}
 use Rattle.basis_reduce.specs.Clear.{Pair, Ends, ClearYAsks, Reduced}
 use Rattle.basis_scale.specs.declared.Factors.{Factors}
 use Rattle.basis_parts.proofs.Laid.{zeros-at}
@@ -48,8 +48,8 @@ positive zero h = absurd (h refl)
 positive (suc v) h = omega arith
 
 -- what `scale_in` asks, where the length is known
-by-size : {q : Modulus} {c : ℕ} {x : List ℕ} {n : ℕ} → Prepared q → c < q .p → Row (q .p) x → Size x n → ScaleInAsks q c x n
-by-size m l h s = record { modulus = m; hc = l; hx = record { is-row = h; above = s .above }; fits = size-cut h s .fits }
+by-size : {q : Modulus} {c : ℕ} {x : List ℕ} {n : ℕ} → Prepared q → Prime (q .p) → c < q .p → Row (q .p) x → Size x n → ScaleInAsks q c x n
+by-size m pr l h s = record { modulus = m; prime = pr; hc = l; hx = record { is-row = h; above = s .above }; fits = size-cut h s .fits }
 
 module _ {F : Frame} {q : Pair} {top : ℕ} {d x1 y1 : List ℕ} (g : BasisAsks F q top d x1 y1) where
   two-low : 2 < F .m .p
@@ -57,10 +57,10 @@ module _ {F : Frame} {q : Pair} {top : ℕ} {d x1 y1 : List ℕ} (g : BasisAsks 
 
   -- the doubles of x1 and y1
   pub double-x : {n : ℕ} → Size x1 n → ScaleInAsks (F .m) 2 x1 n
-  double-x s = by-size (g .clear .room .fine .modulus) two-low (g .h1 .is-row) s
+  double-x s = by-size (g .clear .room .fine .modulus) (g .clear .some .prime) two-low (g .h1 .is-row) s
 
   pub double-y : {n : ℕ} → Size y1 n → ScaleInAsks (F .m) 2 y1 n
-  double-y s = by-size (g .clear .room .fine .modulus) two-low (g .h2 .is-row) s
+  double-y s = by-size (g .clear .room .fine .modulus) (g .clear .some .prime) two-low (g .h2 .is-row) s
 
 module _ {F : Frame} {q : Pair} {top : ℕ} {d x1 y1 : List ℕ} (g : BasisAsks F q top d x1 y1) {lu : ℕ} (sd : Size d lu) where
   lu-is : lu ≡ suc (g .u)
@@ -73,11 +73,11 @@ module _ {F : Frame} {q : Pair} {top : ℕ} {d x1 y1 : List ℕ} (g : BasisAsks 
   based-clear = subst (λ n. ClearYAsks F q top n) (sym lu-is) (g .clear)
 
   pub based-u : {s : ℕ} → s < F .m .p → ScaleInAsks (F .m) s d lu
-  based-u l = by-size (g .clear .room .fine .modulus) l (g .hd .is-row) sd
+  based-u l = by-size (g .clear .room .fine .modulus) (g .clear .some .prime) l (g .hd .is-row) sd
 
   module _ {o : Ends} (h : Reduced F q top lu o) where
-    pub based-part : PartAsks F (o .nb) (o .nc) top
-    based-part = part-in (g .clear .room) (rows-of (h .hn))
+    pub based-part : LeadOfAsks F true (o .nb) (o .nc) top
+    based-part = let i = part-in (g .clear .some) (g .clear .room) (rows-of (h .hn)) in record { inp = i; d = h .y; has = h .y-has (i .some) }
 
     pub lx-pos : 0 < o .lx
     lx-pos = let l : h .x2 < o .lx = h .x-less in omega arith

@@ -47,7 +47,7 @@ stored-padded {B} {i} {a} {B′} {n = n} h s f = ext-getD 0 a (padded i B′) (s
 
 module _ {M : Modulus} {i top s : ℕ} {b c x x1 : List ℕ} {n1 : ℕ} {y1 : List ℕ} {n2 : ℕ} {u : List ℕ} {lu : ℕ} {B : List ℕ} (g : StoreElementAsks M i top s b c x x1 n1 y1 n2 u lu B) where
   pub place-scale : {l : List ℕ} {n : ℕ} → Short (M .p) l n → n ≤ top → ScaleInAsks M s l top
-  place-scale h w = let f : top ≤ 17 = g .inp .fits in record { modulus = g .inp .modulus; hc = g .inp .hs; hx = short-up h w; fits = omega arith }
+  place-scale h w = let f : top ≤ 17 = g .inp .fits in record { modulus = g .inp .modulus; prime = g .inp .prime; hc = g .inp .hs; hx = short-up h w; fits = omega arith }
 
   pub place-cut : {l : List ℕ} → Short (M .p) l top → Cut l top
   place-cut h = let f : top ≤ 17 = g .inp .fits in short-cut h (omega arith)
@@ -64,6 +64,7 @@ module _ {M : Modulus} {i top s : ℕ} {b c x x1 : List ℕ} {n1 : ℕ} {y1 : Li
         let b : g .inp .lb + n1 ≤ 33 = g .inp .room-b in
         let d : g .inp .lc + n2 ≤ 33 = g .inp .room-c in record {
           modulus = g .inp .modulus;
+          prime = g .inp .prime;
           hx = sb .short .is-row;
           hy = g .inp .h1 .is-row;
           hz = sc .short .is-row;

@@ -14,7 +14,7 @@ less-in-requires : tie.Need-less-in-requires
 less-in-requires c κs =
     let i = c .before .before .before .before .before .before .before .pre .inp in
     let o = c .before .before .outer .ensures in
-    record { modulus = i .modulus; hx = o .β-is .quotient .is-row; hy = i .he; sx = o .β-is .size; sy = i .se; fits = o .β-is .quotient .room _ _ (o .β-is .size) (i .se); hr = o .s-is .is-row }
+    record { modulus = i .modulus; prime = i .prime; hx = o .β-is .quotient .is-row; hy = i .he; sx = o .β-is .size; sy = i .se; fits = o .β-is .quotient .room _ _ (o .β-is .size) (i .se); hr = o .s-is .is-row }
 
 returns : tie.Need-returns
 returns c =
@@ -27,7 +27,7 @@ less-in-requires-2 : tie.Need-less-in-requires-2
 less-in-requires-2 c κs =
     let i = c .before .before .before .before .before .before .before .before .before .before .before .pre .inp in
     let o = c .before .before .before .before .before .before .outer .ensures in
-    record { modulus = i .modulus; hx = o .γ-is .quotient .is-row; hy = i .he; sx = o .γ-is .size; sy = i .se; fits = o .γ-is .quotient .room _ _ (o .γ-is .size) (i .se); hr = o .t-is .is-row }
+    record { modulus = i .modulus; prime = i .prime; hx = o .γ-is .quotient .is-row; hy = i .he; sx = o .γ-is .size; sy = i .se; fits = o .γ-is .quotient .room _ _ (o .γ-is .size) (i .se); hr = o .t-is .is-row }
 
 returns-2 : tie.Need-returns-2
 returns-2 c =
@@ -44,7 +44,7 @@ inside-requires c κs =
     let i = m .inp in
     record {
       modulus = i .modulus;
-      prime = m .prime;
+      prime = i .prime;
       ha = i .ha;
       hb = o .β-is .quotient .is-row;
       hc = o .γ-is .quotient .is-row;
