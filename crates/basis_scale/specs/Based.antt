@@ -95,16 +95,16 @@ pub record Based (F : Frame) (q : Pair) (d x1 y1 B : List ℕ) : Type 0 where
   pub meant : (μ : Meaning F) → BasedAt μ q d x1 y1 B
 
 -- ---- what the lent rows hold in the end
-pub record Left (p : ℕ) (x1 y1 B : List ℕ) (o : Pair) (d₁ x₁ y₁ : List ℕ) : Type 0 where
-  pub rows : o ≡ pair (padded 1 B) (padded 2 B) (padded 4 B) (padded 5 B)
-  pub u : d₁ ≡ padded 6 B
-  pub twice-x : Scaled p 2 x1 x₁
-  pub twice-y : Scaled p 2 y1 y₁
+pub record Left (p : ℕ) (x1 y1 B : List ℕ) (o′ : Pair) (d′ x1′ y1′ : List ℕ) : Type 0 where
+  pub rows : o′ ≡ pair (padded 1 B) (padded 2 B) (padded 4 B) (padded 5 B)
+  pub u : d′ ≡ padded 6 B
+  pub twice-x : Scaled p 2 x1 x1′
+  pub twice-y : Scaled p 2 y1 y1′
 
-pub record ReducedBasisGives (F : Frame) (q : Pair) (d x1 y1 : List ℕ) (o : Pair) (d₁ x₁ y₁ B : List ℕ) : Type 0 where
+pub record ReducedBasisGives (F : Frame) (q : Pair) (d x1 y1 : List ℕ) (o′ : Pair) (d′ x1′ y1′ B : List ℕ) : Type 0 where
   pub based : Based F q d x1 y1 B
   pub swap : Bool
-  pub left : Left (F .m .p) x1 y1 B (swapIf swap o) d₁ x₁ y₁
+  pub left : Left (F .m .p) x1 y1 B (swapIf swap o′) d′ x1′ y1′
 
 -- ---- from a reduced pair o on
 pub record FinishedAsks (F : Frame) (top : ℕ) (o : Ends) (d : List ℕ) (lu : ℕ) (x1 : List ℕ) (n1 : ℕ) (y1 : List ℕ) (n2 : ℕ) : Type 0 where
@@ -112,6 +112,7 @@ pub record FinishedAsks (F : Frame) (top : ℕ) (o : Ends) (d : List ℕ) (lu : 
   pub by : ReducedBasisAsks F q top d lu x1 n1 y1 n2
   pub from : Reduced F q top lu o
 
-pub record Finished (F : Frame) (top : ℕ) (o : Ends) (d : List ℕ) (lu : ℕ) (x1 y1 : List ℕ) (o₁ : Pair) (d₁ x₁ y₁ B : List ℕ) : Type 0 where
+pub record Finished (F : Frame) (top : ℕ) (o : Ends) (d : List ℕ) (lu : ℕ) (x1 y1 : List ℕ) (o′ : Pair)
+    (d′ x1′ y1′ B : List ℕ) : Type 0 where
   pub each : {q : Pair} → BasisAsks F q top d x1 y1 → Size d lu → Reduced F q top lu o → Based F q d x1 y1 B
-  pub left : Left (F .m .p) x1 y1 B o₁ d₁ x₁ y₁
+  pub left : Left (F .m .p) x1 y1 B o′ d′ x1′ y1′

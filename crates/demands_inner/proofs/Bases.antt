@@ -211,8 +211,7 @@ pub reduced-basis-unique : {F : Frame} {q : Pair} {top : ℕ} {d : List ℕ} {lu
 reduced-basis-unique {F} g h k =
     let μ = g .inp .clear .some in
     let e = based-unique μ (h .based) (k .based) in
-    let same : {x s t : List ℕ} → leaf.Scaled (F .m .p) 2 x s → leaf.Scaled (F .m .p) 2 x t → s ≡ t = λ {x} {s} {t} a b. by-row (rd μ) (a .is-row) (b .is-row) (a .law (μ .prime)) (b .law (μ .prime)) in
-    (
+    let same : {x s t : List ℕ} → leaf.Scaled (F .m .p) 2 x s → leaf.Scaled (F .m .p) 2 x t → s ≡ t = λ {x} {s} {t} a b. by-row (rd μ) (a .is-row) (b .is-row) (a .law (μ .prime)) (b .law (μ .prime)) in (
       e,
       h .left .rows ∙ ap (λ B. pair (padded 1 B) (padded 2 B) (padded 4 B) (padded 5 B)) e ∙ sym (k .left .rows),
       h .left .u ∙ ap (padded 6) e ∙ sym (k .left .u),
