@@ -26,7 +26,7 @@ use Rattle.field_open.specs.Refusal.{Accepted}
 use Rattle.basis_record.specs.Record.{setting, basisOf, IsRecord}
 use Rattle.field_series.specs.Keeps.{Kept, Known}
 use Rattle.field_series.specs.declared.OpenedField.{OpenedField}
-use Rattle.basis_parts.specs.Frame.{Frame, frame, Fine, Short}
+use Rattle.basis_parts.specs.Frame.{Frame, frame, Fine, Meaning, Short}
 use Rattle.poly_rows.proofs.Lengths.{row-short, monic-inverts}
 use Rattle.basis_record.specs.Seven.{Seven, seven, rowAt, AreRows, rowsOf}
 use Rattle.basis_record.specs.Store.{Loaded, SevenLoaded}
@@ -72,11 +72,17 @@ module _ (c : OpenedField) {G H : List ℕ} (h : Kept c G H) (A : Accepted (c .f
       let s : A .degG + A .degH ≤ 16 = A .sum in
       record {
         modulus = modulus h;
-        prime = A .prime;
+        G = G;
+        H = H;
+        σ = A;
+        holds = holds-of h A;
         hg = row-short ρ 13 (g-row h) (d.lt-eq (ρ .𝓥) (d.has-up (ρ .𝓥) 13 (setting A .roots .G-deg) (omega (arith, lg))) (sym (holds-of h A .g-is)));
         hh = row-short ρ 13 (h-row h) (d.lt-eq (ρ .𝓥) (d.has-up (ρ .𝓥) 13 (setting A .roots .H-deg) (omega (arith, lh))) (sym (holds-of h A .h-is)));
         hgh = row-short ρ 17 (gh-row h) (d.lt-eq (ρ .𝓥) (d.has-up (ρ .𝓥) 17 (d.has-mul (ρ .𝓥) (setting A .roots .G-deg) (setting A .roots .H-deg)) (omega arith)) (sym (holds-of h A .gh-is)));
       }
+
+  pub meaning-of : Meaning (frameOf c)
+  meaning-of = subst Meaning (frame-is h A) (meaning A (c .r) (c .w) (r-series h A) (w-series h A))
 
   pub fine-of : Fine (frameOf c)
   fine-of = subst Fine (frame-is h A) (fine h A)
@@ -180,6 +186,7 @@ module _ {c : OpenedField} {b : Seven} (i : PassesAsks c b) where
         let t : 5 ≤ c .field .p = A₀ .low in
         record {
           fine = fine-of c k₀ A₀;
+          some = meaning-of c k₀ A₀;
           two = omega arith;
           fits = omega arith;
           low-r = omega arith;

@@ -34,10 +34,10 @@ use Rattle.basis_accept.specs.Tests.{SizesRightAsks, Numbers}
 -- ---- what `sizes_right` asks of its calls
 module _ {F : Frame} {top : ℕ} {b : Seven} (i : SizesRightAsks F top b) where
   pub part-m : PartAsks F (b .m1) (b .m2) top
-  part-m = record { fine = i .fine; hb = i .h1; hc = i .h2; fits = i .fits; low-r = i .low-r; low-w = i .low-w }
+  part-m = record { fine = i .fine; some = i .some; hb = i .h1; hc = i .h2; fits = i .fits; low-r = i .low-r; low-w = i .low-w }
 
   pub part-n : PartAsks F (b .n1) (b .n2) top
-  part-n = record { fine = i .fine; hb = i .k1; hc = i .k2; fits = i .fits; low-r = i .low-r; low-w = i .low-w }
+  part-n = record { fine = i .fine; some = i .some; hb = i .k1; hc = i .k2; fits = i .fits; low-r = i .low-r; low-w = i .low-w }
 
   -- 2a − x
   pub twice-in : {a x : List ℕ} → Row (F .m .p) a → Row (F .m .p) x → CrossInAsks (F .m) 2 a 1 0 x 32
@@ -45,7 +45,7 @@ module _ {F : Frame} {top : ℕ} {b : Seven} (i : SizesRightAsks F top b) where
       let t : 2 < F .m .p = i .two in
       let (n, sa) = sized a in
       let (m, sx) = sized x in
-      cross-by 32 (i .fine .modulus) t (omega arith) ha hx sa sx (subst (λ k. n ≤ k) (ha .size) (sa .fits)) (let l : m ≤ 32 = subst (λ k. m ≤ k) (hx .size) (sx .fits) in omega arith) (omega arith)
+      cross-by 32 (i .fine .modulus) (i .some .prime) t (omega arith) ha hx sa sx (subst (λ k. n ≤ k) (ha .size) (sa .fits)) (let l : m ≤ 32 = subst (λ k. m ≤ k) (hx .size) (sx .fits) in omega arith) (omega arith)
 
 -- ---- sizes
 module _ {F : Frame} (μ : Meaning F) {top : ℕ} {b : Seven} {mx my nx ny zm zn : List ℕ} (i : SizesRightAsks F top b)

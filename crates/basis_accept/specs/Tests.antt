@@ -24,6 +24,7 @@ use Rattle.basis_scale.specs.Based.{Z}
 -- ---- sizes
 pub record SizesRightAsks (F : Frame) (top : ℕ) (b : Seven) : Type 0 where
   pub fine : Fine F
+  pub some : Meaning F
   pub two : 2 < F .m .p
   pub fits : top ≤ 32
   pub low-r : F .dr ≤ top

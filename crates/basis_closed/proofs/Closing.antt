@@ -51,6 +51,7 @@ module _ {M : Modulus} {g h gh : List ℕ} {b : Seven} (i : ClosedUnderRAndWAsks
   pub lengths-in : {e : List ℕ} → Prepared M → e ≡ replicate 32 0 → LengthsOfAsks M 17 b e
   lengths-in w z = let r = i .room .rows in record {
     modulus = w;
+    prime = i .given .σ .prime;
     rows = λ j. r j .is-row;
     ends = every {b = b} (λ x. Cut x 17) (cut (r 0) (omega arith)) (cut (r 1) (omega arith)) (cut (r 2) (omega arith)) (cut (r 3) (omega arith)) (cut (r 4) (omega arith)) (cut (r 5) (omega arith)) (cut (r 6) (omega arith));
     left = fits-short (r 1) (r 5) (omega arith);
@@ -68,7 +69,7 @@ module _ {M : Modulus} {g h gh : List ℕ} {b : Seven} (i : ClosedUnderRAndWAsks
     pub e-nonzero : l .e ≢ 0 → Nonzero (M .p) (getD e (l .e - 1) 0)
     e-nonzero nz = record {
       modulus = i .given .modulus;
-      prime = i .given .prime;
+      prime = i .given .σ .prime;
       pos = (let t : getD e (l .e - 1) 0 ≢ 0 = f .det .size .top (omega (arith, nz)) in omega (arith, t));
       below = f .det .is-row .each (l .e - 1);
     }

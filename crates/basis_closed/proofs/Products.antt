@@ -37,16 +37,17 @@ product-short {p} pr n m hx hy hz = let ρ = reading p pr in row-short ρ (n + m
 module _ {M : Modulus} {g : List ℕ} {lg : ℕ} {h : List ℕ} {lh : ℕ} {gh : List ℕ} {lk : ℕ} {va : List ℕ} {na : ℕ} {vb : List ℕ} {nb : ℕ} {vc : List ℕ} {nc : ℕ} {b : Seven} {l : Lengths} {e : List ℕ} {ie : ℕ}
     (i : ClosedOnAsks M g lg h lh gh lk va na vb nb vc nc b l e ie) where
   pub by-gh : {x r : List ℕ} {n : ℕ} → Short (M .p) x 10 → Size x n → r ≡ replicate 32 0 → TimesInAsks M x n gh lk r
-  by-gh hx s z = record { modulus = i .modulus; hx = hx .is-row; hy = i .given .hgh .is-row; sx = s; sy = i .sk; fits = fits-short hx (i .given .hgh) (omega arith) _ _ s (i .sk); blank = z }
+  by-gh hx s z = record { modulus = i .modulus; prime = i .given .σ .prime; hx = hx .is-row; hy = i .given .hgh .is-row; sx = s; sy = i .sk; fits = fits-short hx (i .given .hgh) (omega arith) _ _ s (i .sk); blank = z }
 
   pub by-13 : {x y r : List ℕ} {n m : ℕ} → Short (M .p) x 10 → Size x n → Short (M .p) y 13 → Size y m → r ≡ replicate 32 0 → TimesInAsks M x n y m r
-  by-13 hx s hy t z = record { modulus = i .modulus; hx = hx .is-row; hy = hy .is-row; sx = s; sy = t; fits = fits-short hx hy (omega arith) _ _ s t; blank = z }
+  by-13 hx s hy t z = record { modulus = i .modulus; prime = i .given .σ .prime; hx = hx .is-row; hy = hy .is-row; sx = s; sy = t; fits = fits-short hx hy (omega arith) _ _ s t; blank = z }
 
   -- an element whose rows are no longer than these
   member-in : {xa xb xc : List ℕ} {n m ja jb jc : ℕ} → Row (M .p) xa → Size xa ja → Short (M .p) xb n → Size xb jb → Short (M .p) xc m → Size xc jc → n + 10 ≤ 33 → m + 10 ≤ 33 → MemberAsks M xa ja xb jb xc jc b l e ie
   member-in ha sa hb sb hc sc ln lm = let r = i .room .rows in record {
     inp = record {
       modulus = i .modulus;
+      prime = i .given .σ .prime;
       ha = ha;
       hb = hb .is-row;
       hc = hc .is-row;
@@ -64,17 +65,16 @@ module _ {M : Modulus} {g : List ℕ} {lg : ℕ} {h : List ℕ} {lh : ℕ} {gh :
       c-m1 = fits-short hc (r 1) lm;
       b-m2 = fits-short hb (r 2) ln;
     };
-    prime = i .given .prime;
     h0 = r 0;
     k0 = r 3;
     hu = r 6;
   }
 
   pub r-in : {xa xc : List ℕ} {ja jc : ℕ} → TimesInGives (M .p) vc gh xa ja → TimesInGives (M .p) vb h xc jc → MemberAsks M xa ja va na xc jc b l e ie
-  r-in ha hc = member-in (ha .product .is-row) (ha .size) (i .ha) (i .sa) (product-short (i .given .prime) 9 13 (i .hb) (i .given .hh) (hc .product)) (hc .size) (omega arith) (omega arith)
+  r-in ha hc = member-in (ha .product .is-row) (ha .size) (i .ha) (i .sa) (product-short (i .given .σ .prime) 9 13 (i .hb) (i .given .hh) (hc .product)) (hc .size) (omega arith) (omega arith)
 
   pub w-in : {xa xb : List ℕ} {ja jb : ℕ} → TimesInGives (M .p) vb gh xa ja → TimesInGives (M .p) vc g xb jb → MemberAsks M xa ja xb jb va na b l e ie
-  w-in ha hb = member-in (ha .product .is-row) (ha .size) (product-short (i .given .prime) 9 13 (i .hc) (i .given .hg) (hb .product)) (hb .size) (i .ha) (i .sa) (omega arith) (omega arith)
+  w-in ha hb = member-in (ha .product .is-row) (ha .size) (product-short (i .given .σ .prime) 9 13 (i .hc) (i .given .hg) (hb .product)) (hb .size) (i .ha) (i .sa) (omega arith) (omega arith)
 
 -- ---- rows and elements
 module _ {p : ℕ} {G H : List ℕ} (σ : Accepted p G H) (b : Seven) {e : List ℕ} {n : ℕ} (he : DetInGives p (b .m1) (b .n2) (b .m2) (b .n1) e n) where

@@ -9,7 +9,6 @@ use mathlib.Core.Logic.{_≢_}
 use mathlib.Core.Bool.{Bool}
 use mathlib.Core.List.{List}
 use Prim.Native.Nat.{ℕ, zero, suc}
-use Rattle.math_fp.specs.Fp.{Prime}
 use Rattle.math_valued.specs.Polynomial.{polys}
 use Rattle.num_mod.specs.Residue.{IsModulus}
 use Rattle.math_ideals.specs.Element.{O, times-r, times-w}
@@ -57,10 +56,13 @@ pub record Room (p : ℕ) (b : Seven) : Type 0 where
   pub rows : (i : ℕ) → Short p (rowAt b i) (longest i)
   pub by-u : Inverts p (b .u) 1
 
--- the field's rows
+-- the rows of an accepted field
 pub record Given (p : ℕ) (g h gh : List ℕ) : Type 0 where
   pub modulus : IsModulus p
-  pub prime : Prime p
+  pub G : List ℕ
+  pub H : List ℕ
+  pub σ : Accepted p G H
+  pub holds : Holds σ g h gh
   pub hg : Short p g 13
   pub hh : Short p h 13
   pub hgh : Short p gh 17

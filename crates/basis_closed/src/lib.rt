@@ -44,7 +44,7 @@ fn closed_on(
     let kc = times_in(q, vb, nb, h, lh, &mut rc);
     let by_r = member(
         q,
-        &mut ra,
+        &ra,
         ka,
         va,
         na,
@@ -67,7 +67,7 @@ fn closed_on(
     let jb = times_in(q, vc, nc, g, lg, &mut wb);
     let by_w = member(
         q,
-        &mut wa,
+        &wa,
         ja,
         &wb,
         jb,

@@ -76,6 +76,7 @@ module _ {p : ℕ} (pr : Prime p) where
     pub inside-both : BothInAsks (of p mul lim) r₁ k₁ m lm r₂ k₂ n ln a na
     inside-both = record {
       modulus = i .modulus;
+      prime = pr;
       hx = db .divided .r-row;
       hy = i .hm .is-row;
       hz = dc .divided .r-row;

@@ -39,6 +39,7 @@ module _ {M : Modulus} {va : List ℕ} {na : ℕ} {vb : List ℕ} {nb : ℕ} {vc
   pub s-asks : {s : List ℕ} → s ≡ replicate 32 0 → DetInAsks M vb nb (b .n2) (l .n2) vc nc (b .n1) (l .n1) s
   s-asks z = record {
     modulus = h .modulus;
+    prime = h .prime;
     hx = h .hb;
     hy = h .rows 5;
     hz = h .hc;
@@ -55,6 +56,7 @@ module _ {M : Modulus} {va : List ℕ} {na : ℕ} {vb : List ℕ} {nb : ℕ} {vc
   pub t-asks : {t : List ℕ} → t ≡ replicate 32 0 → DetInAsks M vc nc (b .m1) (l .m1) vb nb (b .m2) (l .m2) t
   t-asks z = record {
     modulus = h .modulus;
+    prime = h .prime;
     hx = h .hc;
     hy = h .rows 1;
     hz = h .hb;
@@ -69,10 +71,10 @@ module _ {M : Modulus} {va : List ℕ} {na : ℕ} {vb : List ℕ} {nb : ℕ} {vc
   }
 
   pub by-e : {s r : List ℕ} {n : ℕ} → Row (M .p) s → Size s n → r ≡ replicate 32 0 → QuotientAsks M s n e (l .e) ie r
-  by-e hs n z = record { inp = by-inverse (bare (h .modulus)) hs (h .he) (h .by-e); modulus = h .modulus; sa = n; sb = h .se; blank = z }
+  by-e hs n z = record { inp = by-inverse (bare (h .modulus)) (h .prime) hs (h .he) (h .by-e); modulus = h .modulus; sa = n; sb = h .se; blank = z }
 
   pub by-u : {s r : List ℕ} {n : ℕ} → Row (M .p) s → Size s n → r ≡ replicate 32 0 → QuotientAsks M s n (b .u) (l .u) 1 r
-  by-u hs n z = record { inp = by-inverse (bare (h .modulus)) hs (h .rows 6) (h .by-u); modulus = h .modulus; sa = n; sb = h .sizes 6; blank = z }
+  by-u hs n z = record { inp = by-inverse (bare (h .modulus)) (h .prime) hs (h .rows 6) (h .by-u); modulus = h .modulus; sa = n; sb = h .sizes 6; blank = z }
 
 module _ {M : Modulus} {va : List ℕ} {na : ℕ} {vb : List ℕ} {nb : ℕ} {vc : List ℕ} {nc : ℕ} {b : Seven} {l : Lengths} {e : List ℕ} {ie : ℕ} {t : Three} (c : CoordinatesAsks M va na vb nb vc nc b l e ie t)
     {s₁ t₁ β γ : List ℕ} {o : OuterSpans} (h : OuterGives (M .p) vb vc (b .m1) (b .m2) (b .n1) (b .n2) e s₁ t₁ β γ o) where
@@ -85,12 +87,13 @@ module _ {M : Modulus} {va : List ℕ} {na : ℕ} {vb : List ℕ} {nb : ℕ} {vc
   pub both-asks : BothInAsks M β (o .b) (b .m0) (l .m0) γ (o .c) (b .n0) (l .n0) va na
   both-asks =
       let i = c .inp in
-      let ρ = reading (M .p) (c .prime) in
-      let hβ : o .b ≤ c .kβ = size-le ρ (c .kβ) (h .β-is .quotient .is-row) (h .β-is .size) (d.lt-eq (ρ .𝓥) (c .β-lt) (sym (β-is (c .prime) (c .some)))) in
-      let hγ : o .c ≤ c .kγ = size-le ρ (c .kγ) (h .γ-is .quotient .is-row) (h .γ-is .size) (d.lt-eq (ρ .𝓥) (c .γ-lt) (sym (γ-is (c .prime) (c .some)))) in
+      let ρ = reading (M .p) (c .inp .prime) in
+      let hβ : o .b ≤ c .kβ = size-le ρ (c .kβ) (h .β-is .quotient .is-row) (h .β-is .size) (d.lt-eq (ρ .𝓥) (c .β-lt) (sym (β-is (c .inp .prime) (c .some)))) in
+      let hγ : o .c ≤ c .kγ = size-le ρ (c .kγ) (h .γ-is .quotient .is-row) (h .γ-is .size) (d.lt-eq (ρ .𝓥) (c .γ-lt) (sym (γ-is (c .inp .prime) (c .some)))) in
       let rβ : c .kβ + l .m0 ≤ 33 = c .room-m0 (l .m0) (i .sizes 0) in
       let rγ : c .kγ + l .n0 ≤ 33 = c .room-n0 (l .n0) (i .sizes 3) in record {
         modulus = i .modulus;
+        prime = i .prime;
         hx = h .β-is .quotient .is-row;
         hy = i .rows 0;
         hz = h .γ-is .quotient .is-row;
@@ -106,10 +109,11 @@ module _ {M : Modulus} {va : List ℕ} {na : ℕ} {vb : List ℕ} {nb : ℕ} {vc
       }
 
   pub coords-made : {k α : List ℕ} {n m : ℕ} → BothInGives (M .p) true β (b .m0) true γ (b .n0) va k n → QuotientInGives (M .p) k (b .u) α m
-      → Coordinates (M .p) va vb vc b e (three α β γ) (record { a = m; b = o .b; c = o .c })
+      → Coordinates (M .p) va vb vc b e (three α β γ) k (record { a = m; b = o .b; c = o .c })
   coords-made {k} {α} g ha = record {
     spans = record { ha = ha .quotient .is-row; hb = h .β-is .quotient .is-row; hc = h .γ-is .quotient .is-row; sa = ha .size; sb = h .β-is .size; sc = h .γ-is .size };
-    law = λ pr α′ β′ γ′ q. (ha .exact .law pr α′ (q .α-poly) (sym (q .U-α) ∙ sym (off pr q)), β-is pr q, γ-is pr q);
+    is-row = g .is-row;
+    law = λ pr α′ β′ γ′ q. (ha .exact .law pr α′ (q .α-poly) (sym (q .U-α) ∙ sym (off pr q)), β-is pr q, γ-is pr q, off pr q ∙ q .U-α);
   }
     where
       off : (pr : Prime (M .p)) {α′ β′ γ′ : reading (M .p) pr .𝓥 .L .El} → Quotients pr va vb vc b e α′ β′ γ′

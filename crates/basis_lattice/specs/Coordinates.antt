@@ -3,7 +3,8 @@
 --   lengths_of     LengthsOfAsks, Found: the lengths of the seven rows, by number, and e = M1 N2 − M2 N1 with its length
 --   ElementAsks      an element and a basis on rows, with lengths; e and U can be divided by, and the products for β and γ fit
 --   outer          OuterAsks, OuterGives: what e divides for β and γ, and the two quotients
---   coordinates    CoordinatesAsks, Coordinates: there are exact quotients, and the products on the way fit; three rows hold them
+--   coordinates    CoordinatesAsks, Coordinates: there are exact quotients, and the products on the way fit; three rows hold them, and the
+--                  row va holds U α
 -- Exact quotients are the coordinates of the theory: `quot-of`, `coords-from` in proofs/Elements.antt.
 use mathlib.Core.Path.{_≡_}
 use mathlib.Core.List.{List}
@@ -58,6 +59,7 @@ AreLengths b l = (i : ℕ) → Size (rowAt b i) (lengthAt l i)
 
 pub record LengthsOfAsks (q : Modulus) (cap : ℕ) (b : Seven) (e : List ℕ) : Type 0 where
   pub modulus : Prepared q
+  pub prime : Prime (q .p)
   pub rows : AreRows (q .p) b
   pub ends : (i : ℕ) → Cut (rowAt b i) cap
   pub left : Fits (b .m1) (b .n2)
@@ -71,6 +73,7 @@ pub record Found (p : ℕ) (b : Seven) (e : List ℕ) (l : Lengths) : Type 0 whe
 -- ---- quotients
 pub record ElementAsks (q : Modulus) (va : List ℕ) (na : ℕ) (vb : List ℕ) (nb : ℕ) (vc : List ℕ) (nc : ℕ) (b : Seven) (l : Lengths) (e : List ℕ) (ie : ℕ) : Type 0 where
   pub modulus : Prepared q
+  pub prime : Prime (q .p)
   pub ha : Row (q .p) va
   pub hb : Row (q .p) vb
   pub hc : Row (q .p) vc
@@ -109,15 +112,14 @@ pub record OuterGives (p : ℕ) (vb vc m1 m2 n1 n2 e s t β γ : List ℕ) (o : 
 -- ---- coordinates
 pub record CoordinatesAsks (q : Modulus) (va : List ℕ) (na : ℕ) (vb : List ℕ) (nb : ℕ) (vc : List ℕ) (nc : ℕ) (b : Seven) (l : Lengths) (e : List ℕ) (ie : ℕ) (o : Three) : Type 0 where
   pub inp : ElementAsks q va na vb nb vc nc b l e ie
-  pub prime : Prime (q .p)
-  pub α : reading (q .p) prime .𝓥 .L .El
-  pub β : reading (q .p) prime .𝓥 .L .El
-  pub γ : reading (q .p) prime .𝓥 .L .El
-  pub some : Quotients prime va vb vc b e α β γ
+  pub α : reading (q .p) (inp .prime) .𝓥 .L .El
+  pub β : reading (q .p) (inp .prime) .𝓥 .L .El
+  pub γ : reading (q .p) (inp .prime) .𝓥 .L .El
+  pub some : Quotients (inp .prime) va vb vc b e α β γ
   pub kβ : ℕ
   pub kγ : ℕ
-  pub β-lt : Lt (reading (q .p) prime .𝓥) β kβ
-  pub γ-lt : Lt (reading (q .p) prime .𝓥) γ kγ
+  pub β-lt : Lt (reading (q .p) (inp .prime) .𝓥) β kβ
+  pub γ-lt : Lt (reading (q .p) (inp .prime) .𝓥) γ kγ
   pub room-m0 : (n : ℕ) → Size (b .m0) n → kβ + n ≤ 33
   pub room-n0 : (n : ℕ) → Size (b .n0) n → kγ + n ≤ 33
   pub blank : Blank o
@@ -130,7 +132,9 @@ pub record AreSpans (p : ℕ) (t : Three) (o : Spans) : Type 0 where
   pub sb : Size (t .b) (o .b)
   pub sc : Size (t .c) (o .c)
 
-pub record Coordinates (p : ℕ) (va vb vc : List ℕ) (b : Seven) (e : List ℕ) (t : Three) (o : Spans) : Type 0 where
+pub record Coordinates (p : ℕ) (va vb vc : List ℕ) (b : Seven) (e : List ℕ) (t : Three) (va′ : List ℕ) (o : Spans) : Type 0 where
   pub spans : AreSpans p t o
+  pub is-row : Row p va′
   pub law : (pr : Prime p) (α β γ : reading p pr .𝓥 .L .El) → Quotients pr va vb vc b e α β γ
       → (row (reading p pr) (t .a) ≡ α) × (row (reading p pr) (t .b) ≡ β) × (row (reading p pr) (t .c) ≡ γ)
+      × (row (reading p pr) va′ ≡ reading p pr .𝓥 .L .ops .mul (row (reading p pr) (b .u)) α)

@@ -46,7 +46,6 @@ Inside p a b c m n u o = (pr : Prime p) → Decides o (InsideAt pr a b c m n u)
 
 pub record MemberAsks (q : Modulus) (va : List ℕ) (na : ℕ) (vb : List ℕ) (nb : ℕ) (vc : List ℕ) (nc : ℕ) (b : Seven) (l : Lengths) (e : List ℕ) (ie : ℕ) : Type 0 where
   pub inp : ElementAsks q va na vb nb vc nc b l e ie
-  pub prime : Prime (q .p)
   pub h0 : Short (q .p) (b .m0) 17
   pub k0 : Short (q .p) (b .n0) 17
   pub hu : Short (q .p) (b .u) 17

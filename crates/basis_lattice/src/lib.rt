@@ -108,7 +108,7 @@ pub struct Spans {
     pub c: usize,
 }
 
-// The coordinates of va + vb r + vc w, which lies in the lattice, into three zero rows; va is used up.
+// The coordinates of va + vb r + vc w, which lies in the lattice, into three zero rows; va becomes u times the first.
 pub fn coordinates(
     q: Modulus,
     va: &mut [u64; 32],
@@ -132,7 +132,7 @@ pub fn coordinates(
     c: &mut [u64; 32],
 ) -> Spans
     requires { ⌜ CoordinatesAsks q (now va) na (now vb) nb (now vc) nc (seven (now m0) (now m1) (now m2) (now n0) (now n1) (now n2) (now u)) l (now e) ie (three (now a) (now b) (now c)) ⌝ }
-    ensures { λ o. ⌜ Coordinates (q .p) (now (va .entry)) (now (vb .entry)) (now (vc .entry)) (seven (now (m0 .entry)) (now (m1 .entry)) (now (m2 .entry)) (now (n0 .entry)) (now (n1 .entry)) (now (n2 .entry)) (now (u .entry))) (now (e .entry)) (three (now (a .exit)) (now (b .exit)) (now (c .exit))) o ⌝ }
+    ensures { λ o. ⌜ Coordinates (q .p) (now (va .entry)) (now (vb .entry)) (now (vc .entry)) (seven (now (m0 .entry)) (now (m1 .entry)) (now (m2 .entry)) (now (n0 .entry)) (now (n1 .entry)) (now (n2 .entry)) (now (u .entry))) (now (e .entry)) (three (now (a .exit)) (now (b .exit)) (now (c .exit))) (now (va .exit)) o ⌝ }
 {
     let mut s: [u64; 32] = [0; 32];
     let mut t: [u64; 32] = [0; 32];
@@ -195,10 +195,10 @@ fn inside(
     if l == 0 { true } else { false }
 }
 
-// Whether va + vb r + vc w lies in the lattice: its coordinates are exact. va is used up.
+// Whether va + vb r + vc w lies in the lattice: its coordinates are exact.
 pub fn member(
     q: Modulus,
-    va: &mut [u64; 32],
+    va: &[u64; 32],
     na: usize,
     vb: &[u64; 32],
     nb: usize,
@@ -250,9 +250,10 @@ pub fn member(
     if y != 0 {
         return false;
     }
+    let mut a = *va;
     inside(
         q,
-        va,
+        &mut a,
         na,
         &mut b,
         lb,

@@ -3,7 +3,7 @@
 --   PartAt .. v              v is the coefficient at t^j of b r ± c w, below p
 --   Parted F e b c top z     z is the polynomial part of b r + c w (e false) or b r − c w (e true)
 --   Topped F e b c low l t   t is the length and the leading coefficient of the same, or low and 0 where it ends at or before low
---   Led F e b c r            r is the leading coefficient
+--   Led F e b c r            r is the leading coefficient; asked for where there is one (LeadOfAsks)
 use mathlib.Core.Path.{_≡_}
 use mathlib.Core.Bool.{Bool, true, false}
 use mathlib.Core.List.{List}
@@ -56,6 +56,7 @@ pub record Terms (p q : ℕ) (b : List ℕ) (n : ℕ) (s : List ℕ) (d j r : �
 -- ---- polynomial parts
 pub record PartAsks (F : Frame) (b c : List ℕ) (top : ℕ) : Type 0 where
   pub fine : Fine F
+  pub some : Meaning F
   pub hb : Short (F .m .p) b (top - F .dr)
   pub hc : Short (F .m .p) c (top - F .dw)
   pub fits : top ≤ 32
@@ -108,6 +109,11 @@ pub record Topped (F : Frame) (e : Bool) (b c : List ℕ) (low l : ℕ) (t : Top
   pub none : t .n ≡ low → t .c ≡ 0
   pub some : low < t .n → 0 < t .c
   pub lead : low < t .n → (μ : Meaning F) → rd μ .𝓥 .Lead (side μ e (pt μ b c)) (t .n - 1) 0 (rd μ .cast (t .c))
+
+pub record LeadOfAsks (F : Frame) (e : Bool) (b c : List ℕ) (top : ℕ) : Type 0 where
+  pub inp : PartAsks F b c top
+  pub d : ℕ
+  pub has : Has (rd (inp .some) .𝓥) (side (inp .some) e (pt (inp .some) b c)) d
 
 -- r is the leading coefficient of the size, where the size has a degree that is not below 0
 pub record Led (F : Frame) (e : Bool) (b c : List ℕ) (r : ℕ) : Type 0 where

@@ -5,7 +5,7 @@ use num_mod::reduce;
 ghost use mathlib.Core.Path.{_≡_};
 ghost use Prim.Native.Nat.{_+_, _*_, _-_, _%_, _<_, _≤_};
 ghost use Rattle.basis_parts.specs.Given.{given};
-ghost use Rattle.basis_parts.specs.Leaves.{PlusAsks, Summed, TermsAsks, Terms, PlainAsks, PartAsks, FloorInAsks, PartAtAsks, QuickAtAsks, PartAt, Parted, TopOfAsks, Topped, Led};
+ghost use Rattle.basis_parts.specs.Leaves.{PlusAsks, Summed, TermsAsks, Terms, PlainAsks, PartAsks, FloorInAsks, PartAtAsks, QuickAtAsks, PartAt, Parted, TopOfAsks, Topped, LeadOfAsks, Led};
 
 // A prepared modulus, the degrees of two series, and the bound of sizes: one more than the largest degree that may occur
 pub struct Bounds {
@@ -222,7 +222,7 @@ pub fn lead_of(
     r: &[u64; 32],
     w: &[u64; 32],
 ) -> u64
-    requires { ⌜ PartAsks (given f (now r) (now w)) (now b) (now c) (f .top) ⌝ }
+    requires { ⌜ LeadOfAsks (given f (now r) (now w)) minus (now b) (now c) (f .top) ⌝ }
     ensures { λ v. ⌜ Led (given f (now (r .entry)) (now (w .entry))) minus (now (b .entry)) (now (c .entry)) v ⌝ }
 {
     let t = top_of(f, minus, b, c, r, w, f.top, 0);

@@ -68,6 +68,7 @@ module _ {F : Frame} {e : Bool} {ab ac bb bc : List ℕ} {a b : Top} {top low : 
       let f : top ≤ 32 = i .room .fits in
       let lc : a .c < F .m .p = i .ta .below in record {
         modulus = i .room .fine .modulus;
+        prime = σ .prime;
         hs = i .tb .below;
         hc = omega arith;
         hx = i .ha .hb;
@@ -84,6 +85,7 @@ module _ {F : Frame} {e : Bool} {ab ac bb bc : List ℕ} {a b : Top} {top low : 
       let f : top ≤ 32 = i .room .fits in
       let lc : a .c < F .m .p = i .ta .below in record {
         modulus = i .room .fine .modulus;
+        prime = σ .prime;
         hs = i .tb .below;
         hc = omega arith;
         hx = i .ha .hc;
@@ -108,7 +110,7 @@ module _ {F : Frame} {e : Bool} {ab ac bb bc : List ℕ} {a b : Top} {top low : 
         let u : low < b .n = i .past in
         let v : b .n ≤ a .n = i .over in
         let w : a .n ≤ top = i .ta .upto in record {
-          inp = record { fine = i .room .fine; hb = xb .short; hc = xc .short; fits = i .room .fits; low-r = i .room .low-r; low-w = i .room .low-w };
+          inp = record { fine = i .room .fine; some = i .some; hb = xb .short; hc = xc .short; fits = i .room .fits; low-r = i .room .low-r; low-w = i .room .low-w };
           fits = omega arith;
           room = omega arith;
           ends = λ μ. lt-eq (rd μ .𝓥) (cancel-drop μ) (sym (turned-side (rd μ) (μ .r) (μ .w) e (turned-at μ)));

@@ -22,8 +22,8 @@ use Rattle.basis_parts.proofs.Laid.{zeros-row, zeros-at}
 use Rattle.basis_parts.proofs.Tops.{part-lt, topped-up, topped-not, topped-most}
 
 -- what `part` asks, and what it gives
-pub part-in : {F : Frame} {top : ℕ} {b c : List ℕ} → Room F top → Rows F top b c → PartAsks F b c top
-part-in r h = record { fine = r .fine; hb = h .hb; hc = h .hc; fits = r .fits; low-r = r .low-r; low-w = r .low-w }
+pub part-in : {F : Frame} {top : ℕ} {b c : List ℕ} → Meaning F → Room F top → Rows F top b c → PartAsks F b c top
+part-in μ r h = record { fine = r .fine; some = μ; hb = h .hb; hc = h .hc; fits = r .fits; low-r = r .low-r; low-w = r .low-w }
 
 -- zeros are a row of any length
 pub blank : {F : Frame} {top : ℕ} → Room F top → Short (F .m .p) (replicate 32 0) top
@@ -50,7 +50,7 @@ clear-room {F} {q} {top} {lu} i =
     omega arith
 
 pub clear-top : {F : Frame} {q : Pair} {top lu : ℕ} {b c : List ℕ} → ClearYAsks F q top lu → Rows F top b c → TopOfAsks F true b c top top (lu - 1)
-clear-top i h = record { inp = part-in (i .room) h; fits = omega arith; room = clear-room i; ends = part-lt true (part-in (i .room) h) }
+clear-top i h = let g = part-in (i .some) (i .room) h in record { inp = g; fits = omega arith; room = clear-room i; ends = part-lt true g }
 
 pub clear-start : {F : Frame} {q : Pair} {top lu : ℕ} {y1 y2 : Top} → ClearYAsks F q top lu → Topped F true (q .mb) (q .mc) (lu - 1) top y1 → Topped F true (q .nb) (q .nc) (lu - 1) top y2 → Clearing F q top lu q y1 y2
 clear-start {F} {q} {top} {lu} {y1} {y2} i t1 t2 =

@@ -112,7 +112,8 @@ module _ {F : Frame} {q : Pair} {top : ℕ} (i : ShearAsks F q top) {mx : List �
   shear-top =
       let e : l ≡ suc (i .x) = shear-length in
       let b : i .x < top = i .bm in
-      record { inp = part-in (i .room) (i .hn); fits = omega arith; room = omega arith; ends = part-lt false (part-in (i .room) (i .hn)) }
+      let g = part-in (i .some) (i .room) (i .hn) in
+      record { inp = g; fits = omega arith; room = omega arith; ends = part-lt false g }
 
   pub shear-start : {t : Top} → Topped F false (q .nb) (q .nc) (l - 1) top t → Shearing F q top (q .nb) (q .nc) (record { n = l; c = getD mx (l - 1) 0 }) t
   shear-start h =

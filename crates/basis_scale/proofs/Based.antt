@@ -2,7 +2,7 @@
 use mathlib.Core.Path.{_≡_, refl, sym, ap, ap₂, _∙_, subst}
 use mathlib.Core.Logic.{_≢_, inl}
 use mathlib.Core.Bool.{true, false}
-use mathlib.Core.List.{List, [], _∷_}
+use mathlib.Core.List.{List, [], _∷_, _++_}
 use Prim.Native.Nat.{ℕ, zero, suc, _+_, _*_, _-_, _/_, _%_, _<_, _≤_}
 use native.Mathlib.Omega.{arith}
 use lib.ListN.{getD, replicate}
@@ -29,7 +29,7 @@ use Rattle.poly_rows.proofs.Leaf.{size-unique}
 use Rattle.poly_lent.proofs.Mixing.{size-cut}
 use Rattle.basis_record.specs.Record.{part}
 use Rattle.basis_parts.specs.Frame.{Frame, Meaning, Short, Held, point, rd, Ser, rowμ, pt, X, Y, Ltμ}
-use Rattle.basis_parts.specs.Leaves.{PartAsks, Led}
+use Rattle.basis_parts.specs.Leaves.{LeadOfAsks, Led}
 use Rattle.basis_reduce.specs.Clear.{Pair, Ends, ClearYAsks, Reduced}
 use Rattle.basis_scale.specs.declared.Factors.{Factors}
 use Rattle.basis_parts.proofs.Laid.{zeros-at}
@@ -37,9 +37,10 @@ use Rattle.basis_reduce.proofs.Clearing.{part-in, rows-of}
 use Rattle.basis_scale.specs.Levels.{Monic}
 use Rattle.basis_scale.specs.Place.{off, ElementAsks, PlacedAt, FilledAsks, Filled}
 use Rattle.basis_scale.specs.Scales.{FactorsOfAsks, Scaling}
-use Rattle.basis_scale.specs.Based.{BasisAsks, BasedAt, Based, Z, at, Mpt, Npt}
+use Rattle.basis_scale.specs.Based.{BasisAsks, BasedAt, Based, Left, Z, at, Mpt, Npt}
 use Rattle.basis_record.proofs.Store.{stored-part, stored-other, stored-each, part-same}
 use Rattle.poly_rows.proofs.Lengths.{size-below, scaled-size}
+use Rattle.basis_scale.proofs.Place.{stored-padded}
 use Rattle.basis_scale.proofs.Two.{const-two, half}
 
 positive : (v : ℕ) → v ≢ 0 → 0 < v
@@ -47,8 +48,8 @@ positive zero h = absurd (h refl)
 positive (suc v) h = omega arith
 
 -- what `scale_in` asks, where the length is known
-by-size : {q : Modulus} {c : ℕ} {x : List ℕ} {n : ℕ} → Prepared q → c < q .p → Row (q .p) x → Size x n → ScaleInAsks q c x n
-by-size m l h s = record { modulus = m; hc = l; hx = record { is-row = h; above = s .above }; fits = size-cut h s .fits }
+by-size : {q : Modulus} {c : ℕ} {x : List ℕ} {n : ℕ} → Prepared q → Prime (q .p) → c < q .p → Row (q .p) x → Size x n → ScaleInAsks q c x n
+by-size m pr l h s = record { modulus = m; prime = pr; hc = l; hx = record { is-row = h; above = s .above }; fits = size-cut h s .fits }
 
 module _ {F : Frame} {q : Pair} {top : ℕ} {d x1 y1 : List ℕ} (g : BasisAsks F q top d x1 y1) where
   two-low : 2 < F .m .p
@@ -56,10 +57,10 @@ module _ {F : Frame} {q : Pair} {top : ℕ} {d x1 y1 : List ℕ} (g : BasisAsks 
 
   -- the doubles of x1 and y1
   pub double-x : {n : ℕ} → Size x1 n → ScaleInAsks (F .m) 2 x1 n
-  double-x s = by-size (g .clear .room .fine .modulus) two-low (g .h1 .is-row) s
+  double-x s = by-size (g .clear .room .fine .modulus) (g .clear .some .prime) two-low (g .h1 .is-row) s
 
   pub double-y : {n : ℕ} → Size y1 n → ScaleInAsks (F .m) 2 y1 n
-  double-y s = by-size (g .clear .room .fine .modulus) two-low (g .h2 .is-row) s
+  double-y s = by-size (g .clear .room .fine .modulus) (g .clear .some .prime) two-low (g .h2 .is-row) s
 
 module _ {F : Frame} {q : Pair} {top : ℕ} {d x1 y1 : List ℕ} (g : BasisAsks F q top d x1 y1) {lu : ℕ} (sd : Size d lu) where
   lu-is : lu ≡ suc (g .u)
@@ -72,11 +73,11 @@ module _ {F : Frame} {q : Pair} {top : ℕ} {d x1 y1 : List ℕ} (g : BasisAsks 
   based-clear = subst (λ n. ClearYAsks F q top n) (sym lu-is) (g .clear)
 
   pub based-u : {s : ℕ} → s < F .m .p → ScaleInAsks (F .m) s d lu
-  based-u l = by-size (g .clear .room .fine .modulus) l (g .hd .is-row) sd
+  based-u l = by-size (g .clear .room .fine .modulus) (g .clear .some .prime) l (g .hd .is-row) sd
 
   module _ {o : Ends} (h : Reduced F q top lu o) where
-    pub based-part : PartAsks F (o .nb) (o .nc) top
-    based-part = part-in (g .clear .room) (rows-of (h .hn))
+    pub based-part : LeadOfAsks F true (o .nb) (o .nc) top
+    based-part = let i = part-in (g .clear .some) (g .clear .room) (rows-of (h .hn)) in record { inp = i; d = h .y; has = h .y-has (i .some) }
 
     pub lx-pos : 0 < o .lx
     lx-pos = let l : h .x2 < o .lx = h .x-less in omega arith
@@ -164,7 +165,7 @@ module _ {F : Frame} {q : Pair} {top : ℕ} {d x1 y1 : List ℕ} (g : BasisAsks 
             pub based-fill : FilledAsks (F .m) top k (o .mb) (o .mc) (o .mx) (o .nb) (o .nc) (o .nx) x2 n1 y2 n2 u lu
             based-fill = record { m = element (hk .m-low) (h .hm); n = element (hk .n-low) (h .hn) }
 
-            module _ {B₃ : List ℕ} (fl : Filled (F .m .p) k (o .mb) (o .mc) (o .mx) (o .nb) (o .nc) (o .nx) x2 y2 u B₃) where
+            module _ {o₁ : Pair} {B₃ : List ℕ} (fl : Filled (F .m .p) k (o .mb) (o .mc) (o .mx) (o .nb) (o .nc) (o .nx) x2 y2 u o₁ B₃) where
               open Filled fl using (B₁, B₂, at-m as pm, at-n as pn, at-u as st)
 
               part-M : (j : ℕ) → j < 3 → part j B₁ ≡ part j B₃
@@ -280,3 +281,14 @@ module _ {F : Frame} {q : Pair} {top : ℕ} {d x1 y1 : List ℕ} (g : BasisAsks 
                 each = stored-each (F .m .p) B₂ 6 u B₃ st (pn .each (pm .each (λ j. let w : _≡_ {A = ℕ} (getD (replicate 119 0) j 0) 0 = zeros-at 119 j in let b : 1 < F .m .p = g .clear .room .fine .modulus .big in omega arith))) (su .is-row .each);
                 meant = based-at;
               }
+
+              pub left : Left (F .m .p) x1 y1 B₃ o₁ u x2 y2
+              left = record {
+                rows = λ i. record { mb = (pm .left-b ∙ pad (part-M 1 (omega arith))) i; mc = (pm .left-c ∙ pad (part-M 2 (omega arith))) i; nb = (pn .left-b ∙ pad (part-N 4 (omega arith))) i; nc = (pn .left-c ∙ pad (part-N 5 (omega arith))) i };
+                u = stored-padded st (so .short) (size-below (g .hd) sd);
+                twice-x = e1 .scaled;
+                twice-y = e2 .scaled;
+              }
+                where
+                  pad : {x y : List ℕ} → x ≡ y → x ++ replicate 15 0 ≡ y ++ replicate 15 0
+                  pad e = ap (λ z. z ++ replicate 15 0) e

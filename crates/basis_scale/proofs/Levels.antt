@@ -32,6 +32,7 @@ module _ {M : Modulus} {u : List ℕ} {lu : ℕ} {k : List ℕ} {n : ℕ} {x : L
   pub level-divide : DivisionAsks (M .p) k u 1
   level-divide = let b : 1 < M .p = i .modulus .big in record {
     modulus = bare (i .modulus);
+    prime = i .prime;
     ha = i .hk;
     hb = i .monic .is-row;
     hi = b;
@@ -53,6 +54,7 @@ module _ {M : Modulus} {u : List ℕ} {lu : ℕ} {k : List ℕ} {n : ℕ} {x : L
     unfolding shiftAt
     level-half = let b : 1 < M .p = i .modulus .big in record {
       modulus = i .modulus;
+      prime = i .prime;
       hs = omega arith;
       hx = i .hx;
       hc = omega arith;

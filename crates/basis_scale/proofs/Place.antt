@@ -2,10 +2,12 @@
 use mathlib.Core.Path.{_≡_, refl, sym, ap, ap₂, _∙_}
 use mathlib.Core.Logic.{_⊎_, inl, inr}
 use mathlib.Core.Bool.{false}
-use mathlib.Core.List.{List, [], _∷_}
+use mathlib.Core.List.{List, [], _∷_, _++_}
 use Prim.Native.Nat.{ℕ, _+_, _*_, _-_, _<_, _≤_}
 use native.Mathlib.Omega.{arith}
-use lib.ListN.{length, getD, replicate}
+use native.Mathlib.Decide.{decLt}
+use lib.ListN.{length, getD, replicate, length-append, List·getD-append}
+use lib.Seq.{ext-getD, getD-append-add}
 use Rattle.math_ring.proofs.Solve.{var, minus, _:+_, solve}
 use Rattle.math_fp.specs.Fp.{Prime}
 use Rattle.math_valued.specs.Val.{Valued}
@@ -16,6 +18,7 @@ use Rattle.num_mod.specs.declared.Modulus.{Modulus}
 use Rattle.math_rows.specs.Reading.{Reading}
 use Rattle.math_rows.specs.Made.{reading}
 use Rattle.math_rows.specs.Row.{Size, row}
+use Rattle.math_rows.proofs.Tab.{length-tab, at-tab}
 use Rattle.poly_rows.specs.Leaf.{Cut, ScaleInAsks, ScaleInGives}
 use Rattle.poly_rows.proofs.Lengths.{size-below, short-up, short-cut, scaled-short}
 use Rattle.poly_lent.specs.Sized.{BothInAsks, BothInGives}
@@ -25,13 +28,26 @@ use Rattle.basis_parts.specs.Frame.{Short}
 use Rattle.basis_parts.proofs.Laid.{zeros-at}
 use Rattle.basis_record.specs.Store.{StoredAsks, Stored}
 use Rattle.basis_scale.specs.Levels.{RowZeroAsks, Leveled}
-use Rattle.basis_scale.specs.Place.{StoreElementAsks, Placed, FilledAsks}
+use Rattle.basis_scale.specs.Place.{StoreElementAsks, padded, Placed, FilledAsks}
 use Rattle.basis_scale.specs.declared.Factors.{Factors}
 use Rattle.basis_record.proofs.Store.{stored-part, stored-other, stored-blank, stored-each}
 
+-- a row that was stored is the record's, padded
+pub stored-padded : {B : List ℕ} {i : ℕ} {a B′ : List ℕ} {p n : ℕ} → Stored B i a B′ → Short p a n → n ≤ 17 → a ≡ padded i B′
+stored-padded {B} {i} {a} {B′} {n = n} h s f = ext-getD 0 a (padded i B′) (s .is-row .size ∙ sym (length-append (part i B′) (replicate 15 0) ∙ ap (λ n. n + 15) full)) (λ j l. at j (decLt j 17))
+  where
+    full : length (part i B′) ≡ 17
+    full = length-tab 17 (λ j. getD B′ (17 * i + j) 0)
+
+    at : (j : ℕ) → Dec (j < 17) → getD a j 0 ≡ getD (padded i B′) j 0
+    at j (yes l) = sym (List·getD-append (part i B′) (replicate 15 0) 0 j (let e : length (part i B′) ≡ 17 = full in omega arith) ∙ at-tab 17 (λ j. getD B′ (17 * i + j) 0) j l ∙ h .here j l)
+    at j (no l) =
+        let e : length (part i B′) + (j - 17) ≡ j = let e : length (part i B′) ≡ 17 = full in omega arith in
+        s .above j (let f : n ≤ 17 = f in omega arith) ∙ sym (ap (λ n. getD (padded i B′) n 0) (sym e) ∙ getD-append-add (part i B′) (replicate 15 0) (j - 17) 0 ∙ zeros-at 15 (j - 17))
+
 module _ {M : Modulus} {i top s : ℕ} {b c x x1 : List ℕ} {n1 : ℕ} {y1 : List ℕ} {n2 : ℕ} {u : List ℕ} {lu : ℕ} {B : List ℕ} (g : StoreElementAsks M i top s b c x x1 n1 y1 n2 u lu B) where
   pub place-scale : {l : List ℕ} {n : ℕ} → Short (M .p) l n → n ≤ top → ScaleInAsks M s l top
-  place-scale h w = let f : top ≤ 17 = g .inp .fits in record { modulus = g .inp .modulus; hc = g .inp .hs; hx = short-up h w; fits = omega arith }
+  place-scale h w = let f : top ≤ 17 = g .inp .fits in record { modulus = g .inp .modulus; prime = g .inp .prime; hc = g .inp .hs; hx = short-up h w; fits = omega arith }
 
   pub place-cut : {l : List ℕ} → Short (M .p) l top → Cut l top
   place-cut h = let f : top ≤ 17 = g .inp .fits in short-cut h (omega arith)
@@ -48,6 +64,7 @@ module _ {M : Modulus} {i top s : ℕ} {b c x x1 : List ℕ} {n1 : ℕ} {y1 : Li
         let b : g .inp .lb + n1 ≤ 33 = g .inp .room-b in
         let d : g .inp .lc + n2 ≤ 33 = g .inp .room-c in record {
           modulus = g .inp .modulus;
+          prime = g .inp .prime;
           hx = sb .short .is-row;
           hy = g .inp .h1 .is-row;
           hz = sc .short .is-row;
@@ -112,7 +129,7 @@ module _ {M : Modulus} {i top s : ℕ} {b c x x1 : List ℕ} {n1 : ℕ} {y1 : Li
               is-c : (ρ : Reading (M .p)) → row ρ (part (i + 2) B₂) ≡ row ρ mc
               is-c ρ = stored-part B₁ (i + 2) mc B₂ s₂ (λ j l. let f : top ≤ 17 = g .inp .fits in sc .short .above j (omega arith)) ρ
 
-              pub placed : Placed (M .p) i s b c x x1 y1 u B B₂
+              pub placed : Placed (M .p) i s b c x x1 y1 u B mb mc B₂
               placed = record {
                 size = s₂ .size;
                 each = λ h. stored-each (M .p) B₁ (i + 2) mc B₂ s₂ (stored-each (M .p) B₀ (i + 1) mb B₁ s₁ (stored-each (M .p) B i a B₀ s₀ h (la .short .is-row .each)) (sb .short .is-row .each)) (sc .short .is-row .each);
@@ -128,6 +145,9 @@ module _ {M : Modulus} {i top s : ℕ} {b c x x1 : List ℕ} {n1 : ℕ} {y1 : Li
                       framed = ap₂ (o .add) (ap (o .mul (o .add (o .𝟏) (o .𝟏))) (is-a ρ)) (ap₂ (λ y z. o .add (o .mul y (row ρ x1)) (o .mul z (row ρ y1))) (is-b ρ) (is-c ρ) ∙ over pr) ∙ e₁;
                       low = λ n h. lt-eq (ρ .𝓥) (la .low pr n h) (ap₂ (λ y z. o .add (o .mul (o .add (o .𝟏) (o .𝟏)) y) (o .neg z)) (sym (is-a ρ)) (st .scaled .law pr));
                     };
+                left-b = stored-padded s₁ (sb .short) (g .inp .fits)
+                    ∙ ap (λ z. z ++ replicate 15 0) (sym (stored-other B₁ (i + 2) mc B₂ s₂ (i + 1) (inl (omega arith))));
+                left-c = stored-padded s₂ (sc .short) (g .inp .fits);
               }
                 where
                   away : (j : ℕ) → i ≤ j → j ≤ i + 2 → (m : ℕ) → (m < 17 * i) ⊎ (17 * (i + 3) ≤ m) → (m < 17 * j) ⊎ (17 * j + 17 ≤ m)
@@ -143,11 +163,11 @@ module _ {M : Modulus} {top : ℕ} {k : Factors} {mb mc mx nb nc nx x1 : List �
   pub fill-m : StoreElementAsks M 0 top (k .m) mb mc mx x1 n1 y1 n2 u lu (replicate 119 0)
   fill-m = record { inp = g .m; at = omega arith; size = refl; blank = λ j w. zeros-at 119 j }
 
-  module _ {B₁ : List ℕ} (pm : Placed (M .p) 0 (k .m) mb mc mx x1 y1 u (replicate 119 0) B₁) where
+  module _ {mb₁ mc₁ B₁ : List ℕ} (pm : Placed (M .p) 0 (k .m) mb mc mx x1 y1 u (replicate 119 0) mb₁ mc₁ B₁) where
     pub fill-n : StoreElementAsks M 3 top (k .n) nb nc nx x1 n1 y1 n2 u lu B₁
     fill-n = record { inp = g .n; at = omega arith; size = pm .size; blank = λ j w. pm .there j (inr (omega arith)) ∙ zeros-at 119 j }
 
-    module _ {B₂ : List ℕ} (pn : Placed (M .p) 3 (k .n) nb nc nx x1 y1 u B₁ B₂) where
+    module _ {nb₁ nc₁ B₂ : List ℕ} (pn : Placed (M .p) 3 (k .n) nb nc nx x1 y1 u B₁ nb₁ nc₁ B₂) where
       pub fill-u : StoredAsks B₂ 6 u lu
       fill-u = let l : lu ≤ top = g .m .low-u in let f : top ≤ 17 = g .m .fits in record {
         size = pn .size;

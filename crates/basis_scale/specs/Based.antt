@@ -5,9 +5,12 @@
 --   M, N, U of a record B     its rows, as series
 --   BasedAt                   a reduced basis in numbers (crate math_ideals), scaled; M and N span what q does; row 0 is as above
 --   Based                     the same at each meaning of the series
---   FinishedAsks, Finished        from a pair o that the reduction made: Based for every q that it is the reduction of
+--   Left                      what the lent rows hold in the end: M1, M2, N1, N2, U of the record, and x1 and y1 doubled
+--   ReducedBasisGives         Based, and Left, with m and n exchanged where `swap` is true
+--   FinishedAsks, Finished        from a pair o that the reduction made: Based for every q that it is the reduction of, and Left
 use mathlib.Core.Path.{_≡_}
 use mathlib.Core.Logic.{_≢_}
+use mathlib.Core.Bool.{Bool}
 use mathlib.Core.List.{List}
 use Prim.Native.Nat.{ℕ, suc, _%_, _<_, _≤_}
 use lib.ListN.{length, getD}
@@ -17,12 +20,13 @@ use Rattle.math_triple.specs.Sizes.{sizeZ}
 use Rattle.math_valued.specs.Val.{Valued}
 use Rattle.math_rows.specs.Reading.{Reading}
 use Rattle.math_rows.specs.Row.{Size}
+use Rattle.poly_rows.specs.Leaf.{Scaled}
 use Rattle.math_ideals.specs.Tests.{InNumbers}
 use Rattle.math_turns.specs.Points.{Pt, Moved}
 use Rattle.basis_record.specs.Record.{part}
 use Rattle.basis_parts.specs.Frame.{Frame, Meaning, Short, rd, Ser, rowμ, pt}
-use Rattle.basis_reduce.specs.Clear.{Pair, Ends, ClearYAsks, Reduced}
-use Rattle.basis_scale.specs.Place.{off}
+use Rattle.basis_reduce.specs.Clear.{Pair, pair, swapIf, Ends, ClearYAsks, Reduced}
+use Rattle.basis_scale.specs.Place.{off, padded}
 
 pub record BasisAsks (F : Frame) (q : Pair) (top : ℕ) (d x1 y1 : List ℕ) : Type 0 where
   pub small : F .m .p ≤ 65535
@@ -90,11 +94,25 @@ pub record Based (F : Frame) (q : Pair) (d x1 y1 B : List ℕ) : Type 0 where
   pub each : (k : ℕ) → getD B k 0 < F .m .p
   pub meant : (μ : Meaning F) → BasedAt μ q d x1 y1 B
 
+-- ---- what the lent rows hold in the end
+pub record Left (p : ℕ) (x1 y1 B : List ℕ) (o′ : Pair) (d′ x1′ y1′ : List ℕ) : Type 0 where
+  pub rows : o′ ≡ pair (padded 1 B) (padded 2 B) (padded 4 B) (padded 5 B)
+  pub u : d′ ≡ padded 6 B
+  pub twice-x : Scaled p 2 x1 x1′
+  pub twice-y : Scaled p 2 y1 y1′
+
+pub record ReducedBasisGives (F : Frame) (q : Pair) (d x1 y1 : List ℕ) (o′ : Pair) (d′ x1′ y1′ B : List ℕ) : Type 0 where
+  pub based : Based F q d x1 y1 B
+  pub swap : Bool
+  pub left : Left (F .m .p) x1 y1 B (swapIf swap o′) d′ x1′ y1′
+
 -- ---- from a reduced pair o on
 pub record FinishedAsks (F : Frame) (top : ℕ) (o : Ends) (d : List ℕ) (lu : ℕ) (x1 : List ℕ) (n1 : ℕ) (y1 : List ℕ) (n2 : ℕ) : Type 0 where
   pub q : Pair
   pub by : ReducedBasisAsks F q top d lu x1 n1 y1 n2
   pub from : Reduced F q top lu o
 
-pub record Finished (F : Frame) (top : ℕ) (o : Ends) (d : List ℕ) (lu : ℕ) (x1 y1 B : List ℕ) : Type 0 where
+pub record Finished (F : Frame) (top : ℕ) (o : Ends) (d : List ℕ) (lu : ℕ) (x1 y1 : List ℕ) (o′ : Pair)
+    (d′ x1′ y1′ B : List ℕ) : Type 0 where
   pub each : {q : Pair} → BasisAsks F q top d x1 y1 → Size d lu → Reduced F q top lu o → Based F q d x1 y1 B
+  pub left : Left (F .m .p) x1 y1 B o′ d′ x1′ y1′

@@ -14,7 +14,7 @@ use poly_rows::size_from;
 ghost use Prim.Native.Nat.{_+_, _*_, _-_, _%_, _<_, _≤_};
 ghost use Rattle.basis_parts.specs.Given.{given};
 ghost use Rattle.basis_reduce.specs.Clear.{pair, ends};
-ghost use Rattle.basis_scale.specs.Based.{ReducedBasisAsks, BasisInAsks, Based, FinishedAsks, Finished};
+ghost use Rattle.basis_scale.specs.Based.{ReducedBasisAsks, ReducedBasisGives, BasisInAsks, Based, FinishedAsks, Finished};
 ghost use Rattle.basis_scale.specs.First.{OrderAsks, units, unit, nothing};
 ghost use Rattle.basis_scale.specs.Levels.{RowZeroAsks, Leveled};
 ghost use Rattle.basis_scale.specs.Place.{StoreElementAsks, Placed, FilledAsks, Filled};
@@ -81,7 +81,7 @@ fn store_element(
     lu: usize,
 )
     requires { ⌜ StoreElementAsks q i top s (now b) (now c) (now x) (now x1) n1 (now y1) n2 (now u) lu (now rows) ⌝ }
-    ensures { λ _. ⌜ Placed (q .p) i s (now (b .entry)) (now (c .entry)) (now (x .entry)) (now (x1 .entry)) (now (y1 .entry)) (now (u .entry)) (now (rows .entry)) (now (rows .exit)) ⌝ }
+    ensures { λ _. ⌜ Placed (q .p) i s (now (b .entry)) (now (c .entry)) (now (x .entry)) (now (x1 .entry)) (now (y1 .entry)) (now (u .entry)) (now (rows .entry)) (now (b .exit)) (now (c .exit)) (now (rows .exit)) ⌝ }
 {
     scale_in(q, s, b, top);
     scale_in(q, s, c, top);
@@ -115,7 +115,7 @@ fn filled(
     lu: usize,
 ) -> [u16; 119]
     requires { ⌜ FilledAsks q top k (now mb) (now mc) (now mx) (now nb) (now nc) (now nx) (now x1) n1 (now y1) n2 (now u) lu ⌝ }
-    ensures { λ o. ⌜ Filled (q .p) k (now (mb .entry)) (now (mc .entry)) (now (mx .entry)) (now (nb .entry)) (now (nc .entry)) (now (nx .entry)) (now (x1 .entry)) (now (y1 .entry)) (now (u .entry)) o ⌝ }
+    ensures { λ o. ⌜ Filled (q .p) k (now (mb .entry)) (now (mc .entry)) (now (mx .entry)) (now (nb .entry)) (now (nc .entry)) (now (nx .entry)) (now (x1 .entry)) (now (y1 .entry)) (now (u .entry)) (pair (now (mb .exit)) (now (mc .exit)) (now (nb .exit)) (now (nc .exit))) o ⌝ }
 {
     let mut rows: [u16; 119] = [0; 119];
     store_element(&mut rows, 0, q, top, k.m, mb, mc, mx, x1, n1, y1, n2, u, lu);
@@ -144,7 +144,7 @@ fn finished(
     n2: usize,
 ) -> [u16; 119]
     requires { ⌜ FinishedAsks (given f (now r) (now w)) (f .top) (ends (now mb) (now mc) (now mx) (now nb) (now nc) (now nx) l) (now d) lu (now x1) n1 (now y1) n2 ⌝ }
-    ensures { λ o. ⌜ Finished (given f (now (r .entry)) (now (w .entry))) (f .top) (ends (now (mb .entry)) (now (mc .entry)) (now (mx .entry)) (now (nb .entry)) (now (nc .entry)) (now (nx .entry)) l) (now (d .entry)) lu (now (x1 .entry)) (now (y1 .entry)) o ⌝ }
+    ensures { λ o. ⌜ Finished (given f (now (r .entry)) (now (w .entry))) (f .top) (ends (now (mb .entry)) (now (mc .entry)) (now (mx .entry)) (now (nb .entry)) (now (nc .entry)) (now (nx .entry)) l) (now (d .entry)) lu (now (x1 .entry)) (now (y1 .entry)) (pair (now (mb .exit)) (now (mc .exit)) (now (nb .exit)) (now (nc .exit))) (now (d .exit)) (now (x1 .exit)) (now (y1 .exit)) o ⌝ }
 {
     let q = f.m;
     let top = f.top;
@@ -175,7 +175,7 @@ fn basis_in(
     n2: usize,
 ) -> [u16; 119]
     requires { ⌜ BasisInAsks (given f (now r) (now w)) (pair (now mb) (now mc) (now nb) (now nc)) (f .top) (now d) lu (now x1) n1 (now y1) n2 (now mx) (now nx) ⌝ }
-    ensures { λ o. ⌜ Based (given f (now (r .entry)) (now (w .entry))) (pair (now (mb .entry)) (now (mc .entry)) (now (nb .entry)) (now (nc .entry))) (now (d .entry)) (now (x1 .entry)) (now (y1 .entry)) o ⌝ }
+    ensures { λ o. ⌜ ReducedBasisGives (given f (now (r .entry)) (now (w .entry))) (pair (now (mb .entry)) (now (mc .entry)) (now (nb .entry)) (now (nc .entry))) (now (d .entry)) (now (x1 .entry)) (now (y1 .entry)) (pair (now (mb .exit)) (now (mc .exit)) (now (nb .exit)) (now (nc .exit))) (now (d .exit)) (now (x1 .exit)) (now (y1 .exit)) o ⌝ }
 {
     let o = reduced(f, r, w, mb, mc, mx, nb, nc, nx, lu);
     let l = o.l;
@@ -186,7 +186,7 @@ fn basis_in(
     }
 }
 
-// The same with rows of its own for the polynomial parts
+// The same with rows of its own for the polynomial parts. What it leaves in the lent rows is `Left` of specs/Based.antt.
 pub fn reduced_basis(
     f: Bounds,
     r: &[u64; 32],
@@ -203,7 +203,7 @@ pub fn reduced_basis(
     n2: usize,
 ) -> [u16; 119]
     requires { ⌜ ReducedBasisAsks (given f (now r) (now w)) (pair (now mb) (now mc) (now nb) (now nc)) (f .top) (now d) lu (now x1) n1 (now y1) n2 ⌝ }
-    ensures { λ o. ⌜ Based (given f (now (r .entry)) (now (w .entry))) (pair (now (mb .entry)) (now (mc .entry)) (now (nb .entry)) (now (nc .entry))) (now (d .entry)) (now (x1 .entry)) (now (y1 .entry)) o ⌝ }
+    ensures { λ o. ⌜ ReducedBasisGives (given f (now (r .entry)) (now (w .entry))) (pair (now (mb .entry)) (now (mc .entry)) (now (nb .entry)) (now (nc .entry))) (now (d .entry)) (now (x1 .entry)) (now (y1 .entry)) (pair (now (mb .exit)) (now (mc .exit)) (now (nb .exit)) (now (nc .exit))) (now (d .exit)) (now (x1 .exit)) (now (y1 .exit)) o ⌝ }
 {
     let mut mx: [u64; 32] = [0; 32];
     let mut nx: [u64; 32] = [0; 32];

@@ -84,7 +84,7 @@ module _ (s : List ℕ) (w : Finished s) (p : ℕ) (e : p ≡ bodyOf s .p) where
       let low : 5 ≤ bodyOf s .p = lists s w .low in
       let high : bodyOf s .p ≤ 65535 = lists s w .high in
       record {
-        modulus = record { big = omega arith; small = omega arith };
+        modulus = record { prime = subst Prime (sym e) (lists s w .prime); small = omega arith };
         three = omega arith;
         size-g = qg .size ∙ eg;
         size-h = qh .size ∙ eh;

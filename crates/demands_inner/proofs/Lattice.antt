@@ -22,33 +22,34 @@ use Rattle.poly_rows.specs.Polynomial.{polynomial}
 use Rattle.poly_content.specs.Common.{Four, Without}
 use Rattle.base_answers.proofs.Tests.{decides-unique}
 use Rattle.basis_record.specs.Seven.{Seven, Three}
-use Rattle.basis_lattice.specs.Coordinates.{Found, CoordinatesAsks, Coordinates}
-use Rattle.basis_lattice.specs.Lattice.{Member, MemberAt}
+use Rattle.basis_lattice.specs.Coordinates.{LengthsOfAsks, Found, CoordinatesAsks, Coordinates}
+use Rattle.basis_lattice.specs.Lattice.{MemberAsks, Member, MemberAt}
 use Rattle.basis_lattice.specs.declared.Lengths.{Lengths}
 use Rattle.basis_lattice.specs.declared.Spans.{Spans}
 use Rattle.demands_inner.proofs.Rows.{by-row}
 use Rattle.demands_inner.proofs.Poly.{size-unique}
-use Rattle.demands_inner.proofs.Sized.{both, det-in-unique}
+use Rattle.demands_inner.proofs.Sized.{both, det-at}
 
-pub lengths-of-unique : {p : ℕ} (pr : Prime p) {b : Seven} {e e′ : List ℕ} {l l′ : Lengths} → Found p b e l → Found p b e′ l′ → (e ≡ e′) × (l ≡ l′)
-lengths-of-unique pr f g =
-    let (x, y) = det-in-unique pr (f .det) (g .det) in
+pub lengths-of-unique : {M : Modulus} {cap : ℕ} {b : Seven} {z e e′ : List ℕ} {l l′ : Lengths} → LengthsOfAsks M cap b z → Found (M .p) b e l → Found (M .p) b e′ l′ → (e ≡ e′) × (l ≡ l′)
+lengths-of-unique i f g =
+    let (x, y) = det-at (i .prime) (f .det) (g .det) in
     let same : (i : ℕ) → _ = λ i. size-unique (f .sizes i) (g .sizes i) in
     (x, λ i. record { m0 = same 0 i; m1 = same 1 i; m2 = same 2 i; n0 = same 3 i; n1 = same 4 i; n2 = same 5 i; u = same 6 i; e = y i })
 
-pub coordinates-unique : {M : Modulus} {va : List ℕ} {na : ℕ} {vb : List ℕ} {nb : ℕ} {vc : List ℕ} {nc : ℕ} {b : Seven} {l : Lengths} {e : List ℕ} {ie : ℕ} {z t t′ : Three} {o o′ : Spans}
-    → CoordinatesAsks M va na vb nb vc nc b l e ie z → Coordinates (M .p) va vb vc b e t o → Coordinates (M .p) va vb vc b e t′ o′ → (t ≡ t′) × (o ≡ o′)
+pub coordinates-unique : {M : Modulus} {va : List ℕ} {na : ℕ} {vb : List ℕ} {nb : ℕ} {vc : List ℕ} {nc : ℕ} {b : Seven} {l : Lengths} {e : List ℕ} {ie : ℕ} {z t t′ : Three} {v v′ : List ℕ} {o o′ : Spans}
+    → CoordinatesAsks M va na vb nb vc nc b l e ie z → Coordinates (M .p) va vb vc b e t v o → Coordinates (M .p) va vb vc b e t′ v′ o′ → (t ≡ t′) × (v ≡ v′) × (o ≡ o′)
 coordinates-unique {M} i h k =
-    let ρ = reading (M .p) (i .prime) in
-    let (ha, hb, hc) = h .law (i .prime) (i .α) (i .β) (i .γ) (i .some) in
-    let (ka, kb, kc) = k .law (i .prime) (i .α) (i .β) (i .γ) (i .some) in
+    let ρ = reading (M .p) (i .inp .prime) in
+    let (ha, hb, hc, hv) = h .law (i .inp .prime) (i .α) (i .β) (i .γ) (i .some) in
+    let (ka, kb, kc, kv) = k .law (i .inp .prime) (i .α) (i .β) (i .γ) (i .some) in
     let (a, la) = both (by-row ρ (h .spans .ha) (k .spans .ha) ha ka) (h .spans .sa) (k .spans .sa) in
     let (b, lb) = both (by-row ρ (h .spans .hb) (k .spans .hb) hb kb) (h .spans .sb) (k .spans .sb) in
     let (c, lc) = both (by-row ρ (h .spans .hc) (k .spans .hc) hc kc) (h .spans .sc) (k .spans .sc) in
-    ((λ i. record { a = a i; b = b i; c = c i }), (λ i. record { a = la i; b = lb i; c = lc i }))
+    ((λ i. record { a = a i; b = b i; c = c i }), by-row ρ (h .is-row) (k .is-row) hv kv, (λ i. record { a = la i; b = lb i; c = lc i }))
 
-pub member-unique : {p : ℕ} (pr : Prime p) {va vb vc : List ℕ} {b : Seven} {e : List ℕ} (o o′ : Bool) → Member p va vb vc b e o → Member p va vb vc b e o′ → o ≡ o′
-member-unique pr {va} {vb} {vc} {b} {e} o o′ h k = decides-unique o o′ (MemberAt pr va vb vc b e) (h pr) (k pr)
+pub member-unique : {M : Modulus} {va : List ℕ} {na : ℕ} {vb : List ℕ} {nb : ℕ} {vc : List ℕ} {nc : ℕ} {b : Seven} {l : Lengths} {e : List ℕ} {ie : ℕ} (o o′ : Bool)
+    → MemberAsks M va na vb nb vc nc b l e ie → Member (M .p) va vb vc b e o → Member (M .p) va vb vc b e o′ → o ≡ o′
+member-unique {va = va} {vb = vb} {vc = vc} {b = b} {e = e} o o′ i h k = decides-unique o o′ (MemberAt (i .inp .prime) va vb vc b e) (h (i .inp .prime)) (k (i .inp .prime))
 
 -- ---- without the common factor
 pub record Multiples {p : ℕ} (pr : Prime p) (o o′ : Four) : Type 0 where

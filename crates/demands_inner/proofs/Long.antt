@@ -1,4 +1,4 @@
--- Crates long, six and six_invert: the final contents of the lent slices. `size` of long: `size-unique` in Poly.
+-- Crates poly_long, unit_rows and unit_inverse: the final contents of the lent slices. `size` of poly_long: `size-unique` in Poly.
 --   cut-unique   the numbers of a row inside a slice are settled by its polynomial
 use mathlib.Core.Path.{_≡_, sym, ap, _∙_, subst}
 use mathlib.Core.List.{List}
@@ -16,7 +16,7 @@ use Rattle.math_rows.specs.Made.{reading}
 use Rattle.math_rows.specs.Row.{row}
 use Rattle.math_rows.proofs.Tab.{length-tab, at-tab, past-tab}
 use Rattle.math_rows.proofs.Unique.{list-unique}
-use Rattle.poly_long.specs.Long.{Quotient, Mixed, Times, Scaled}
+use Rattle.poly_long.specs.Long.{QuotientAsks, Quotient, MixAsks, Mixed, TimesAsks, Times, Scaled}
 use Rattle.unit_rows.specs.Six.{cut, Turn, MonicAsks, MonicMade}
 use Rattle.unit_inverse.specs.Inverse.{element, InvertAsks, Inverted}
 use Rattle.demands_inner.specs.Turnable.{at, Turnable}
@@ -24,16 +24,18 @@ use Rattle.demands_inner.proofs.Rows.{by-list, low-unique}
 
 -- ---- long
 -- where there is a quotient that fits; else the contract says only that the numbers are below p
-pub quotient-unique : {p : ℕ} (pr : Prime p) {a x b y c z u q q′ q″ : List ℕ} (l : List ℕ) → length l ≡ length q → ((i : ℕ) → getD l i 0 < p)
-    → (let ρ = reading p pr in let o = ρ .𝓥 .L .ops in o .mul (row ρ u) (row ρ l) ≡ o .add (o .add (o .mul (row ρ a) (row ρ x)) (o .mul (row ρ b) (row ρ y))) (o .mul (row ρ c) (row ρ z)))
+pub quotient-unique : {p : ℕ} {a x b y c z u q q′ q″ : List ℕ} (t : QuotientAsks p a b c u q) (l : List ℕ) → length l ≡ length q → ((i : ℕ) → getD l i 0 < p)
+    → (let ρ = reading p (t .modulus .prime) in let o = ρ .𝓥 .L .ops in o .mul (row ρ u) (row ρ l) ≡ o .add (o .add (o .mul (row ρ a) (row ρ x)) (o .mul (row ρ b) (row ρ y))) (o .mul (row ρ c) (row ρ z)))
     → Quotient p a x b y c z u q q′ → Quotient p a x b y c z u q q″ → q′ ≡ q″
-quotient-unique pr l n g e h k = h .law pr l n g e ∙ sym (k .law pr l n g e)
+quotient-unique t l n g e h k = h .law (t .modulus .prime) l n g e ∙ sym (k .law (t .modulus .prime) l n g e)
 
-pub mix-unique : {p : ℕ} (pr : Prime p) {g x h y d d′ d″ : List ℕ} → Mixed p g x h y d d′ → Mixed p g x h y d d″ → d′ ≡ d″
-mix-unique {p} pr {d′ = d′} {d″ = d″} h k = list-unique (reading p pr) d′ d″ (h .size ∙ sym (k .size)) (h .each) (k .each) (low-unique (reading p pr) (h .law pr) (k .law pr))
+pub mix-unique : {p : ℕ} {g x h y d d′ d″ : List ℕ} → MixAsks p g h d → Mixed p g x h y d d′ → Mixed p g x h y d d″ → d′ ≡ d″
+mix-unique {p} {d′ = d′} {d″ = d″} t h k =
+    let pr = t .modulus .prime in
+    list-unique (reading p pr) d′ d″ (h .size ∙ sym (k .size)) (h .each) (k .each) (low-unique (reading p pr) (h .law pr) (k .law pr))
 
-pub times-unique : {p : ℕ} (pr : Prime p) {x y d r s : List ℕ} → Times p x y d r → Times p x y d s → r ≡ s
-times-unique {p} pr h k = by-list (reading p pr) (h .size) (k .size) (h .each) (k .each) (h .law pr) (k .law pr)
+pub times-unique : {p : ℕ} {x y d r s : List ℕ} → TimesAsks p x y d → Times p x y d r → Times p x y d s → r ≡ s
+times-unique {p} t h k = let pr = t .modulus .prime in by-list (reading p pr) (h .size) (k .size) (h .each) (k .each) (h .law pr) (k .law pr)
 
 pub scale-unique : {p s : ℕ} {d d′ d″ : List ℕ} → Scaled p s d d′ → Scaled p s d d″ → d′ ≡ d″
 scale-unique {p} {s} {d} {d′} {d″} h k =
@@ -87,7 +89,7 @@ pub monic-unique : {p c n : ℕ} {rows rows′ rows″ : List ℕ} → MonicAsks
 monic-unique {p} {c} {n} {rows} {rows′} {rows″} g h k = ext-getD 0 rows′ rows″ (h .size ∙ sym (k .size)) (λ i _. go i (decLt i (c + c + c)))
   where
     same : h .by ≡ k .by
-    same = inverse-mod-unique p (g .prime) (getD rows (n - 1) 0) (g .top-below) (h .by) (k .by) (h .by-below) (k .by-below) (h .one) (k .one)
+    same = inverse-mod-unique p (g .modulus .prime) (getD rows (n - 1) 0) (g .top-below) (h .by) (k .by) (h .by-below) (k .by-below) (h .one) (k .one)
 
     go : (i : ℕ) → Dec (i < c + c + c) → getD rows′ i 0 ≡ getD rows″ i 0
     go i (yes l) = h .at i l ∙ ap (λ m. (getD rows i 0 * m) % p) same ∙ sym (k .at i l)
@@ -98,7 +100,7 @@ monic-unique {p} {c} {n} {rows} {rows′} {rows″} g h k = ext-getD 0 rows′ r
 pub invert-unique : {p c k : ℕ} {g h gh ngh rows s rows′ s′ rows″ s″ : List ℕ} → InvertAsks p c k g h gh ngh rows s
     → Inverted p c g h rows s rows′ s′ → Inverted p c g h rows s rows″ s″ → (rows′ ≡ rows″) × (s′ ≡ s″)
 invert-unique {p} {c} {g = G} {h = H} {rows = rows} {rows′ = rows′} {rows″ = rows″} i u v =
-    let pr = i .prime in
+    let pr = i .modulus .prime in
     let ρ = reading p pr in
     let (κ, nz, e) = i .constant pr in
     let (ν, f, _) = has-inv (ρ .𝓥) (κ, nz, ρ .𝓥 .const-lead κ) in

@@ -1,4 +1,4 @@
--- Crates prime and poly. The laws of poly speak of a prime modulus: so do the theorems. `size-unique` is also for long.
+-- Crates num_mod, num_prime, poly_rows and poly_factors. `size-unique` is also for poly_long.
 use mathlib.Core.Path.{_≡_, refl, sym, ap, _∙_}
 use mathlib.Core.Logic.{_⊎_, inl, inr}
 use mathlib.Core.Bool.{Bool, true, false}
@@ -22,11 +22,12 @@ use Rattle.math_rows.proofs.Floors.{sized}
 use Rattle.math_rows.proofs.Quotient.{division-unique}
 use Rattle.math_rows.proofs.Unique.{row-unique}
 use Rattle.num_prime.specs.Table.{PrimeTest}
-use Rattle.poly_rows.specs.Leaf.{Opposite, ScaleInGives, Crossed, CrossInGives, Product, Listed}
+use Rattle.poly_rows.specs.Leaf.{Given, Opposite, ScaleInAsks, ScaleInGives, CrossInAsks, CrossInGives, MulAsks, Product, Listed}
 use Rattle.num_mod.specs.Prepared.{Added}
+use Rattle.num_mod.specs.declared.Modulus.{Modulus}
 use Rattle.poly_rows.specs.Division.{DivisionAsks, Quotient}
 use Rattle.poly_rows.specs.Polynomial.{polynomial}
-use Rattle.poly_factors.specs.Factors.{Over, OverBoth, Common, SquareTest, CoprimeTest}
+use Rattle.poly_factors.specs.Factors.{OverBoth, Common, SquareTest, CoprimeTest}
 use Rattle.poly_rows.proofs.Leaf as leaf
 use Rattle.poly_rows.proofs.Division.{div-pos}
 use Rattle.demands_inner.proofs.Rows.{by-row}
@@ -48,23 +49,21 @@ from-list-unique {l} {r} {s} h k = ext-getD 0 r s (h .size ∙ sym (k .size)) (�
 pub add-product-unique : {p s x y r r′ : ℕ} → Added p s x y r → Added p s x y r′ → r % p ≡ r′ % p
 add-product-unique h k = h .law ∙ sym (k .law)
 
--- ---- for a prime
+-- ---- rows
+pub minus-unique : {p : ℕ} {x r s : List ℕ} → Given p x → Opposite p x r → Opposite p x s → r ≡ s
+minus-unique {p} g h k = by-row (reading p (g .prime)) (h .is-row) (k .is-row) (h .law (g .prime)) (k .law (g .prime))
+
+pub scale-in-unique : {q : Modulus} {c : ℕ} {x : List ℕ} {n : ℕ} {r s : List ℕ} → ScaleInAsks q c x n → ScaleInGives (q .p) c x n r → ScaleInGives (q .p) c x n s → r ≡ s
+scale-in-unique {q} g h k = by-row (reading (q .p) (g .prime)) (h .short .is-row) (k .short .is-row) (h .scaled .law (g .prime)) (k .scaled .law (g .prime))
+
+pub cross-in-unique : {q : Modulus} {a : ℕ} {x : List ℕ} {c k : ℕ} {y : List ℕ} {n : ℕ} {r s : List ℕ} → CrossInAsks q a x c k y n
+    → CrossInGives (q .p) a x c k y n r → CrossInGives (q .p) a x c k y n s → r ≡ s
+cross-in-unique {q} g h k = by-row (reading (q .p) (g .prime)) (h .short .is-row) (k .short .is-row) (h .crossed .law (g .prime)) (k .crossed .law (g .prime))
+
+pub mul-unique : {p : ℕ} {x y r s : List ℕ} → MulAsks p x y → Product p x y r → Product p x y s → r ≡ s
+mul-unique {p} g h k = by-row (reading p (g .prime)) (h .is-row) (k .is-row) (h .law (g .prime)) (k .law (g .prime))
+
 module _ {p : ℕ} (pr : Prime p) where
-  pub minus-unique : {x r s : List ℕ} → Opposite p x r → Opposite p x s → r ≡ s
-  minus-unique h k = by-row (reading p pr) (h .is-row) (k .is-row) (h .law pr) (k .law pr)
-
-  cross-unique : {a : ℕ} {x : List ℕ} {c k : ℕ} {y r s : List ℕ} → Crossed p a x c k y r → Crossed p a x c k y s → r ≡ s
-  cross-unique h k = by-row (reading p pr) (h .is-row) (k .is-row) (h .law pr) (k .law pr)
-
-  pub scale-in-unique : {c : ℕ} {x : List ℕ} {n : ℕ} {r s : List ℕ} → ScaleInGives p c x n r → ScaleInGives p c x n s → r ≡ s
-  scale-in-unique h k = by-row (reading p pr) (h .short .is-row) (k .short .is-row) (h .scaled .law pr) (k .scaled .law pr)
-
-  pub cross-in-unique : {a : ℕ} {x : List ℕ} {c k : ℕ} {y : List ℕ} {n : ℕ} {r s : List ℕ} → CrossInGives p a x c k y n r → CrossInGives p a x c k y n s → r ≡ s
-  cross-in-unique h k = cross-unique (h .crossed) (k .crossed)
-
-  pub mul-unique : {x y r s : List ℕ} → Product p x y r → Product p x y s → r ≡ s
-  mul-unique h k = by-row (reading p pr) (h .is-row) (k .is-row) (h .law pr) (k .law pr)
-
   -- what is left over, a − q b, is below b
   abbrev left : List ℕ → List ℕ → List ℕ → reading p pr .𝓥 .L .El
   left a b v = let ρ = reading p pr in let o = ρ .𝓥 .L .ops in o .add (row ρ a) (o .neg (o .mul (row ρ v) (row ρ b)))
@@ -72,16 +71,17 @@ module _ {p : ℕ} (pr : Prime p) where
   back : (a b v : List ℕ) → row (reading p pr) a ≡ reading p pr .𝓥 .L .ops .add (reading p pr .𝓥 .L .ops .mul (row (reading p pr) v) (row (reading p pr) b)) (left a b v)
   back a b v = let ρ = reading p pr in solve (ρ .𝓥 .L) (var 0) (var 1 :+ (var 0 :+ minus (var 1))) tt (row ρ a ∷ ρ .𝓥 .L .ops .mul (row ρ v) (row ρ b) ∷ [])
 
-  pub quotient-unique : {a b q q′ : List ℕ} {il : ℕ} → DivisionAsks p a b il → Quotient p a b q → Quotient p a b q′ → q ≡ q′
-  quotient-unique {a} {b} {q} {q′} {il} h g f =
-      let ρ = reading p pr in
-      let (m, s) = sized b in
-      let d = size-has-at ρ m (h .hb) s (div-pos p a b il m h s) in
-      let (x, y) = division-unique ρ (row ρ a) (row ρ b) (row ρ q) (left a b q) (row ρ q′) (left a b q′) (m - 1) d (row-poly ρ q) (row-poly ρ q′) (back a b q) (back a b q′) (g .law pr (m - 1) d) (f .law pr (m - 1) d) in
-      row-unique ρ (g .is-row) (f .is-row) x
+pub quotient-unique : {p : ℕ} {a b q q′ : List ℕ} {il : ℕ} → DivisionAsks p a b il → Quotient p a b q → Quotient p a b q′ → q ≡ q′
+quotient-unique {p} {a} {b} {q} {q′} {il} h g f =
+    let pr = h .prime in
+    let ρ = reading p pr in
+    let (m, s) = sized b in
+    let d = size-has-at ρ m (h .hb) s (div-pos p a b il m h s) in
+    let (x, y) = division-unique ρ (row ρ a) (row ρ b) (row ρ q) (left pr a b q) (row ρ q′) (left pr a b q′) (m - 1) d (row-poly ρ q) (row-poly ρ q′) (back pr a b q) (back pr a b q′) (g .law pr (m - 1) d) (f .law pr (m - 1) d) in
+    row-unique ρ (g .is-row) (f .is-row) x
 
 -- ---- tests
-pub squarefree-unique : {p : ℕ} {x : List ℕ} (r s : Bool) → Over p x → SquareTest p x r → SquareTest p x s → r ≡ s
+pub squarefree-unique : {p : ℕ} {x : List ℕ} (r s : Bool) → Given p x → SquareTest p x r → SquareTest p x s → r ≡ s
 squarefree-unique true true g h k = refl
 squarefree-unique false false g h k = refl
 squarefree-unique {p} {x} true false g h k = absurd (free-no-square (reading p (g .prime) .𝓥) (polynomial p (g .prime) x) (h (g .prime)) (k (g .prime)))

@@ -1,34 +1,59 @@
--- Crate reduce.
---   part-unique, lead-of-unique   at a meaning of the series; the second where the size has a degree
+-- Crates basis_parts and basis_reduce.
+--   part-unique, top-of-unique, lead-of-unique   a polynomial part, its top, its leading coefficient
 --   reduced-unique             two reductions have elements that differ by a constant each, and one length: more the contract does not settle
-use mathlib.Core.Path.{_≡_}
+use mathlib.Core.Path.{_≡_, sym, _∙_}
 use mathlib.Core.Bool.{Bool}
 use mathlib.Core.List.{List}
 use Prim.Native.Nat.{ℕ, _-_, _<_, _≤_}
 use native.Mathlib.Omega.{arith}
-use Rattle.math_valued.specs.Degree.{Has, Lt}
+use native.Mathlib.Decide.{decLt}
+use Rattle.math_valued.specs.Degree.{Lt}
 use Rattle.math_valued.proofs.Degree.{has-eq, lt-up, same}
-use Rattle.math_valued.proofs.Compare.{has-scale}
+use Rattle.math_valued.proofs.Compare.{has-scale, leads-unique}
 use Rattle.math_rows.proofs.Floors.{floor-lt, floor-top, top-not}
 use Rattle.math_rows.proofs.Unique.{row-unique, cast-inj}
 use Rattle.math_turns.proofs.Turn.{moved-back, moved-then}
-use Rattle.basis_parts.specs.Frame.{Frame, Meaning, rd, pt, side, X, Hasμ}
-use Rattle.basis_parts.specs.Leaves.{Parted, Led}
+use Rattle.basis_parts.specs.Frame.{Frame, Meaning, rd, pt, X, Hasμ}
+use Rattle.basis_parts.specs.Leaves.{PartAsks, Parted, TopOfAsks, Topped, LeadOfAsks, Led}
+use Rattle.basis_parts.specs.declared.Top.{Top}
+use Rattle.basis_parts.proofs.Tops.{topped-most, topped-not, topped-has}
 use Rattle.basis_reduce.specs.Clear.{Pair, Ends, ClearYAsks, Reduced}
 use Rattle.demands_inner.proofs.Rows.{floor-unique}
 use Rattle.demands_inner.specs.UpTo.{Scaled}
 use Rattle.demands_inner.proofs.Pairs.{times-X, pairs-unique}
 
--- ---- reduce
-pub part-unique : {F : Frame} (μ : Meaning F) {e : Bool} {b c : List ℕ} {top : ℕ} {z z′ : List ℕ} → Parted F e b c top z → Parted F e b c top z′ → z ≡ z′
-part-unique μ {z = z} {z′ = z′} h k = row-unique (rd μ) (h .short .is-row) (k .short .is-row) (floor-unique (rd μ) z z′ (h .law μ) (k .law μ))
+-- ---- polynomial parts and their tops
+pub part-unique : {F : Frame} {e : Bool} {b c : List ℕ} {top : ℕ} {z z′ : List ℕ} → PartAsks F b c top → Parted F e b c top z → Parted F e b c top z′ → z ≡ z′
+part-unique {z = z} {z′ = z′} i h k = let μ = i .some in row-unique (rd μ) (h .short .is-row) (k .short .is-row) (floor-unique (rd μ) z z′ (h .law μ) (k .law μ))
 
-pub lead-of-unique : {F : Frame} (μ : Meaning F) {e : Bool} {b c : List ℕ} {r s : ℕ} (d : ℕ) → Has (rd μ .𝓥) (side μ e (pt μ b c)) d → Led F e b c r → Led F e b c s → r ≡ s
-lead-of-unique μ {r = r} {s = s} d g h k =
-    let (a, l, x) = h .law μ d g in
-    let (a′, l′, x′) = k .law μ d g in
+pub top-of-unique : {F : Frame} {e : Bool} {b c : List ℕ} {top l low : ℕ} (t t′ : Top) → TopOfAsks F e b c top l low → Topped F e b c low l t → Topped F e b c low l t′ → t ≡ t′
+top-of-unique {low = low} t t′ i h k = λ j. record { n = n j; c = leads (decLt low (t .n)) j }
+  where
+    n : t .n ≡ t′ .n
+    n =
+        let a : t .n ≤ t′ .n = topped-most h (i .inp .some) (k .ends (i .inp .some)) (t′ .n) (omega arith) (k .from) in
+        let b : t′ .n ≤ t .n = topped-most k (i .inp .some) (h .ends (i .inp .some)) (t .n) (omega arith) (h .from) in
+        omega arith
+
+    leads : Dec (low < t .n) → t .c ≡ t′ .c
+    leads (yes u) =
+        let μ = i .inp .some in
+        let e : t .n ≡ t′ .n = n in
+        let (x, y, z) = topped-has k (omega arith) μ in
+        cast-inj (rd μ) (t .c) (t′ .c) (h .below) (k .below) (leads-unique (rd μ .𝓥) (t .n - 1, 0, topped-not h u μ, h .lead u μ) (t′ .n - 1, 0, y, z))
+    leads (no u) =
+        let a : low ≤ t .n = h .from in
+        let e : t .n ≡ t′ .n = n in
+        h .none (omega arith) ∙ sym (k .none (omega arith))
+
+pub lead-of-unique : {F : Frame} {e : Bool} {b c : List ℕ} {top r s : ℕ} → LeadOfAsks F e b c top → Led F e b c r → Led F e b c s → r ≡ s
+lead-of-unique {r = r} {s = s} i h k =
+    let μ = i .inp .some in
+    let (a, l, x) = h .law μ (i .d) (i .has) in
+    let (a′, l′, x′) = k .law μ (i .d) (i .has) in
     cast-inj (rd μ) r s l l′ (rd μ .𝓥 .lead-unique x x′)
 
+-- ---- the reduction
 module _ {F : Frame} {q : Pair} {top lu : ℕ} (μ : Meaning F) where
   positive : {o : Ends} → Reduced F q top lu o → 0 < o .lx
   positive {o} h = let l : h .x2 < o .lx = h .x-less in omega arith

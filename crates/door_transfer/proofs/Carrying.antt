@@ -21,7 +21,7 @@ lead p k {l} d = record { some = let f : leading l ≢ 0 = leading-some p (k .pr
 
 module _ (p : ℕ) (G H G′ H′ : List ℕ) (c : ℕ) (l : List ℕ) (h : CarryAsks p G H G′ H′ c l) where
   pub multiply-asks : (x y : ℕ) → x < p → y < p → MultipliedAsks p x y c l
-  multiply-asks x y u v = record { modulus = record { big = h .modulus .prime .big; small = h .modulus .small }; x-below = u; y-below = v; whole = h .whole }
+  multiply-asks x y u v = record { modulus = record { prime = h .modulus .prime; small = h .modulus .small }; x-below = u; y-below = v; whole = h .whole }
 
   module _ (x y : ℕ) (w : Law p x y (leading G) (leading H) (leading G′) (leading H′)) where
     pub carried-made : (l′ : List ℕ) → Multiplied p x y c l l′ → Carried p G H G′ H′ c l l′

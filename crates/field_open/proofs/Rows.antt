@@ -55,6 +55,7 @@ module _ {p : ℕ} {G H x y : List ℕ} (a : Accepted p G H) (u : Listed G x) (v
   pub product-room : MulAsks p x y
   product-room = record {
     modulus = record { big = a .prime .big; small = (let h : p ≤ 65535 = a .high in omega arith) };
+    prime = a .prime;
     hx = row-of (a .listG) u;
     hy = row-of (a .listH) v;
     room = λ n m sx sy.

@@ -78,6 +78,7 @@ module _ {p : ℕ} {x0 x2 y0 y2 k f : List ℕ} (c : CutAsks p x0 x2 y0 y2) (h :
   pub by-content : {n il : ℕ} → Size k n → Inverse p (getD k (n - 1) 0) il → (x : List ℕ) → Row p x → DivisionAsks p x k il
   by-content {n} {il} s i x r = record {
     modulus = c .rows .modulus;
+    prime = c .rows .prime;
     ha = r;
     hb = h .is-row;
     hi = i .below;

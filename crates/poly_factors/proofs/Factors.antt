@@ -80,11 +80,11 @@ module _ {p : ℕ} {a b x y : List ℕ} {n m : ℕ} (i : Euclid p a b x y n m) (
       let l : k < n = euclid-less t o k s pr in
       record { size = o .is-row .size; fits = omega (arith, room .1); above = λ j u. s .above j (omega arith) }
 
-pub euclid-room : {q : Modulus} {a b x y : List ℕ} {n m : ℕ} → Euclid (q .p) a b x y n m → 0 < m → m ≤ n → Prepared q → CrossInAsks q (getD y (m - 1) 0) x (getD x (n - 1) 0) (n - m) y n
-euclid-room {q} {x = x} {n = n} {m = m} i pos le h =
+pub euclid-room : {q : Modulus} {a b x y : List ℕ} {n m : ℕ} → Euclid (q .p) a b x y n m → 0 < m → m ≤ n → Prepared q → Prime (q .p) → CrossInAsks q (getD y (m - 1) 0) x (getD x (n - 1) 0) (n - m) y n
+euclid-room {q} {x = x} {n = n} {m = m} i pos le h pr =
     let r = room i pos le in
     let l : getD x (n - 1) 0 < q .p = i .hx .each (n - 1) in
-    cross-by n h (i .hy .each (m - 1)) (omega arith) (i .hx) (i .hy) (i .sx) (i .sy) (omega arith) (r .0) (r .1)
+    cross-by n h pr (i .hy .each (m - 1)) (omega arith) (i .hx) (i .hy) (i .sx) (i .sy) (omega arith) (r .0) (r .1)
 
 pub euclid-end : (p : ℕ) (a b x y : List ℕ) (n m : ℕ) → Euclid p a b x y n m → m ≤ 0 → Common p a b x
 euclid-end p a b x y n m i z = record {

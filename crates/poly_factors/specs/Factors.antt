@@ -22,11 +22,6 @@ pub record Derived (p : ℕ) (x r : List ℕ) : Type 0 where
   pub is-row : Row p r
   pub law : (pr : Prime p) → row (reading p pr) r ≡ derivation p pr .D (row (reading p pr) x)
 
-pub record Over (p : ℕ) (x : List ℕ) : Type 0 where
-  pub modulus : IsModulus p
-  pub prime : Prime p
-  pub hx : Row p x
-
 pub record OverBoth (p : ℕ) (x y : List ℕ) : Type 0 where
   pub modulus : IsModulus p
   pub prime : Prime p

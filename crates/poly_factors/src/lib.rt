@@ -5,7 +5,7 @@ use poly_rows::cross_in;
 use poly_rows::size;
 use poly_rows::size_from;
 ghost use Rattle.poly_rows.specs.Leaf.{Given};
-ghost use Rattle.poly_factors.specs.Factors.{Derived, Over, OverBoth, GcdAsks, Common, SquareTest, CoprimeTest};
+ghost use Rattle.poly_factors.specs.Factors.{Derived, OverBoth, GcdAsks, Common, SquareTest, CoprimeTest};
 
 type Row = [u64; 32];
 
@@ -53,7 +53,7 @@ pub fn gcd(q: Modulus, a: &Row, b: &Row) -> Row
 
 // Whether no square of a polynomial that is not constant divides x: whether x is coprime to its derivative, which is 0 for a p-th power.
 pub fn squarefree(p: u64, x: &Row) -> bool
-    requires { ⌜ Over p (now x) ⌝ }
+    requires { ⌜ Given p (now x) ⌝ }
     ensures { λ r. ⌜ SquareTest p (now (x .entry)) r ⌝ }
 {
     let d = derivative(p, x);

@@ -99,7 +99,7 @@ zeros-none ρ e = ap (row ρ) e ∙ zero-row ρ (replicate 32 0) zeros-size
 
 module _ {M : Modulus} {x : List ℕ} {n : ℕ} {y : List ℕ} {m : ℕ} {r : List ℕ} (h : TimesInAsks M x n y m r) where
   pub times-first : MixAsks M x n y m r
-  times-first = record { modulus = h .modulus; hx = h .hx; hy = h .hy; sx = h .sx; sy = h .sy; fits = h .fits; hr = zeros-to (h .modulus .big) (h .blank) }
+  times-first = record { modulus = h .modulus; prime = h .prime; hx = h .hx; hy = h .hy; sx = h .sx; sy = h .sy; fits = h .fits; hr = zeros-to (h .modulus .big) (h .blank) }
 
   module _ {o : List ℕ} (g : Mixed (M .p) false x n y m r o) where
     pub times-product : Product (M .p) x y o
@@ -120,6 +120,7 @@ module _ {M : Modulus} {x : List ℕ} {nx : ℕ} {y : List ℕ} {ny : ℕ} {z : 
   pub det-both : BothInAsks M x nx y ny z nz v nv r 0
   det-both = record {
     modulus = h .modulus;
+    prime = h .prime;
     hx = h .hx;
     hy = h .hy;
     hz = h .hz;

@@ -1,4 +1,4 @@
--- Products and quotients into lent rows, by known lengths (`Size` of crate math_rows).
+-- Products and quotients into lent rows, by known lengths (`Size` of crate math_rows), over a prime p.
 --   signOf k e z   z, or − z where e is true
 --   mix_in         Mixed: r ± x y, with r left as it was past the product
 --   both_in        BothInGives: r ± x y ± z v and its length
@@ -30,6 +30,7 @@ signOf o false z = z
 
 pub record MixAsks (q : Modulus) (x : List ℕ) (n : ℕ) (y : List ℕ) (m : ℕ) (r : List ℕ) : Type 0 where
   pub modulus : Prepared q
+  pub prime : Prime (q .p)
   pub hx : Row (q .p) x
   pub hy : Row (q .p) y
   pub sx : Size x n
@@ -45,6 +46,7 @@ pub record Mixed (p : ℕ) (e : Bool) (x : List ℕ) (n : ℕ) (y : List ℕ) (m
 
 pub record BothInAsks (q : Modulus) (x : List ℕ) (nx : ℕ) (y : List ℕ) (ny : ℕ) (z : List ℕ) (nz : ℕ) (v : List ℕ) (nv : ℕ) (r : List ℕ) (l : ℕ) : Type 0 where
   pub modulus : Prepared q
+  pub prime : Prime (q .p)
   pub hx : Row (q .p) x
   pub hy : Row (q .p) y
   pub hz : Row (q .p) z
@@ -66,6 +68,7 @@ pub record BothInGives (p : ℕ) (e : Bool) (x y : List ℕ) (f : Bool) (z v r o
 
 pub record TimesInAsks (q : Modulus) (x : List ℕ) (n : ℕ) (y : List ℕ) (m : ℕ) (r : List ℕ) : Type 0 where
   pub modulus : Prepared q
+  pub prime : Prime (q .p)
   pub hx : Row (q .p) x
   pub hy : Row (q .p) y
   pub sx : Size x n
@@ -79,6 +82,7 @@ pub record TimesInGives (p : ℕ) (x y o : List ℕ) (l : ℕ) : Type 0 where
 
 pub record DetInAsks (q : Modulus) (x : List ℕ) (nx : ℕ) (y : List ℕ) (ny : ℕ) (z : List ℕ) (nz : ℕ) (v : List ℕ) (nv : ℕ) (r : List ℕ) : Type 0 where
   pub modulus : Prepared q
+  pub prime : Prime (q .p)
   pub hx : Row (q .p) x
   pub hy : Row (q .p) y
   pub hz : Row (q .p) z

@@ -152,7 +152,7 @@ pub scaled : (p s : ℕ) (d₀ d : List ℕ) (i : ℕ) → ScaleAsks p s → Fil
 scaled p s d₀ d i g h l =
     let f : ℕ → ℕ = (λ k. N._*_ (getD d₀ k 0) s % p) in
     let e : d ≡ tab (length d₀) f = filled-end (length d₀) f d i h l in
-    let pos : 0 < p = let b : 1 < p = g .modulus .big in omega arith in record {
+    let pos : 0 < p = let b : 1 < p = g .modulus .prime .big in omega arith in record {
       size = h .size;
       at = λ k u. h .done k (omega arith);
       each = below p (length d₀) f d pos (λ k. mod-lt (N._*_ (getD d₀ k 0) s) pos) e;
@@ -163,7 +163,7 @@ pub mixed : (p : ℕ) (g x h y d₀ d : List ℕ) (i : ℕ) → MixAsks p g h d�
 mixed p g x h y d₀ d i m w l =
     let f : ℕ → ℕ = (λ k. N._+_ (sumTo (termAt g x k) (length g)) (sumTo (termAt h y k) (length h)) % p) in
     let e : d ≡ tab (length d₀) f = filled-end (length d₀) f d i w l in
-    let pos : 0 < p = let b : 1 < p = m .modulus .big in omega arith in record {
+    let pos : 0 < p = let b : 1 < p = m .modulus .prime .big in omega arith in record {
       size = w .size;
       each = below p (length d₀) f d pos (λ k. mod-lt (N._+_ (sumTo (termAt g x k) (length g)) (sumTo (termAt h y k) (length h))) pos) e;
       law = λ pr. let ρ = reading p pr in let o = ρ .𝓥 .L .ops in

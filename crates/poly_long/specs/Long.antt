@@ -1,5 +1,5 @@
 -- What the functions on long polynomials ask and hand out. A list of stored numbers stands for the polynomial `row` (crate math_rows),
--- whatever its length. The laws hold for every prime p.
+-- whatever its length. p is a prime below 2^16 (`Storable`).
 --   Low ρ n z l                  l holds the n lowest coefficients of the polynomial z
 --   sum_at     SumAt             the first n terms of coefficient k of x y
 --   digit      Digit             one coefficient of a quotient, from those above it
@@ -25,9 +25,9 @@ pub record Low {p : ℕ} (ρ : Reading p) (n : ℕ) (z : ρ .𝓥 .L .El) (l : L
   pub is-poly : ρ .𝓥 .IsPoly rest
   pub law : z ≡ ρ .𝓥 .L .ops .add (row ρ l) (ρ .𝓥 .L .ops .mul (tpow ρ n) rest)
 
--- a modulus whose remainders are stored in 16 bits
+-- a prime whose remainders are stored in 16 bits
 pub record Storable (p : ℕ) : Type 0 where
-  pub big : 1 < p
+  pub prime : Prime p
   pub small : p < 65536
 
 pub record SumAtAsks (x : List ℕ) (n k : ℕ) : Type 0 where

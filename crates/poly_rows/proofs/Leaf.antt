@@ -9,6 +9,7 @@ use lib.ListN.{length, getD, set, replicate, List·getD-eq-default}
 use lib.Seq.{getD-set-other}
 use Rattle.math_ring.proofs.Laws as laws
 use Rattle.num_mod.proofs.Quick.{small-mul}
+use Rattle.math_fp.specs.Fp.{Prime}
 use Rattle.math_rows.specs.Made.{reading}
 use Rattle.math_rows.specs.Row.{tab, Row, Size, row, coefs, shiftAt}
 use Rattle.math_rows.proofs.Tab.{zeros-at, tab-row, crossAt, cross-row, Filled, filled-start, filled-more, Begun, begun-end, shift-high, shift-small}
@@ -101,10 +102,11 @@ crossed {q} {s} {x} {c} {k} {y} {n} {i} {r} h l w =
 size-short : {p : ℕ} {x : List ℕ} {n : ℕ} (m : ℕ) → Row p x → Size x n → n ≤ m → Short p x m
 size-short m h s l = record { is-row = h; above = λ i u. s .above i (omega arith) }
 
-pub cross-by : {q : Modulus} {s : ℕ} {x : List ℕ} {c k : ℕ} {y : List ℕ} {n m : ℕ} (top : ℕ) → Prepared q → s < q .p → c ≤ q .p → Row (q .p) x → Row (q .p) y → Size x n → Size y m
+pub cross-by : {q : Modulus} {s : ℕ} {x : List ℕ} {c k : ℕ} {y : List ℕ} {n m : ℕ} (top : ℕ) → Prepared q → Prime (q .p) → s < q .p → c ≤ q .p → Row (q .p) x → Row (q .p) y → Size x n → Size y m
     → n ≤ top → m + k ≤ top → top ≤ 32 → CrossInAsks q s x c k y top
-cross-by {k = k} {y = y} {n = n} {m = m} top h hs hc hx hy sx sy u v w = record {
+cross-by {k = k} {y = y} {n = n} {m = m} top h pr hs hc hx hy sx sy u v w = record {
   modulus = h;
+  prime = pr;
   hs = hs;
   hx = size-short top hx sx u;
   hc = hc;

@@ -116,8 +116,8 @@ inverts-has {p} pr {b} {il} hb h = go (sized b)
         absurd (omega (arith, f, g))
     go (suc n, s) = (n, size-has (reading p pr) hb s)
 
-pub by-inverse : {p il : ℕ} {a b : List ℕ} → IsModulus p → Row p a → Row p b → Inverts p b il → DivisionAsks p a b il
-by-inverse m ha hb h = record { modulus = m; ha = ha; hb = hb; hi = h .below; inv = h .law }
+pub by-inverse : {p il : ℕ} {a b : List ℕ} → IsModulus p → Prime p → Row p a → Row p b → Inverts p b il → DivisionAsks p a b il
+by-inverse m pr ha hb h = record { modulus = m; prime = pr; ha = ha; hb = hb; hi = h .below; inv = h .law }
 
 pub odd-prime : (p : ℕ) → Prime p → 5 ≤ p → p % 2 ≡ 1
 odd-prime p pr l = let h : p % 2 ≢ 0 = pr .only 2 (omega arith) (omega arith) in omega (arith, h)

@@ -23,6 +23,7 @@ pub record Inverts (p : ℕ) (b : List ℕ) (il : ℕ) : Type 0 where
 
 pub record DivisionAsks (p : ℕ) (a b : List ℕ) (il : ℕ) : Type 0 where
   pub modulus : IsModulus p
+  pub prime : Prime p
   pub ha : Row p a
   pub hb : Row p b
   pub hi : il < p

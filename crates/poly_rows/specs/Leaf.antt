@@ -1,5 +1,5 @@
--- What the functions on rows ask and hand out. A row of 32 numbers below p stands for the polynomial `row` (crate math_rows); the laws
--- hold for every prime p, the rows are rows for every modulus.
+-- What the functions on rows ask and hand out. A row of 32 numbers below p stands for the polynomial `row` (crate math_rows); p is prime,
+-- where a law speaks of polynomials.
 --   size, size_from   the trimmed length: `Size` of crate math_rows
 --   minus             Opposite: − x
 --   scale_in          ScaleInGives: c x in place of x, which is Short: 0 from n on, before and after
@@ -31,6 +31,7 @@ pub record Short (p : ℕ) (x : List ℕ) (n : ℕ) : Type 0 where
 -- ---- sums
 pub record Given (p : ℕ) (x : List ℕ) : Type 0 where
   pub modulus : IsModulus p
+  pub prime : Prime p
   pub hx : Row p x
 
 pub record Opposite (p : ℕ) (x r : List ℕ) : Type 0 where
@@ -43,6 +44,7 @@ pub record Scaled (p c : ℕ) (x r : List ℕ) : Type 0 where
 
 pub record ScaleInAsks (q : Modulus) (c : ℕ) (x : List ℕ) (n : ℕ) : Type 0 where
   pub modulus : Prepared q
+  pub prime : Prime (q .p)
   pub hc : c < q .p
   pub hx : Short (q .p) x n
   pub fits : n ≤ 32
@@ -58,6 +60,7 @@ pub record Crossed (p s : ℕ) (x : List ℕ) (c k : ℕ) (y r : List ℕ) : Typ
 
 pub record CrossInAsks (q : Modulus) (s : ℕ) (x : List ℕ) (c k : ℕ) (y : List ℕ) (n : ℕ) : Type 0 where
   pub modulus : Prepared q
+  pub prime : Prime (q .p)
   pub hs : s < q .p
   pub hx : Short (q .p) x n
   pub hc : c ≤ q .p
@@ -76,6 +79,7 @@ Fits x y = (n m : ℕ) → Size x n → Size y m → n + m ≤ 33
 
 pub record MulAsks (p : ℕ) (x y : List ℕ) : Type 0 where
   pub modulus : IsModulus p
+  pub prime : Prime p
   pub hx : Row p x
   pub hy : Row p y
   pub room : Fits x y

@@ -84,6 +84,7 @@ module _ {p cap : ℕ} {g h gh : List ℕ} {ie : ℕ} {b : Seven} (i : Generator
     x-in w t = record {
       inp = record {
         modulus = w;
+        prime = i .σ .prime;
         ha = hx .is-row;
         hb = i .rows 0;
         hc = hz .is-row;
@@ -101,7 +102,6 @@ module _ {p cap : ℕ} {g h gh : List ℕ} {ie : ℕ} {b : Seven} (i : Generator
         c-m1 = fits-of ρ (suc (setting (i .σ) .roots .dr + setting (i .σ) .roots .dr)) (suc (setting (i .σ) .roots .dw)) (hz .is-row) (i .rows 1) z-lt (z .rows 1) (omega (arith, z .both, z .w-pos, z .all));
         b-m2 = fits-of ρ (suc n) (suc (setting (i .σ) .roots .dr)) (i .rows 0) (i .rows 2) (z .rows 0) (z .rows 2) (omega (arith, z .both, z .w-pos, z .all));
       };
-      prime = i .σ .prime;
       α = k .of-r .α .0;
       β = k .of-r .β .0;
       γ = k .of-r .γ .0;
@@ -115,10 +115,10 @@ module _ {p cap : ℕ} {g h gh : List ℕ} {ie : ℕ} {b : Seven} (i : Generator
       blank = t;
     }
 
-    pub turned-r : {t : Three} {o : Spans} → Coordinates p xx (b .m0) zz b e t o → TurnedR p h gh b t o
-    turned-r {t} {o} c = record {
+    pub turned-r : {t : Three} {v : List ℕ} {o : Spans} → Coordinates p xx (b .m0) zz b e t v o → TurnedR p h gh b t o
+    turned-r c = record {
       spans = c .spans;
-      law = λ σ holds q. let (a, b, c) = c .law (σ .prime) _ _ _ (quot-r σ holds b (f .det) hx hz q) in (P-path (setting σ .𝓥) a, P-path (setting σ .𝓥) b, P-path (setting σ .𝓥) c);
+      law = λ σ holds q. let (a, b, c, _) = c .law (σ .prime) _ _ _ (quot-r σ holds b (f .det) hx hz q) in (P-path (setting σ .𝓥) a, P-path (setting σ .𝓥) b, P-path (setting σ .𝓥) c);
     }
 
   -- ---- w m
@@ -136,6 +136,7 @@ module _ {p cap : ℕ} {g h gh : List ℕ} {ie : ℕ} {b : Seven} (i : Generator
     y-in w t = record {
       inp = record {
         modulus = w;
+        prime = i .σ .prime;
         ha = kx .is-row;
         hb = hy .is-row;
         hc = i .rows 0;
@@ -153,7 +154,6 @@ module _ {p cap : ℕ} {g h gh : List ℕ} {ie : ℕ} {b : Seven} (i : Generator
         c-m1 = fits-of ρ (suc n) (suc (setting (i .σ) .roots .dw)) (i .rows 0) (i .rows 1) (z .rows 0) (z .rows 1) (omega (arith, z .both, z .r-pos, z .all));
         b-m2 = fits-of ρ (suc (setting (i .σ) .roots .dw + setting (i .σ) .roots .dw)) (suc (setting (i .σ) .roots .dr)) (hy .is-row) (i .rows 2) y-lt (z .rows 2) (omega (arith, z .both, z .r-pos, z .all));
       };
-      prime = i .σ .prime;
       α = k .of-w .α .0;
       β = k .of-w .β .0;
       γ = k .of-w .γ .0;
@@ -167,10 +167,10 @@ module _ {p cap : ℕ} {g h gh : List ℕ} {ie : ℕ} {b : Seven} (i : Generator
       blank = t;
     }
 
-    pub turned-w : {t : Three} {o : Spans} → Coordinates p xx yy (b .m0) b e t o → TurnedW p g gh b t o
-    turned-w {t} {o} c = record {
+    pub turned-w : {t : Three} {v : List ℕ} {o : Spans} → Coordinates p xx yy (b .m0) b e t v o → TurnedW p g gh b t o
+    turned-w c = record {
       spans = c .spans;
-      law = λ σ holds q. let (a, b, c) = c .law (σ .prime) _ _ _ (quot-w σ holds b (f .det) kx hy q) in (P-path (setting σ .𝓥) a, P-path (setting σ .𝓥) b, P-path (setting σ .𝓥) c);
+      law = λ σ holds q. let (a, b, c, _) = c .law (σ .prime) _ _ _ (quot-w σ holds b (f .det) kx hy q) in (P-path (setting σ .𝓥) a, P-path (setting σ .𝓥) b, P-path (setting σ .𝓥) c);
     }
 
   -- ---- what they have in common

@@ -16,7 +16,7 @@ use Rattle.step_divide.specs.Turns.{NegateAsks, Negated}
 module _ {p : ℕ} {x : List ℕ} {n : ℕ} (h : NegateAsks p x n) where
   pub negated : {o : List ℕ} (i : ℕ) → i ≡ n → Over 32 (λ j. (p - getD x j 0) % p) x o i → Negated p x o n
   negated {o} i e g = record {
-    opposite = opposite p x o (record { modulus = h .modulus; hx = h .hx })
+    opposite = opposite p x o (record { modulus = h .modulus; prime = h .prime; hx = h .hx })
         (ext-getD 0 o (tab 32 _) (g .size ∙ sym (length-tab 32 _)) (λ j u. let l : length o ≡ 32 = g .size in let w : j < 32 = omega arith in at j ∙ sym (at-tab 32 _ j w)));
     size = record {
       fits = (let f : n ≤ length x = h .sx .fits in let l : length x ≡ 32 = h .hx .size in let m : length o ≡ 32 = g .size in omega arith);

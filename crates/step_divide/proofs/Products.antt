@@ -125,7 +125,7 @@ module _ {p cap : ℕ} {g h gh : List ℕ} {ie : ℕ} {b : Seven} (i : Generator
 
   times-by : {mul lim : ℕ} {x y r : List ℕ} {n m : ℕ} (j k : ℕ) → Prepared (of p mul lim) → Row p x → Factor y → Lt (ρ .𝓥) (row ρ x) j → suc (i .σ .degG + i .σ .degH) ≤ k → j + k ≤ 33
       → Size x n → Size y m → r ≡ replicate 32 0 → TimesInAsks (of p mul lim) x n y m r
-  times-by j k w hx f lx u l sx sy t = record { modulus = w; hx = hx; hy = f .is-row; sx = sx; sy = sy; fits = fits-of ρ j k hx (f .is-row) lx (d.lt-up (ρ .𝓥) k (f .low) u) l _ _ sx sy; blank = t }
+  times-by j k w hx f lx u l sx sy t = record { modulus = w; prime = i .σ .prime; hx = hx; hy = f .is-row; sx = sx; sy = sy; fits = fits-of ρ j k hx (f .is-row) lx (d.lt-up (ρ .𝓥) k (f .low) u) l _ _ sx sy; blank = t }
 
   pub m1-by : {mul lim : ℕ} {y r : List ℕ} {n m : ℕ} → Prepared (of p mul lim) → Factor y → Size (b .m1) n → Size y m → r ≡ replicate 32 0 → TimesInAsks (of p mul lim) (b .m1) n y m r
   m1-by w f = times-by (suc (setting (i .σ) .roots .dw)) (suc (i .σ .degG + i .σ .degH)) w (i .rows 1) f (z .rows 1) (omega arith) (omega (arith, z .both, z .r-pos, z .all))
@@ -143,6 +143,7 @@ module _ {p cap : ℕ} {g h gh : List ℕ} {ie : ℕ} {b : Seven} (i : Generator
   pub lengths-in : {mul lim : ℕ} {e : List ℕ} → Prepared (of p mul lim) → e ≡ replicate 32 0 → LengthsOfAsks (of p mul lim) cap b e
   lengths-in w t = record {
     modulus = w;
+    prime = i .σ .prime;
     rows = i .rows;
     ends = ends;
     left = fits-of ρ (suc (setting (i .σ) .roots .dw)) (setting (i .σ) .roots .dr) (i .rows 1) (i .rows 5) (z .rows 1) (z .rows 5) (omega (arith, z .both, z .all));

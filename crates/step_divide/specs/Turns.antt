@@ -6,6 +6,7 @@
 use mathlib.Core.Path.{_≡_}
 use mathlib.Core.List.{List}
 use Prim.Native.Nat.{ℕ}
+use Rattle.math_fp.specs.Fp.{Prime}
 use Rattle.num_mod.specs.Residue.{IsModulus}
 use Rattle.math_rows.specs.Row.{Row, Size}
 use Rattle.poly_rows.specs.Leaf.{Opposite}
@@ -49,6 +50,7 @@ pub record TurnedW (p : ℕ) (g gh : List ℕ) (b : Seven) (t : Three) (o : Span
 -- ---- in place
 pub record NegateAsks (p : ℕ) (x : List ℕ) (n : ℕ) : Type 0 where
   pub modulus : IsModulus p
+  pub prime : Prime p
   pub hx : Row p x
   pub sx : Size x n
 

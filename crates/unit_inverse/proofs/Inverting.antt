@@ -44,7 +44,7 @@ row-scaled {p} ρ s at c l z h =
 
 module _ (p c k : ℕ) (g h gh ngh rows s : List ℕ) (t : InvertAsks p c k g h gh ngh rows s) where
   pos : 0 < p
-  pos = let o : 1 < p = t .modulus .big in omega arith
+  pos = let o : 1 < p = t .modulus .prime .big in omega arith
 
   pub invert-asks : (x y v w at : ℕ) (u f r z : List ℕ) → x + c ≤ c + c + c → y + c ≤ c + c + c → v + c ≤ c + c + c → w + c ≤ c + c + c → at + c ≤ c + c + c + c + c + c → length u ≤ 4096 → length f ≤ 4096 → length r ≡ length rows → length z ≡ length s
       → CofactorAsks p c k x y v w u f at r z
@@ -173,10 +173,10 @@ module _ (p c k : ℕ) (g h gh ngh rows s : List ℕ) (t : InvertAsks p c k g h 
 
     pub inverse-asks : (v : ℕ) → Norm p c gh r₃ v → Nonzero p v
     inverse-asks v N = record {
-      modulus = record { big = t .modulus .big; small = let o : p < 65536 = t .modulus .small in omega arith };
-      prime = t .prime;
+      modulus = record { big = t .modulus .prime .big; small = let o : p < 65536 = t .modulus .small in omega arith };
+      prime = t .modulus .prime;
       pos = elim (ℕ-discrete v 0) [
-        | yes z ↦ (let pr = t .prime in let ρ = reading p pr in let (κ, κ≢, e) = t .constant pr in
+        | yes z ↦ (let pr = t .modulus .prime in let ρ = reading p pr in let (κ, κ≢, e) = t .constant pr in
             absurd (κ≢ (const-inj ρ κ (ρ .𝓥 .K .ops .𝟎) (sym e ∙ sym (norm-is pr v N) ∙ ap (λ i. ρ .𝓥 .const (ρ .cast i)) z ∙ ap (ρ .𝓥 .const) (ρ .cast-zero)))))
         | no z ↦ omega arith
       ];

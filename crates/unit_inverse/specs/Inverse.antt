@@ -68,7 +68,6 @@ element ρ at c l = record { a = row ρ (cut at c l); b = row ρ (cut (at + c) c
 
 pub record InvertAsks (p c k : ℕ) (g h gh ngh rows s : List ℕ) : Type 0 where
   pub modulus : Storable p
-  pub prime : Prime p
   pub most : c ≤ longest
   pub upto : k ≤ c
   pub g-most : length g ≤ longest

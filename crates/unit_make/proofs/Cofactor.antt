@@ -34,7 +34,7 @@ use Rattle.unit_make.proofs.Turning.{storable, row-stored, six-path}
 
 -- - G H
 pub minus-in : {p : ℕ} {G H g h gh : List ℕ} {dr dw : ℕ} {r w : List ℕ} → Keeps p G H g h gh dr dw r w → Given p gh
-minus-in k = record { modulus = modulus k; hx = keeps.gh-row k }
+minus-in k = record { modulus = modulus k; prime = k .accepted .prime; hx = keeps.gh-row k }
 
 pub stored-minus : {p : ℕ} {G H x m : List ℕ} → Accepted p G H → Opposite p x m → Stored m
 stored-minus A o = row-stored (storable A) (o .is-row)
@@ -80,7 +80,6 @@ module _ (f : OpenedField) (c k : ℕ) (rows s g h gh m ngh : List ℕ) (eg : g 
     pub invert-in : InvertAsks (f .field .p) c k g h gh ngh rows s
     invert-in = record {
       modulus = storable A;
-      prime = A .prime;
       most = i .space .most;
       upto = i .upto;
       g-most = (let o : length g ≡ 32 = ap length eg ∙ keeps.g-row (i .known .kept) .size in omega arith);

@@ -38,7 +38,6 @@ module _ (f : OpenedField) (c d : ℕ) (rows s : List ℕ) (t : FinishedAsks f c
   pub monic-in : MonicAsks (f .field .p) c (d + 1) rows
   monic-in = record {
     modulus = storable A;
-    prime = A .prime;
     some = omega arith;
     upto = (let l : d < c = t .task .room in omega arith);
     room = (let w : length rows ≡ 6 * c = t .along .whole in omega arith);

@@ -34,7 +34,7 @@ use Rattle.unit_make.specs.Making.{Blank, MultipliedAsks, Multiplies}
 use Rattle.unit_make.proofs.Rows.{cut-below}
 
 pub storable : {p : ℕ} {G H : List ℕ} → Accepted p G H → Storable p
-storable {p} A = let l : 5 ≤ p = A .low in let u : p ≤ 65535 = A .high in record { big = omega arith; small = omega arith }
+storable {p} A = let u : p ≤ 65535 = A .high in record { prime = A .prime; small = omega arith }
 
 pub row-stored : {p : ℕ} {x : List ℕ} → Storable p → Row p x → Stored x
 row-stored {p} {x} s h = record { size = h .size; each = λ i. let l : getD x i 0 < p = h .each i in let u : p < 65536 = s .small in omega arith }

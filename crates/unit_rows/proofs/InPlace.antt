@@ -50,8 +50,8 @@ module _ (p c n : ℕ) (g h gh b rows s s₁ : List ℕ) (t : MultiplyByMAsks p 
 module _ (p c n : ℕ) (rows : List ℕ) (h : MonicAsks p c n rows) (v : ℕ) (e : v ≡ getD rows (n - 1) 0) where
   pub monic-asks : Nonzero p v
   monic-asks = record {
-    modulus = record { big = h .modulus .big; small = let o : p < 65536 = h .modulus .small in omega arith };
-    prime = h .prime;
+    modulus = record { big = h .modulus .prime .big; small = let o : p < 65536 = h .modulus .small in omega arith };
+    prime = h .modulus .prime;
     pos = let o : 0 < getD rows (n - 1) 0 = h .top in omega arith;
     below = let o : getD rows (n - 1) 0 < p = h .top-below in omega arith;
   }

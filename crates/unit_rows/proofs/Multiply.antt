@@ -69,7 +69,7 @@ module _ (p c n : ℕ) (g h gh b e s : List ℕ) (t : TimesAsks p c n g h gh b e
       (C₂ : Coordinate p c n (between 17 34 b) (between 0 17 b) m2g (between 102 119 b) e c s₁ s₂)
       (C₃ : Coordinate p c n (between 34 51 b) m1h (between 0 17 b) (between 102 119 b) e (c + c) s₂ s₃) where
     pos : 0 < p
-    pos = let o : 1 < p = t .modulus .big in omega arith
+    pos = let o : 1 < p = t .modulus .prime .big in omega arith
 
     upto : n ≤ c
     upto = t .upto

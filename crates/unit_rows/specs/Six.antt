@@ -93,7 +93,6 @@ pub record Turn (p c n : ℕ) (g h gh b rows s rows′ s′ : List ℕ) : Type 0
 -- the first three rows, times the inverse of the coefficient n − 1 of the first
 pub record MonicAsks (p c n : ℕ) (rows : List ℕ) : Type 0 where
   pub modulus : Storable p
-  pub prime : Prime p
   pub some : 0 < n
   pub upto : n ≤ c
   pub room : c + c + c ≤ length rows

@@ -11,12 +11,12 @@ use Rattle.basis_lattice.proofs.inside.Tie as tie
 divide-in-requires : tie.Need-divide-in-requires
 divide-in-requires c κs =
     let i = c .before .before .pre in
-    record { inp = by-inverse (bare (i .modulus)) (i .hb) (i .hu .is-row) (i .by-u); modulus = i .modulus; sa = i .sb; sb = i .su; blank = refl }
+    record { inp = by-inverse (bare (i .modulus)) (i .prime) (i .hb) (i .hu .is-row) (i .by-u); modulus = i .modulus; sa = i .sb; sb = i .su; blank = refl }
 
 divide-in-requires-2 : tie.Need-divide-in-requires-2
 divide-in-requires-2 c κs =
     let i = c .before .before .before .before .before .pre in
-    record { inp = by-inverse (bare (i .modulus)) (i .hc) (i .hu .is-row) (i .by-u); modulus = i .modulus; sa = i .sc; sb = i .su; blank = refl }
+    record { inp = by-inverse (bare (i .modulus)) (i .prime) (i .hc) (i .hu .is-row) (i .by-u); modulus = i .modulus; sa = i .sc; sb = i .su; blank = refl }
 
 both-in-requires : tie.Need-both-in-requires
 both-in-requires c κs =
@@ -27,7 +27,7 @@ divide-in-requires-3 : tie.Need-divide-in-requires-3
 divide-in-requires-3 c κs =
     let i = c .before .before .before .before .before .before .before .before .before .before .before .before .pre in
     let d = c .before .before .both-in .ensures in
-    record { inp = by-inverse (bare (i .modulus)) (d .is-row) (i .hu .is-row) (i .by-u); modulus = i .modulus; sa = d .size; sb = i .su; blank = refl }
+    record { inp = by-inverse (bare (i .modulus)) (i .prime) (d .is-row) (i .hu .is-row) (i .by-u); modulus = i .modulus; sa = d .size; sb = i .su; blank = refl }
 
 returns : tie.Need-returns
 returns c =

@@ -33,6 +33,7 @@ det-in-requires c κs =
     let n2 = c .before .before .size-from6 .ensures in
     record {
       modulus = i .modulus;
+      prime = i .prime;
       hx = i .rows 1;
       hy = i .rows 5;
       hz = i .rows 2;

@@ -14,7 +14,7 @@ less-in-requires : tie.Need-less-in-requires
 less-in-requires c κs =
     let i = c .before .before .before .before .before .before .before .pre .inp in
     let o = c .before .before .outer .ensures in
-    record { modulus = i .modulus; hx = o .β-is .quotient .is-row; hy = i .he; sx = o .β-is .size; sy = i .se; fits = o .β-is .quotient .room _ _ (o .β-is .size) (i .se); hr = o .s-is .is-row }
+    record { modulus = i .modulus; prime = i .prime; hx = o .β-is .quotient .is-row; hy = i .he; sx = o .β-is .size; sy = i .se; fits = o .β-is .quotient .room _ _ (o .β-is .size) (i .se); hr = o .s-is .is-row }
 
 returns : tie.Need-returns
 returns c =
@@ -27,7 +27,7 @@ less-in-requires-2 : tie.Need-less-in-requires-2
 less-in-requires-2 c κs =
     let i = c .before .before .before .before .before .before .before .before .before .before .before .pre .inp in
     let o = c .before .before .before .before .before .before .outer .ensures in
-    record { modulus = i .modulus; hx = o .γ-is .quotient .is-row; hy = i .he; sx = o .γ-is .size; sy = i .se; fits = o .γ-is .quotient .room _ _ (o .γ-is .size) (i .se); hr = o .t-is .is-row }
+    record { modulus = i .modulus; prime = i .prime; hx = o .γ-is .quotient .is-row; hy = i .he; sx = o .γ-is .size; sy = i .se; fits = o .γ-is .quotient .room _ _ (o .γ-is .size) (i .se); hr = o .t-is .is-row }
 
 returns-2 : tie.Need-returns-2
 returns-2 c =
@@ -39,12 +39,12 @@ returns-2 c =
 
 inside-requires : tie.Need-inside-requires
 inside-requires c κs =
-    let m = c .before .before .before .before .before .before .before .before .before .before .before .before .before .before .before .before .pre in
-    let o = c .before .before .before .before .before .before .before .before .before .before .before .outer .ensures in
+    let m = c .before .before .before .before .before .before .before .before .before .before .before .before .before .before .before .before .before .pre in
+    let o = c .before .before .before .before .before .before .before .before .before .before .before .before .outer .ensures in
     let i = m .inp in
     record {
       modulus = i .modulus;
-      prime = m .prime;
+      prime = i .prime;
       ha = i .ha;
       hb = o .β-is .quotient .is-row;
       hc = o .γ-is .quotient .is-row;
@@ -62,7 +62,7 @@ inside-requires c κs =
 
 returns-3 : tie.Need-returns-3
 returns-3 c =
-    let at4 = c .before .before .before .before in
+    let at4 = c .before .before .before .before .before in
     let at5 = at4 .before in
     let at8 = at5 .before .before .before in
     let at9 = at8 .before in

@@ -5,7 +5,7 @@ use Rattle.basis_parts.proofs.lead_of.Statement.{statement}
 use Rattle.basis_parts.proofs.lead_of.Tie as tie
 
 top-of-requires : tie.Need-top-of-requires
-top-of-requires c κs = record { inp = c .pre; fits = omega arith; room = omega arith; ends = part-lt (c .args .minus) (c .pre) }
+top-of-requires c κs = record { inp = c .pre .inp; fits = omega arith; room = omega arith; ends = part-lt (c .args .minus) (c .pre .inp) }
 
 returns : tie.Need-returns
 returns c = top-led (c .top-of .ensures)

@@ -15,7 +15,7 @@ abbrev μ-loop : tie.MeasureT-loop
 μ-loop f r w mb mc mx nb₀ nc₀ nx top l low x1 x2₀ nb nc x2 = x2 .n
 
 floor-in-requires : tie.Need-floor-in-requires Inv-loop μ-loop
-floor-in-requires c κs = let g = c .before .pre in record { inp = part-in (g .inp .room) (g .inp .hm); hz = g .hmx }
+floor-in-requires c κs = let g = c .before .pre in record { inp = part-in (g .inp .some) (g .inp .room) (g .inp .hm); hz = g .hmx }
 
 size-from-requires : tie.Need-size-from-requires Inv-loop μ-loop
 size-from-requires c κs = part-below (c .before .before .before .pre .inp .room) (c .before .floor-in .ensures)
@@ -58,7 +58,7 @@ floor-in-requires-2 : tie.Need-floor-in-requires-2 Inv-loop μ-loop
 floor-in-requires-2 c κs =
     let at5 = c .before .before .before .before .before in
     let at14 = at5 .before .before .before .before .before .before .before .before .before in
-    record { inp = part-in (at5 .loop .inv .room) (at5 .loop .inv .hn); hz = at14 .pre .hnx }
+    record { inp = part-in (at5 .loop .inv .some) (at5 .loop .inv .room) (at5 .loop .inv .hn); hz = at14 .pre .hnx }
 
 returns : tie.Need-returns Inv-loop μ-loop
 returns c =

@@ -40,14 +40,16 @@ returns c =
     let at10 = c .before .before .before .before .before .before .before .before .before .before in
     let at11 = at10 .before in
     let at18 = at11 .before .before .before .before .before .before .before in
-    c .finished .ensures .each (at18 .pre .by .inp) (at18 .pre .by .size) (swapped (at10 .if1 .taken) (at11 .reduced .ensures))
+    let o = c .finished .ensures in
+    record { based = o .each (at18 .pre .by .inp) (at18 .pre .by .size) (swapped (at10 .if1 .taken) (at11 .reduced .ensures)); swap = true; left = o .left }
 
 returns-2 : tie.Need-returns-2
 returns-2 c =
     let at10 = c .before .before .before .before .before .before .before .before .before .before in
     let at11 = at10 .before in
     let at18 = at11 .before .before .before .before .before .before .before in
-    c .finished2 .ensures .each (at18 .pre .by .inp) (at18 .pre .by .size) (unswapped (at10 .if1 .left) (at11 .reduced .ensures))
+    let o = c .finished2 .ensures in
+    record { based = o .each (at18 .pre .by .inp) (at18 .pre .by .size) (unswapped (at10 .if1 .left) (at11 .reduced .ensures)); swap = false; left = o .left }
 
 pub basis-in-spec : {M : Type 1} → statement M
 basis-in-spec = tie.close (tie.spec reduced-requires finished-requires finished-requires-2 returns returns-2)

@@ -1,5 +1,5 @@
 -- `basis_scale::finished` meets its contract: the lemmas of Based.
-use Rattle.basis_scale.proofs.Based.{double-x, double-y, based-lu, based-part, lx-pos, based-scales, based-u, based-fill, based}
+use Rattle.basis_scale.proofs.Based.{double-x, double-y, based-lu, based-part, lx-pos, based-scales, based-u, based-fill, based, left}
 use borrow.Author.Needs.{needs}
 use Rattle.basis_scale.proofs.finished.Statement.{statement}
 use Rattle.basis_scale.proofs.finished.Tie as tie
@@ -68,6 +68,8 @@ returns c =
     let i = at23 .pre in
     record {
       each = λ g s h. based g s h (at19 .lead-of .ensures) (at16 .factors-of .ensures) (at14 .scale-in .ensures) (i .by .size-1) (i .by .size-2)
+          (at12 .scale-in2 .ensures) (at10 .scale-in3 .ensures) (c .filled .ensures);
+      left = left (i .by .inp) (i .by .size) (i .from) (at19 .lead-of .ensures) (at16 .factors-of .ensures) (at14 .scale-in .ensures) (i .by .size-1) (i .by .size-2)
           (at12 .scale-in2 .ensures) (at10 .scale-in3 .ensures) (c .filled .ensures);
     }
 

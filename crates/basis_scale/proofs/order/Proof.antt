@@ -11,7 +11,7 @@ reduced-basis-requires : tie.Need-reduced-basis-requires
 reduced-basis-requires c κs = order-by (c .before .before .before .before .before .before .before .pre)
 
 returns : tie.Need-returns
-returns c = c .reduced-basis .ensures
+returns c = c .reduced-basis .ensures .based
 
 pub order-spec : {M : Type 1} → statement M
 order-spec = tie.close (tie.spec array-write-mb reduced-basis-requires returns)

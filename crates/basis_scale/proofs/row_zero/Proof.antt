@@ -15,7 +15,7 @@ mix-in-requires : tie.Need-mix-in-requires
 mix-in-requires c κs =
     let g = c .before .before .before .before .before .pre in
     let o = c .before .before .quotient-in .ensures in
-    record { modulus = g .modulus; hx = o .quotient .is-row; hy = g .monic .is-row; sx = o .size; sy = g .monic .size; fits = o .quotient .room _ _ (o .size) (g .monic .size); hr = g .hk }
+    record { modulus = g .modulus; prime = g .prime; hx = o .quotient .is-row; hy = g .monic .is-row; sx = o .size; sy = g .monic .size; fits = o .quotient .room _ _ (o .size) (g .monic .size); hr = g .hk }
 
 add-h : tie.Need-add-h
 add-h c =

@@ -17,6 +17,7 @@ det-in-requires c κs =
     let r = at10 .pre .inp .rows in
     record {
       modulus = s .modulus;
+      prime = r .prime;
       hx = r .h2;
       hy = r .k0;
       hz = r .h0;

@@ -67,7 +67,7 @@ cross-in-requires : tie.Need-cross-in-requires Inv-loop μ-loop
 cross-in-requires c κs =
     let at4 = c .before .before .before .before in
     let at9 = at4 .before .before .before .before .before in
-    euclid-room (at4 .loop .inv) (c .before .before .before .loop-test .taken) (c .before .before .if1 .left) (at9 .pre .modulus)
+    euclid-room (at4 .loop .inv) (c .before .before .before .loop-test .taken) (c .before .before .if1 .left) (at9 .pre .modulus) (at9 .pre .prime)
 
 sub-size-from : tie.Need-sub-size-from Inv-loop μ-loop
 sub-size-from c = omega arith

@@ -10,7 +10,7 @@ less-in-requires : tie.Need-less-in-requires
 less-in-requires c κs =
     let i = c .before .before .before .before .before .pre in
     let o = c .before .before .quotient-in .ensures in
-    record { modulus = i .modulus; hx = o .quotient .is-row; hy = i .inp .hb; sx = o .size; sy = i .sb; fits = o .quotient .room _ _ (o .size) (i .sb); hr = i .inp .ha }
+    record { modulus = i .modulus; prime = i .inp .prime; hx = o .quotient .is-row; hy = i .inp .hb; sx = o .size; sy = i .sb; fits = o .quotient .room _ _ (o .size) (i .sb); hr = i .inp .ha }
 
 returns : tie.Need-returns
 returns c =

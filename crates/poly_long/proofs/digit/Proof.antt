@@ -53,7 +53,7 @@ sub-result : tie.Need-sub-result
 sub-result c =
     let at12 = c .before .before .before .before .before .before .before .before .before .before .before .before in
     let p = at12 .args .p in
-    omega (arith, mod-lt (c .sum-at4 .result) (let b : 0 < p = omega (arith, at12 .pre .modulus .big) in b))
+    omega (arith, mod-lt (c .sum-at4 .result) (let b : 0 < p = omega (arith, at12 .pre .modulus .prime .big) in b))
 
 add-result-3 : tie.Need-add-result-3
 add-result-3 c = search needs
@@ -63,7 +63,7 @@ rem-result c = search needs
 
 returns : tie.Need-returns
 returns c = let p = c .before .before .before .before .before .before .before .before .before .before .before .before .args .p in
-    let pos : 0 < p = omega (arith, c .before .before .before .before .before .before .before .before .before .before .before .before .pre .modulus .big) in
+    let pos : 0 < p = omega (arith, c .before .before .before .before .before .before .before .before .before .before .before .before .pre .modulus .prime .big) in
     record {
       below = mod-lt (c .before .before .before .sum-at .result + c .before .before .sum-at2 .result + c .before .sum-at3 .result + (p - c .sum-at4 .result % p)) pos;
       value = ap₂ (λ v w. (v + (p - w % p)) % p)

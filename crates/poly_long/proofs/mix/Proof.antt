@@ -46,7 +46,7 @@ rem-d c = search needs
 
 cast-d : tie.Need-cast-d Inv-loop μ-loop
 cast-d c = let s = c .before .before .before .before .before .before .before .before .before .before .before in
-    let pos : 0 < s .args .p = omega (arith, s .pre .modulus .big) in
+    let pos : 0 < s .args .p = omega (arith, s .pre .modulus .prime .big) in
     omega (arith, s .pre .modulus .small, mod-lt (c .before .sum-at .result + c .sum-at2 .result) pos)
 
 mul-d : tie.Need-mul-d Inv-loop μ-loop

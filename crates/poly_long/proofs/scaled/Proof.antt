@@ -24,7 +24,7 @@ cast-result : tie.Need-cast-result
 cast-result c =
     let a = c .before .args in
     let b : a .p < 65536 = c .before .pre .modulus .small in
-    let g : 1 < a .p = c .before .pre .modulus .big in
+    let g : 1 < a .p = c .before .pre .modulus .prime .big in
     let m : (a .x * a .s) % a .p < a .p = mod-lt (a .x * a .s) (omega arith) in
     record { fits = omega arith }
 

@@ -23,13 +23,13 @@ negate-requires c κs =
     let at6 = c .before .before .before .before .before .before in
     let at13 = at6 .before .before .before .before .before .before .before in
     let s = at6 .coordinates-of-rm .ensures .spans in
-    record { modulus = modulus (at13 .pre .inp); hx = search (s .ha, s .hb, s .hc); sx = search (s .sa, s .sb, s .sc) }
+    record { modulus = modulus (at13 .pre .inp); prime = at13 .pre .inp .σ .prime; hx = search (s .ha, s .hb, s .hc); sx = search (s .sa, s .sb, s .sc) }
 
 negate-requires-2 : tie.Need-negate-requires-2
 negate-requires-2 c κs =
     let at15 = c .before .before .before .before .before .before .before .before .before .before .before .before .before .before .before in
     let s = c .before .before .before .coordinates-of-wm .ensures .spans in
-    record { modulus = modulus (at15 .pre .inp); hx = search (s .ha, s .hb, s .hc); sx = search (s .sa, s .sb, s .sc) }
+    record { modulus = modulus (at15 .pre .inp); prime = at15 .pre .inp .σ .prime; hx = search (s .ha, s .hb, s .hc); sx = search (s .sa, s .sb, s .sc) }
 
 without-content-requires : tie.Need-without-content-requires
 without-content-requires c κs =

@@ -27,7 +27,7 @@ returns : tie.Need-returns
 returns c =
     let k = c .before .before .before .before .before .before .before .before .before .parted .ensures in
     let i = c .before .before .before .before .before .before .before .before .before .before .before .before .before .before .before .before .before .pre in
-    advanced-of (i .inp) (i .n-is) (k .loaded) (k .divided .are) (k .lm) (k .lu) (k .divided .was-m0) (k .divided .was-u) _ (based-by (i .modulus) (c .reduced-basis .ensures)) (k .degree)
+    advanced-of (i .inp) (i .n-is) (k .loaded) (k .divided .are) (k .lm) (k .lu) (k .divided .was-m0) (k .divided .was-u) _ (based-by (i .modulus) (c .reduced-basis .ensures .based)) (k .degree)
 
 pub step-in-spec : {M : Type 1} → statement M
 step-in-spec =
