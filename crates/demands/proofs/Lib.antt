@@ -1,4 +1,7 @@
 pub mod Cases
+pub mod Numbers
+pub mod Kept
+pub mod FromC
 pub mod Demand1
 pub mod Demand2
 pub mod Demand3

@@ -1,3 +1,5 @@
+pub mod Numbers
+pub mod FromC
 pub mod Fixed
 pub mod Meaning
 pub mod Chain
