@@ -1,6 +1,6 @@
 pub mod Cases
-pub mod Numbers
 pub mod Kept
+pub mod Numbers
 pub mod FromC
 pub mod Demand1
 pub mod Demand2

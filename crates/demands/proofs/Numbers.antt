@@ -9,7 +9,6 @@ use native.Mathlib.Decide.{ℕ-discrete}
 use lib.ListN.{length, getD, take, drop, length-append, List·getD-append}
 use lib.Seq.{take-at}
 use Rattle.base_answers.specs.Said.{Said}
-use Rattle.field_open.specs.Opening as opening
 use Rattle.field_open.specs.declared.FieldAnswer.{FieldAnswer}
 use Rattle.field_open.proofs.Stages as stages
 use Rattle.field_open.proofs.Door.{door-out}
@@ -27,6 +26,7 @@ use Rattle.door_unit.specs.declared.UnitAnswer.{UnitAnswer}
 use Rattle.door_unit.specs.Unit as made
 use Rattle.door_unit.proofs.Once.{refused-number}
 use Rattle.door_compare.specs.declared.CompareAnswer.{CompareAnswer}
+use Rattle.door_compare.specs.Answer as compared
 use Rattle.door_compare.proofs.Doors.{doors-out}
 use Rattle.door_transfer.specs.Transfer as carried
 use Rattle.book_body.specs.Body.{Body}
@@ -36,7 +36,8 @@ use Rattle.book_check.specs.Answer as books
 use Rattle.book_check.proofs.Facts.{body-thirteen, fault-thirteen}
 use Rattle.book_add.specs.Add as added
 use Rattle.book_attest.specs.Attest as attested
-use Rattle.text_put.specs.Print.{semicolon, newline, number-text, join, list-text, line-text, refused-text, refused-word}
+use Rattle.book_numbers.specs.Numbers.{numbers}
+use Rattle.text_put.specs.Print.{semicolon, newline, number-text, join, list-text, line-text, refused-text}
 use Rattle.text_number.proofs.Values.{value-text}
 use Rattle.text_number.proofs.Inverse.{text-numeral}
 use Rattle.text_number.specs.Grammar.{value}
@@ -47,12 +48,12 @@ use Rattle.base_lists.specs.Coefficients.{trim}
 use Rattle.lister_print.specs.Text.{rows-text, unit-text, made-text}
 use Rattle.lister_print.proofs.Prints.{made-unit, made-refused}
 use Rattle.lister.specs.Listing as listing
-use Rattle.demands.specs.Numbers.{Among, Numbered, Says, refuses, answers, Gives, refusal, open-field, series, open-series, order, check, step, walk, from-order, unit, pairs, compare, transfer, book, ask, attest, list, write, add, parse, line}
+use Rattle.demands.specs.Numbers.{Numbered, Says, refuses, answers, Gives, refusal, open-field, series, open-series, order, check, step, walk, from-order, unit, pairs, compare, transfer}
+use Rattle.demands.specs.Numbers.{book, ask, attest, list, write, add, parse, line}
+use Rattle.demands.specs.Numbers.{order-c, step-c, walk-c, from-order-c, unit-c, one-field-c, book-c, ask-c, attest-c, list-c, write-c, add-c}
+use Rattle.demands.proofs.Kept.{number-of}
 
 -- ---- the book
-number-of : {x y : Said} → x ≡ y → x .number ≡ y .number
-number-of e = ap (λ (x : Said). x .number) e
-
 zero-of : {k n : ℕ} {A : Type 0} → n ≡ 0 → (n ≤ k) ⊎ A
 zero-of e = inl (omega (arith, e))
 
@@ -101,6 +102,9 @@ add-numbered (added.added l a t u h k e q) = zero-of (number-of e)
 refused-of : {k m n : ℕ} {A : Type 0} → 8 ≤ k → n ≤ 8 → m ≡ n → (m ≤ k) ⊎ A
 refused-of a h e = inl (omega (arith, e))
 
+order-numbered : {p : ℕ} {G H : List ℕ} (o : OrderAnswer) → basis.Orders p G H o → Numbered 8 [] (o .refusal)
+order-numbered o = door-out (λ k f l e. refused-of (omega arith) l (ap (λ (x : OrderAnswer). x .refusal) e)) (λ A g. zero-of (g .0))
+
 series-goes : {p n : ℕ} {G H r w r′ w′ : List ℕ} → ser.Goes p G H r w r′ w′ n → Numbered 8 (14 ∷ []) n
 series-goes (ser.unfit f e) = inr (inl (e .number))
 series-goes (ser.filled f e l s) = zero-of e
@@ -113,16 +117,25 @@ step-goes : {p : ℕ} {G H B : List ℕ} (s : StepAnswer) → stepped.Goes p G H
 step-goes s (stepped.no-record f e) = inl (omega (arith, ap (λ (x : StepAnswer). x .refusal) e))
 step-goes s (stepped.taken r e t) = zero-of e
 
+step-numbered : {p : ℕ} {G H B : List ℕ} (s : StepAnswer) → stepped.Answers p G H B s → Numbered 9 [] (s .refusal)
+step-numbered s = door-out (λ k f l e. refused-of (omega arith) l (ap (λ (x : StepAnswer). x .refusal) e)) (λ A. step-goes s)
+
 walk-goes : {p n : ℕ} {G H B : List ℕ} (w : WalkAnswer) → walks.Goes p G H n B w → Numbered 10 (14 ∷ []) (w .refusal)
 walk-goes w (walks.budget l e) = inr (inl (ap (λ (x : WalkAnswer). x .refusal) e))
 walk-goes w (walks.no-record l f e) = inl (omega (arith, ap (λ (x : WalkAnswer). x .refusal) e))
 walk-goes w (walks.closed l r c) = zero-of (c .number)
 walk-goes w (walks.spent l r s) = inl (omega (arith, s .number))
 
+walk-numbered : {p n : ℕ} {G H B : List ℕ} (w : WalkAnswer) → walks.Walks p G H n B w → Numbered 10 (14 ∷ []) (w .refusal)
+walk-numbered w = door-out (λ k f l e. refused-of (omega arith) l (ap (λ (x : WalkAnswer). x .refusal) e)) (λ A. walk-goes w)
+
 told-goes : {p n : ℕ} {G H : List ℕ} (o : PeriodAnswer) → told.Goes p G H n o → Numbered 8 (10 ∷ 14 ∷ []) (o .refusal)
 told-goes o (told.budget l e) = inr (inr (inl (ap (λ (x : PeriodAnswer). x .refusal) e)))
 told-goes o (told.closed l B f c) = zero-of (c .number)
 told-goes o (told.spent l B f g e) = inr (inl (ap (λ (x : PeriodAnswer). x .refusal) e))
+
+from-order-numbered : {p n : ℕ} {G H : List ℕ} (o : PeriodAnswer) → told.FromOrder p G H n o → Numbered 8 (10 ∷ 14 ∷ []) (o .refusal)
+from-order-numbered o = door-out (λ k f l e. refused-of (omega arith) l (ap (λ (x : PeriodAnswer). x .refusal) e)) (λ A. told-goes o)
 
 unit-goes : {p n : ℕ} {G H rows scratch rows′ scratch′ : List ℕ} (m : UnitAnswer)
     → made.Goes p G H n rows scratch m rows′ scratch′ → Numbered 8 (10 ∷ 11 ∷ 14 ∷ []) (m .refusal)
@@ -134,6 +147,9 @@ unit-goes m (made.made c l d b s f g r) = zero-of (r .number)
 unit-numbered : {p n : ℕ} {G H rows scratch rows′ scratch′ : List ℕ} (m : UnitAnswer)
     → made.Makes p G H n rows scratch m rows′ scratch′ → Numbered 8 (10 ∷ 11 ∷ 14 ∷ []) (m .refusal)
 unit-numbered m = door-out (λ k f l r. refused-of (omega arith) l (refused-number r)) (λ A. unit-goes m)
+
+compare-numbered : {p : ℕ} {G H G′ H′ : List ℕ} (a : CompareAnswer) → compared.Compares p G H G′ H′ a → Numbered 8 [] (a .refusal)
+compare-numbered a = doors-out (λ k f l e. refused-of (omega arith) l (ap (λ (x : CompareAnswer). x .refusal) e)) (λ t g. zero-of (g .0))
 
 transfer-goes : {p n : ℕ} {G H G′ H′ rows rows′ : List ℕ} → carried.Goes p G H G′ H′ rows n rows′ → Numbered 8 (14 ∷ []) n
 transfer-goes (carried.unfit u e) = inr (inl (e .number))
@@ -207,19 +223,23 @@ line-numbered (listing.read p G H m rows scratch r h) (refuses n e) = go (ℕ-di
         subst (Numbered 8 (10 ∷ 11 ∷ 12 ∷ 14 ∷ [])) (sym k) (with-twelve (unit-numbered m h))
 line-numbered (listing.read p G H m rows scratch r h) (answers g) = zero-of refl
 
+-- ---- the functions for C and Rust put the number of the function behind them first
+first-is : {out : List ℕ} {x : Said} → out ≡ numbers x → getD out 0 0 ≡ x .number
+first-is e = ap (λ l. getD l 0 0) e
+
 pub numbered : {k : ℕ} {l : List ℕ} {n : ℕ} → Gives k l n → Numbered k l n
 numbered (refusal p G H n h) = inl (stages.numbered p G H n h)
 numbered (open-field o h) = door-out (λ k f l e. refused-of (omega arith) l (ap (λ (x : FieldAnswer). x .refusal) e)) (λ A g. zero-of (g .0)) h
 numbered (series h) = door-out (λ k f l r. refused-of (omega arith) l (r .number)) (λ A. series-goes) h
 numbered (open-series o h) = door-out (λ k f l e. refused-of (omega arith) l (ap (λ (x : OpenedAnswer). x .refusal) e)) (λ A g. zero-of (g .0)) h
-numbered (order o h) = door-out (λ k f l e. refused-of (omega arith) l (ap (λ (x : OrderAnswer). x .refusal) e)) (λ A g. zero-of (g .0)) h
+numbered (order o h) = order-numbered o h
 numbered (check h) = door-out (λ k f l e. refused-of (omega arith) l e) (λ A. check-goes) h
-numbered (step s h) = door-out (λ k f l e. refused-of (omega arith) l (ap (λ (x : StepAnswer). x .refusal) e)) (λ A. step-goes s) h
-numbered (walk w h) = door-out (λ k f l e. refused-of (omega arith) l (ap (λ (x : WalkAnswer). x .refusal) e)) (λ A. walk-goes w) h
-numbered (from-order o h) = door-out (λ k f l e. refused-of (omega arith) l (ap (λ (x : PeriodAnswer). x .refusal) e)) (λ A. told-goes o) h
+numbered (step s h) = step-numbered s h
+numbered (walk w h) = walk-numbered w h
+numbered (from-order o h) = from-order-numbered o h
 numbered (unit m h) = unit-numbered m h
 numbered (pairs h) = doors-out (λ k f l e. refused-of (omega arith) l e) (λ t e. zero-of e) h
-numbered (compare a h) = doors-out (λ k f l e. refused-of (omega arith) l (ap (λ (x : CompareAnswer). x .refusal) e)) (λ t g. zero-of (g .0)) h
+numbered (compare a h) = compare-numbered a h
 numbered (transfer h) = doors-out (λ k f l r. refused-of (omega arith) l (r .number)) (λ t. transfer-goes) h
 numbered (book x h) = book-numbered (book-cases h)
 numbered (ask x h) = ask-numbered h
@@ -230,3 +250,15 @@ numbered (add x h) = add-numbered h
 numbered (parse s g h g′ h′ (Read l) t) = zero-of refl
 numbered (parse s g h g′ h′ Malformed t) = inr (inl refl)
 numbered (line h s) = line-numbered h s
+numbered (order-c t) = subst (Numbered 8 []) (sym (t .number)) (order-numbered (t .o) (t .orders))
+numbered (step-c t) = subst (Numbered 9 []) (sym (t .number)) (step-numbered (t .s) (t .answers))
+numbered (walk-c t) = subst (Numbered 10 (14 ∷ [])) (sym (t .puts .number)) (walk-numbered (t .o) (t .walks))
+numbered (from-order-c t) = subst (Numbered 8 (10 ∷ 14 ∷ [])) (sym (t .number)) (from-order-numbered (t .o) (t .from))
+numbered (unit-c t) = subst (Numbered 8 (10 ∷ 11 ∷ 14 ∷ [])) (sym (t .number)) (unit-numbered (t .m) (t .makes))
+numbered (one-field-c t) = subst (Numbered 8 []) (sym (t .number)) (compare-numbered (t .a) (t .compares))
+numbered (book-c t) = subst (Numbered 0 (13 ∷ [])) (sym (first-is (t .written))) (book-numbered (book-cases (t .tells)))
+numbered (ask-c t) = subst (Numbered 0 (13 ∷ 14 ∷ [])) (sym (first-is (t .written))) (ask-numbered (t .tells))
+numbered (attest-c t) = subst (Numbered 0 (13 ∷ 14 ∷ [])) (sym (first-is (t .written))) (attest-numbered (t .tells))
+numbered (list-c t) = subst (Numbered 0 (11 ∷ 14 ∷ [])) (sym (first-is (t .written))) (list-numbered (t .tells))
+numbered (write-c t) = subst (Numbered 8 (11 ∷ 13 ∷ [])) (sym (first-is (t .written))) (write-numbered (t .tells))
+numbered (add-c t) = subst (Numbered 0 (11 ∷ 13 ∷ 14 ∷ 15 ∷ [])) (sym (first-is (t .written))) (add-numbered (t .tells))

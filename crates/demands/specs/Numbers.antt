@@ -15,11 +15,13 @@
 --   door_unit::unit                         0 to 8, 10, 11, 14  lister::answer                      0 to 8, 10, 11, 12, 14
 --   door_compare::refusals, compare         0 to 8
 --   door_transfer::transfer                 0 to 8, 14
+-- The functions for C and Rust (crate capi) give the numbers of the functions behind them.
 -- That every such n is one of the row's numbers is `numbered` of `demand-1`.
 use mathlib.Core.Path.{_≡_}
 use mathlib.Core.Logic.{_⊎_}
 use mathlib.Core.List.{List, [], _∷_}
 use Prim.Native.Nat.{ℕ, _≤_}
+use lib.ListN.{getD}
 use Rattle.base_answers.specs.Said.{Said}
 use Rattle.field_open.specs.Refusal.{Refusal}
 use Rattle.field_open.specs.Opening.{Opens}
@@ -45,6 +47,9 @@ use Rattle.book_write.specs.Write.{WriteTells}
 use Rattle.book_check.specs.Answer.{Tells, AskTells}
 use Rattle.book_add.specs.Add.{AddTells}
 use Rattle.book_attest.specs.Attest.{AttestTells}
+use Rattle.book_place.specs.Place.{AskSays}
+use Rattle.capi.specs.Told.{OrderTells, StepTells, WalkTells, FromOrderTells, UnitTells, OneFieldTells}
+use Rattle.capi.specs.Books.{CheckSays, ListSays, WriteSays, AddSays, AttestSays}
 use Rattle.text_put.specs.Print.{refused-text}
 use Rattle.text_read.specs.Tells.{ParseTells}
 use Rattle.text_read.specs.declared.Parsed.{Parsed}
@@ -93,3 +98,16 @@ pub data Gives : ℕ → List ℕ → ℕ → Type 0 where
   -- ---- a line of text
   parse : (line g h g′ h′ : List ℕ) (r : Parsed) → ParseTells line g h r g′ h′ → Gives 0 (12 ∷ []) (parseSays r)
   line : {s t : List ℕ} {n : ℕ} → Lists s t → Says t n → Gives 8 (10 ∷ 11 ∷ 12 ∷ 14 ∷ []) n
+  -- ---- the functions for C and Rust: what they return, or the first of the five numbers
+  order-c : {p n : ℕ} {G H a b : List ℕ} → OrderTells p G H a n b → Gives 8 [] n
+  step-c : {p n d : ℕ} {G H a b : List ℕ} → StepTells p G H a n d b → Gives 9 [] n
+  walk-c : {p k n s d : ℕ} {G H a b : List ℕ} → WalkTells p G H k a n s d b → Gives 10 (14 ∷ []) n
+  from-order-c : {p k n l r : ℕ} {G H : List ℕ} → FromOrderTells p G H k n l r → Gives 8 (10 ∷ 14 ∷ []) n
+  unit-c : {p k n l r : ℕ} {G H a b c d : List ℕ} → UnitTells p G H k a b n l r c d → Gives 8 (10 ∷ 11 ∷ 14 ∷ []) n
+  one-field-c : {p n s : ℕ} {G H G′ H′ : List ℕ} → OneFieldTells p G H G′ H′ n s → Gives 8 [] n
+  book-c : {s out : List ℕ} → CheckSays s out → Gives 0 (13 ∷ []) (getD out 0 0)
+  ask-c : {s : List ℕ} {i a l : ℕ} {out : List ℕ} → AskSays s i a l out → Gives 0 (13 ∷ 14 ∷ []) (getD out 0 0)
+  attest-c : {s : List ℕ} {i : ℕ} {out : List ℕ} → AttestSays s i out → Gives 0 (13 ∷ 14 ∷ []) (getD out 0 0)
+  list-c : {s : List ℕ} {k : ℕ} {d d′ out : List ℕ} → ListSays s k d d′ out → Gives 0 (11 ∷ 14 ∷ []) (getD out 0 0)
+  write-c : {b : Body} {d d′ out : List ℕ} → WriteSays b d d′ out → Gives 8 (11 ∷ 13 ∷ []) (getD out 0 0)
+  add-c : {d : List ℕ} {n : ℕ} {b d′ out : List ℕ} → AddSays d n b d′ out → Gives 0 (11 ∷ 13 ∷ 14 ∷ 15 ∷ []) (getD out 0 0)
