@@ -3,6 +3,8 @@ pub mod Kept
 pub mod Numbers
 pub mod FromC
 pub mod Demand1
+pub mod Bytes
+pub mod BookCalls
 pub mod Demand2
 pub mod Demand3
 pub mod Smallest
