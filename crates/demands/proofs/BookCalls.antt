@@ -24,6 +24,7 @@ use Rattle.book_add.proofs.Accepted.{new-length, added-accepted}
 use Rattle.book_add.proofs.Put.{bytes-take}
 use Rattle.demands.specs.BookCalls.{listOf, Wrote, Grown, Returns, BookCalls}
 use Rattle.demands.proofs.Kept.{number-of}
+use Rattle.demands.proofs.UnitBody.{unit-bookable}
 use Rattle.demands.proofs.Bytes.{bytes-append, bytes-body, bytes-book}
 
 result-of : {x y : Said} → x ≡ y → x .result ≡ y .result
@@ -103,6 +104,7 @@ module _ (s b s′ : List ℕ) (bs : Bytes s) (bb : Bytes b) (bs′ : Bytes s′
         checked = λ y t. tells-unique s′ t (says.fine a′ refl);
         new-there = λ y t. ask-unique s′ t (says.there a′ (omega arith) refl);
         new-part = λ r t. part-unique s′ t (says.found a′ (omega arith) refl) ∙ new-part;
+        new-entry = new-entry;
         old-part = λ i h r r′ t u.
             part-unique s′ u (says.found a′ (omega arith) refl) ∙ old-part i h ∙ sym (part-unique s t (says.found a h refl));
         old-entry = old-entry;
@@ -178,4 +180,5 @@ book-calls = record {
   added = added;
   round = round;
   same-rows = λ s t b c a a′ e. sym (book-back s b a) ∙ ap bookBytes e ∙ book-back t c a′;
+  unit-bookable = λ m h z c e. unit-bookable m h z c e;
 }

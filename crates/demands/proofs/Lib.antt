@@ -4,6 +4,7 @@ pub mod Numbers
 pub mod FromC
 pub mod Demand1
 pub mod Bytes
+pub mod UnitBody
 pub mod BookCalls
 pub mod Demand2
 pub mod Demand3

@@ -3,23 +3,31 @@
 --   Wrote b d n d′      the first n bytes of the slice d′, which was d, are a finished body that says b; the slice beyond them is unchanged
 --   Grown s b s′        the book s′ is the book s with the bytes b as its last body, and nothing of the older entries has changed
 --   Returns b r         the bytes r say the body b, and the list reader returns each of its lists
+--   unitBody p G H m c rows   the body of a unit that `unit` made: its period, and its first three rows without the zeros at their ends
+--   Bookable b          the body b can be written and attested: its field is accepted, it obeys the body rule, its E has a constant norm
 --   BookCalls           what follows one call from the answer of another
 -- How to read it: a call is an outcome that meets the contract of its function, x and y are what it says, `result` the length it returns.
 -- `take n d` is the book of length n in the slice d. A lent slice of bytes holds bytes: `Bytes`.
 -- The theorem `book-calls` is in proofs/BookCalls.antt.
 use mathlib.Core.Path.{_≡_}
+use mathlib.Core.Logic.{_⊎_}
 use mathlib.Core.List.{List, [], _++_}
-use Prim.Native.Nat.{ℕ, zero, suc, _<_, _≤_}
+use Prim.Native.Nat.{ℕ, zero, suc, _+_, _*_, _<_, _≤_}
 use lib.ListN.{length, take, drop}
-use Rattle.base_answers.specs.Said.{Said, passed}
+use Rattle.base_lists.specs.Pieces.{cut}
+use Rattle.base_lists.specs.Coefficients.{trim}
+use Rattle.base_answers.specs.Said.{Said, passed, refused}
+use Rattle.door_unit.specs.declared.UnitAnswer.{UnitAnswer}
+use Rattle.door_unit.specs.Unit.{Makes}
 use Rattle.book_bytes.specs.Bytes.{Bytes}
-use Rattle.book_body.specs.Body.{Body, bodyBytes, bodyOf, Finished}
+use Rattle.book_body.specs.Body.{Body, Rule, FieldSays, bodyBytes, bodyOf, Finished}
 use Rattle.book_body.specs.Code.{ListTells}
-use Rattle.book_write.specs.Write.{WriteTells}
+use Rattle.book_write.specs.Write.{bodyFrom, WriteTells}
 use Rattle.book_check.specs.Book.{count, entry, Accepted}
 use Rattle.book_check.specs.Value.{valueOf}
 use Rattle.book_check.specs.Answer.{Tells, AskTells, AskedPart}
 use Rattle.book_add.specs.Add.{AddTells}
+use Rattle.book_attest.specs.Attest.{Attested, AttestTells}
 
 abbrev pub listOf : Body → ℕ → List ℕ
 listOf b zero = b .G
@@ -43,6 +51,7 @@ pub record Grown (s b s′ : List ℕ) : Type 0 where
   pub checked : (y : Said) → Tells s′ y → y ≡ passed 0
   pub new-there : (y : Said) → AskTells s′ (count s) y → y ≡ passed 0
   pub new-part : (r : List ℕ) → AskedPart s′ (count s) r → r ≡ b
+  pub new-entry : entry s′ (count s) ≡ bodyOf b
   pub old-part : (i : ℕ) → i < count s → (r r′ : List ℕ) → AskedPart s i r → AskedPart s′ i r′ → r′ ≡ r
   pub old-entry : (i : ℕ) → i < count s → entry s′ i ≡ entry s i
 
@@ -52,6 +61,24 @@ pub record Returns (b : Body) (r : List ℕ) : Type 0 where
       (k : ℕ) → k < 5 →
       (out out′ : List ℕ) (y : Said) → ListTells r k out y out′ → length (listOf b k) ≤ length out →
       (y ≡ passed (length (listOf b k))) × (out′ ≡ listOf b k ++ drop (length (listOf b k)) out)
+
+abbrev pub unitBody : ℕ → List ℕ → List ℕ → UnitAnswer → ℕ → List ℕ → Body
+unitBody p G H m c rows =
+    bodyFrom p G H (m .period .0) (trim (cut 0 c rows)) (trim (cut c c rows)) (trim (cut (c + c) c rows))
+
+pub record Bookable (b : Body) : Type 0 where
+  pub field : FieldSays b 0
+  pub rule : Rule b
+  pub attested : Attested b
+  -- writing it is refused for room alone: "11 when the slice is shorter"
+  pub writes :
+      {d d′ : List ℕ} {x : Said} → WriteTells b d x d′ →
+      (x .number ≡ 0) ⊎ ((x ≡ refused 11) × (length d < length (bodyBytes b)))
+  -- as an entry of a book it is attested: "yes exactly when its E has a non-zero constant norm"
+  pub attests :
+      {s : List ℕ} {i : ℕ} {x : Said} → Accepted s → i < count s → entry s i ≡ b →
+      AttestTells s i x →
+      x ≡ passed 1
 
 pub record BookCalls : Type 0 where
   -- what was written says the given lists, and is a finished body
@@ -72,3 +99,9 @@ pub record BookCalls : Type 0 where
       Returns b r
   -- two accepted books with the same rows are the same bytes
   pub same-rows : (s t : List ℕ) → Bytes s → Bytes t → Accepted s → Accepted t → valueOf s ≡ valueOf t → s ≡ t
+  -- a unit that `unit` made can be written into the book
+  pub unit-bookable :
+      {p n : ℕ} {G H rows scratch rows′ scratch′ : List ℕ} (m : UnitAnswer) →
+      Makes p G H n rows scratch m rows′ scratch′ → m .refusal ≡ 0 →
+      (c : ℕ) → length rows′ ≡ 6 * c →
+      Bookable (unitBody p G H m c rows′)
