@@ -3,10 +3,10 @@
 use mathlib.Core.Path.{_≡_, refl, sym, ap, _∙_, subst}
 use mathlib.Core.Logic.{_≢_, _⊎_, inl, inr}
 use mathlib.Core.List.{List, [], _∷_, _++_}
-use Prim.Native.Nat.{ℕ, _-_, _≤_, _<_}
+use Prim.Native.Nat.{ℕ, zero, suc, _-_, _≤_, _<_}
 use native.Mathlib.Omega.{arith}
 use native.Mathlib.Decide.{ℕ-discrete}
-use lib.ListN.{length, getD, take, drop, length-append, List·getD-append}
+use lib.ListN.{length, getD, take, drop, length-append, length-replicate, List·getD-append}
 use lib.Seq.{take-at}
 use Rattle.base_answers.specs.Said.{Said}
 use Rattle.field_open.specs.declared.FieldAnswer.{FieldAnswer}
@@ -38,6 +38,7 @@ use Rattle.book_add.specs.Add as added
 use Rattle.book_attest.specs.Attest as attested
 use Rattle.book_numbers.specs.Numbers.{numbers}
 use Rattle.text_put.specs.Print.{semicolon, newline, number-text, join, list-text, line-text, refused-text}
+use Rattle.text_cut.specs.Feed.{end-text}
 use Rattle.text_number.proofs.Values.{value-text}
 use Rattle.text_number.proofs.Inverse.{text-numeral}
 use Rattle.text_number.specs.Grammar.{value}
@@ -49,7 +50,7 @@ use Rattle.lister_print.specs.Text.{rows-text, unit-text, made-text}
 use Rattle.lister_print.proofs.Prints.{made-unit, made-refused}
 use Rattle.lister.specs.Listing as listing
 use Rattle.demands.specs.Numbers.{Numbered, Says, refuses, answers, Gives, refusal, open-field, series, open-series, order, check, step, walk, from-order, unit, pairs, compare, transfer}
-use Rattle.demands.specs.Numbers.{book, ask, attest, list, write, add, parse, line}
+use Rattle.demands.specs.Numbers.{book, ask, attest, list, write, add, parse, line, end}
 use Rattle.demands.specs.Numbers.{order-c, step-c, walk-c, from-order-c, unit-c, one-field-c, book-c, ask-c, attest-c, list-c, write-c, add-c}
 use Rattle.demands.proofs.Kept.{number-of}
 
@@ -204,24 +205,45 @@ made-not p G H m rows h z n e =
     let g : getD (made-text (line-text p G H) m rows) 0 0 ≡ 114 = ap (λ s. getD s 0 0) e ∙ refused-head n in
     omega (arith, d, f, g)
 
--- what `unit` gives, or 12
-with-twelve : {n : ℕ} → Numbered 8 (10 ∷ 11 ∷ 14 ∷ []) n → Numbered 8 (10 ∷ 11 ∷ 12 ∷ 14 ∷ []) n
-with-twelve (inl h) = inl h
-with-twelve (inr (inl e)) = inr (inl e)
-with-twelve (inr (inr (inl e))) = inr (inr (inl e))
-with-twelve (inr (inr (inr (inl e)))) = inr (inr (inr (inr (inl e))))
+-- what `unit` gives for a line: two blank slices of 6 · 1,024 numbers and the budget 1,000 are within their rule, so that 14 does not come
+line-unit : {p : ℕ} {G H rows scratch : List ℕ} (m : UnitAnswer) → made.Makes p G H listing.budget listing.blank listing.blank m rows scratch
+    → Numbered 8 (10 ∷ 11 ∷ 12 ∷ []) (m .refusal)
+line-unit {p} {G} {H} {rows} {scratch} m = door-out (λ k f l r. refused-of (omega arith) l (refused-number r)) (λ A. goes)
+  where
+    lent : made.Lent 1024 listing.blank listing.blank listing.budget
+    lent = record { room = omega arith; whole = length-replicate {A = ℕ} 6144 0; even = refl; budget = omega arith }
 
-line-numbered : {s t : List ℕ} {n : ℕ} → listing.Lists s t → Says t n → Numbered 8 (10 ∷ 11 ∷ 12 ∷ 14 ∷ []) n
+    goes : made.Goes p G H listing.budget listing.blank listing.blank m rows scratch → Numbered 8 (10 ∷ 11 ∷ 12 ∷ []) (m .refusal)
+    goes (made.bad f r) = absurd (f 1024 lent)
+    goes (made.spent c b f r) = inr (inl (refused-number r))
+    goes (made.narrow c l d b s f g r) = inr (inr (inl (refused-number r)))
+    goes (made.made c l d b s f g r) = zero-of (r .number)
+
+line-numbered : {s t : List ℕ} {n : ℕ} → listing.Lists s t → Says t n → Numbered 8 (10 ∷ 11 ∷ 12 ∷ []) n
 line-numbered (listing.malformed f) (refuses n e) = inr (inr (inr (inl (refused-unique n 12 (sym e)))))
 line-numbered (listing.malformed f) (answers g) = absurd (g 12 refl)
 line-numbered (listing.read p G H m rows scratch r h) (refuses n e) = go (ℕ-discrete (m .refusal) 0)
   where
-    go : Dec (m .refusal ≡ 0) → Numbered 8 (10 ∷ 11 ∷ 12 ∷ 14 ∷ []) n
+    go : Dec (m .refusal ≡ 0) → Numbered 8 (10 ∷ 11 ∷ 12 ∷ []) n
     go (yes z) = absurd (made-not p G H m rows (reads-below r .0) z n e)
     go (no f) =
         let k = refused-unique n (m .refusal) (sym e ∙ made-refused (line-text p G H) m rows f) in
-        subst (Numbered 8 (10 ∷ 11 ∷ 12 ∷ 14 ∷ [])) (sym k) (with-twelve (unit-numbered m h))
+        subst (Numbered 8 (10 ∷ 11 ∷ 12 ∷ [])) (sym k) (line-unit m h)
 line-numbered (listing.read p G H m rows scratch r h) (answers g) = zero-of refl
+
+-- at the input's end
+end-none : (n : ℕ) → end-text 0 ≡ refused-text n → ⊥
+unfolding end-text refused-text
+end-none n e = let l : 0 ≡ length (refused-text n) = ap length e in omega arith
+
+end-some : (m : ℕ) → end-text (suc m) ≡ refused-text 12
+unfolding end-text
+end-some m = refl
+
+end-numbered : (m : ℕ) {n : ℕ} → Says (end-text m) n → Numbered 0 (12 ∷ []) n
+end-numbered m (answers g) = zero-of refl
+end-numbered zero (refuses n e) = absurd (end-none n e)
+end-numbered (suc m) (refuses n e) = inr (inl (refused-unique n 12 (sym e ∙ end-some m)))
 
 -- ---- the functions for C and Rust put the number of the function behind them first
 first-is : {out : List ℕ} {x : Said} → out ≡ numbers x → getD out 0 0 ≡ x .number
@@ -250,6 +272,7 @@ numbered (add x h) = add-numbered h
 numbered (parse s g h g′ h′ (Read l) t) = zero-of refl
 numbered (parse s g h g′ h′ Malformed t) = inr (inl refl)
 numbered (line h s) = line-numbered h s
+numbered (end m s) = end-numbered m s
 numbered (order-c t) = subst (Numbered 8 []) (sym (t .number)) (order-numbered (t .o) (t .orders))
 numbered (step-c t) = subst (Numbered 9 []) (sym (t .number)) (step-numbered (t .s) (t .answers))
 numbered (walk-c t) = subst (Numbered 10 (14 ∷ [])) (sym (t .puts .number)) (walk-numbered (t .o) (t .walks))

@@ -270,9 +270,9 @@ module _ {p n : ℕ} {G H : List ℕ} (c : ℕ) (m : UnitAnswer) (rows : List �
         k,
         hk,
         ap (λ x. normOf pr x (row ρ (b .E1)) (row ρ (b .E2))) (trim-row ρ (cut 0 c rows))
-        ∙ ap (λ x. normOf pr (E .a .0) x (row ρ (b .E2))) (trim-row ρ (cut c c rows) ∙ sym (ap (row ρ) second))
-        ∙ ap (normOf pr (E .a .0) (E .b .0)) (trim-row ρ (cut (N._+_ c c) c rows) ∙ sym (ap (row ρ) third))
-        ∙ ap (λ (z : P (setting A)). z .0) (const-path (ρ .𝓥) {a = norm (setting A) E} {b = (ρ .𝓥 .const k, ρ .𝓥 .const-poly k)} lead (ρ .𝓥 .const-lead k)),
+            ∙ ap (λ x. normOf pr (E .a .0) x (row ρ (b .E2))) (trim-row ρ (cut c c rows) ∙ sym (ap (row ρ) second))
+            ∙ ap (normOf pr (E .a .0) (E .b .0)) (trim-row ρ (cut (N._+_ c c) c rows) ∙ sym (ap (row ρ) third))
+            ∙ ap (λ (z : P (setting A)). z .0) (const-path (ρ .𝓥) {a = norm (setting A) E} {b = (ρ .𝓥 .const k, ρ .𝓥 .const-poly k)} lead (ρ .𝓥 .const-lead k)),
       )
 
   unit-writes : {d d′ : List ℕ} {x : Said} → write.WriteTells b d x d′ → (x .number ≡ 0) ⊎ ((x ≡ refused 11) × (length d < length (bodyBytes b)))

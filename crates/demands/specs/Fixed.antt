@@ -51,7 +51,6 @@ use Rattle.demands.specs.FromC.{FromC}
 pub record Demand1 : Type 0 where
   -- "an answer or a numbered refusal"
   pub numbered : {k : ℕ} {l : List ℕ} {n : ℕ} → Gives k l n → Numbered k l n
-
   -- "A refusal writes nothing to a lent buffer"
   pub series-kept :
       {p n : ℕ} {G H r w r′ w′ : List ℕ} →
@@ -82,7 +81,6 @@ pub record Demand1 : Type 0 where
       {k s d : List ℕ} {g r : Going} {k′ d′ : List ℕ} →
       lister.Passes k s d g r k′ d′ → length d < lister.room →
       (r ≡ g) × (k′ ≡ k) × (d′ ≡ d)
-
   -- "all of its answer is fixed by the input": a field
   pub refusal-fixed : (p : ℕ) (G H : List ℕ) (m n : ℕ) → Refusal p G H m → Refusal p G H n → m ≡ n
   pub open-fixed : {p : ℕ} {G H : List ℕ} (o o′ : FieldAnswer) → Opens p G H o → Opens p G H o′ → o ≡ o′
@@ -106,7 +104,6 @@ pub record Demand1 : Type 0 where
       {p n : ℕ} {G H rows scratch r s r′ s′ : List ℕ} (m m′ : UnitAnswer) →
       Makes p G H n rows scratch m r s → Makes p G H n rows scratch m′ r′ s′ →
       (m ≡ m′) × (r ≡ r′) × (s ≡ s′)
-
   -- two pairs
   pub pairs-fixed : {p m n : ℕ} {G H G′ H′ : List ℕ} → Refusals p G H G′ H′ m → Refusals p G H G′ H′ n → m ≡ n
   pub compare-fixed :
@@ -117,7 +114,6 @@ pub record Demand1 : Type 0 where
       {p n n′ : ℕ} {G H G′ H′ rows r r′ : List ℕ} →
       Transfers p G H G′ H′ rows n r → Transfers p G H G′ H′ rows n′ r′ →
       (n ≡ n′) × (r ≡ r′)
-
   -- the book
   pub check-book-fixed : {s : List ℕ} {x y : Said} → Tells s x → Tells s y → x ≡ y
   pub ask-fixed : {s : List ℕ} {i : ℕ} {x y : Said} → AskTells s i x → AskTells s i y → x ≡ y
@@ -135,7 +131,6 @@ pub record Demand1 : Type 0 where
       {n : ℕ} {d b e f : List ℕ} {x y : Said} →
       AddTells d n b x e → AddTells d n b y f →
       (x ≡ y) × (e ≡ f)
-
   -- a line of text; what goes through an input piece by piece; the whole output to an input
   pub parse-fixed :
       (line g h : List ℕ) (r q : Parsed) (g₁ h₁ g₂ h₂ : List ℕ) →
@@ -156,6 +151,5 @@ pub record Demand1 : Type 0 where
       (r ≡ q) × (k₁ ≡ k₂) × (d₁ ≡ d₂)
   pub end-fixed : (d : List ℕ) (n r q : ℕ) (e f : List ℕ) → Ends d n r e → Ends d n q f → (r ≡ q) × (e ≡ f)
   pub output-fixed : (input t u : List ℕ) → Output lister.Lists input t → Output lister.Lists input u → t ≡ u
-
   -- the functions for C and Rust
   pub from-c : FromC

@@ -28,7 +28,6 @@ pub record FromC : Type 0 where
   pub list-kept : {s : List ℕ} {k : ℕ} {d e out : List ℕ} → ListSays s k d e out → getD out 0 0 ≢ 0 → e ≡ d
   pub write-kept : {b : Body} {d e out : List ℕ} → WriteSays b d e out → getD out 0 0 ≢ 0 → e ≡ d
   pub add-kept : {d : List ℕ} {n : ℕ} {b e out : List ℕ} → AddSays d n b e out → getD out 0 0 ≢ 0 → e ≡ d
-
   -- "all of its answer is fixed by the input"
   pub order-fixed :
       {p n n′ : ℕ} {G H a b b′ : List ℕ} →

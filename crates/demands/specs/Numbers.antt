@@ -12,8 +12,8 @@
 --   door_basis::check, door_step::step      0 to 9              book_write::write_body              0 to 8, 11, 13
 --   door_walk::walk                         0 to 10, 14         book_add::add                       0, 11, 13, 14, 15
 --   door_walk::from_order                   0 to 8, 10, 14      text_read::parse                    0, 12
---   door_unit::unit                         0 to 8, 10, 11, 14  lister::answer                      0 to 8, 10, 11, 12, 14
---   door_compare::refusals, compare         0 to 8
+--   door_unit::unit                         0 to 8, 10, 11, 14  lister::answer                      0 to 8, 10, 11, 12
+--   door_compare::refusal, compare          0 to 8              lister_print::finish                0, 12
 --   door_transfer::transfer                 0 to 8, 14
 -- The functions for C and Rust (crate capi) give the numbers of the functions behind them.
 -- That every such n is one of the row's numbers is `numbered` of `demand-1`.
@@ -51,6 +51,7 @@ use Rattle.book_place.specs.Place.{AskSays}
 use Rattle.capi.specs.Told.{OrderTells, StepTells, WalkTells, FromOrderTells, UnitTells, OneFieldTells}
 use Rattle.capi.specs.Books.{CheckSays, ListSays, WriteSays, AddSays, AttestSays}
 use Rattle.text_put.specs.Print.{refused-text}
+use Rattle.text_cut.specs.Feed.{end-text}
 use Rattle.text_read.specs.Tells.{ParseTells}
 use Rattle.text_read.specs.declared.Parsed.{Parsed}
 use Rattle.text_read.specs.declared.Parsed.the-variants.{Read, Malformed}
@@ -97,7 +98,8 @@ pub data Gives : ℕ → List ℕ → ℕ → Type 0 where
   add : {n : ℕ} {d b d′ : List ℕ} (x : Said) → AddTells d n b x d′ → Gives 0 (11 ∷ 13 ∷ 14 ∷ 15 ∷ []) (x .number)
   -- ---- a line of text
   parse : (line g h g′ h′ : List ℕ) (r : Parsed) → ParseTells line g h r g′ h′ → Gives 0 (12 ∷ []) (parseSays r)
-  line : {s t : List ℕ} {n : ℕ} → Lists s t → Says t n → Gives 8 (10 ∷ 11 ∷ 12 ∷ 14 ∷ []) n
+  line : {s t : List ℕ} {n : ℕ} → Lists s t → Says t n → Gives 8 (10 ∷ 11 ∷ 12 ∷ []) n
+  end : (m : ℕ) {n : ℕ} → Says (end-text m) n → Gives 0 (12 ∷ []) n
   -- ---- the functions for C and Rust: what they return, or the first of the five numbers
   order-c : {p n : ℕ} {G H a b : List ℕ} → OrderTells p G H a n b → Gives 8 [] n
   step-c : {p n d : ℕ} {G H a b : List ℕ} → StepTells p G H a n d b → Gives 9 [] n
