@@ -1,11 +1,14 @@
 -- What the book's functions mean together.
 use mathlib.Core.Path.{_≡_, refl, sym, ap, _∙_, subst}
+use mathlib.Core.Logic.{_⊎_, inl, inr}
 use mathlib.Core.List.{List, [], _∷_, _++_}
-use Prim.Native.Nat.{ℕ, zero, suc, _+_, _<_, _≤_}
+use Prim.Native.Nat.{ℕ, zero, suc, _+_, _*_, _<_, _≤_}
 use native.Mathlib.Omega.{arith}
 use lib.ListN.{length, take, drop, List·getD-append, length-append}
 use lib.Seq.{getD-append-seam, length-take-le, take-at, drop-at}
-use Rattle.base_answers.specs.Said.{Said, passed}
+use Rattle.base_answers.specs.Said.{Said, passed, refused}
+use Rattle.door_unit.specs.declared.UnitAnswer.{UnitAnswer}
+use Rattle.door_unit.specs.Unit.{Makes}
 use Rattle.book_bytes.specs.Bytes.{Bytes}
 use Rattle.book_bytes.proofs.Read.{bytes-drop}
 use Rattle.book_body.specs.Body.{Body, Rule, FieldSays, listAt, bodyBytes, bodyOf, Finished}
@@ -13,16 +16,18 @@ use Rattle.book_body.specs.Code as code
 use Rattle.book_body.proofs.Body.{body-reads, body-size, body-back}
 use Rattle.book_body.proofs.Field.{fits}
 use Rattle.book_write.specs.Write as write
+use Rattle.book_write.proofs.Pieces.{long-body}
 use Rattle.book_check.specs.Book.{count, entry, part, Accepted}
 use Rattle.book_check.specs.Value.{bookBytes, valueOf, none, at}
 use Rattle.book_check.specs.Answer as says
-use Rattle.book_check.proofs.One.{tells-unique, ask-unique, part-unique}
+use Rattle.book_check.proofs.One.{tells-unique, ask-unique, part-unique, finished-no}
 use Rattle.book_check.proofs.Value.{length-rows, at-rows, part-back, book-back}
 use Rattle.book_check.proofs.Facts.{told-fine, body-thirteen}
 use Rattle.book_add.specs.Add as add
 use Rattle.book_add.proofs.Accepted.{new-length, added-accepted}
 use Rattle.book_add.proofs.Put.{bytes-take}
-use Rattle.demands.specs.BookCalls.{listOf, Wrote, Grown, Returns, BookCalls}
+use Rattle.book_attest.specs.Attest.{AttestTells}
+use Rattle.demands.specs.BookCalls.{listOf, Wrote, Grown, Returns, unitBody, BookCalls}
 use Rattle.demands.proofs.Kept.{number-of}
 use Rattle.demands.proofs.UnitBody.{unit-bookable}
 use Rattle.demands.proofs.Bytes.{bytes-append, bytes-body, bytes-book}
@@ -45,7 +50,9 @@ module _ (b : Body) (s : FieldSays b 0) (r : Rule b) where
   wrote d d′ n e q =
       let w = bodyBytes b in
       let t : take n d′ ≡ w = ap (take n) q ∙ take-at w (drop (length w) d) n (sym e) in
+      let l = long-body b in
       record {
+        long = omega arith;
         bytes = t;
         says = ap bodyOf t ∙ body-reads b (fits b r s);
         finished = subst Finished (sym t) body-finished;
@@ -58,12 +65,16 @@ written (write.rule s r e q) z = let u = number-of e in absurd (omega arith)
 written (write.short s r l e q) z = let u = number-of e in absurd (omega arith)
 written {b} {d} {d′} {x} (write.done s r l e q) z = wrote b s r d d′ (x .result) (result-of e) q
 
+written-bytes : {b : Body} {d d′ : List ℕ} {n : ℕ} → Wrote b d n d′ → Bytes (take n d′)
+written-bytes {b} w = subst Bytes (sym (w .bytes)) (bytes-body b)
+
 -- ---- added
 -- the rows of a book are its entries
 at-value : (s : List ℕ) (i : ℕ) → i < count s → at (valueOf s) i ≡ entry s i
 at-value s i h = at-rows s 0 (count s) i h ∙ ap (entry s) (let e : 0 + i ≡ i = omega arith in e)
 
-module _ (s b s′ : List ℕ) (bs : Bytes s) (bb : Bytes b) (bs′ : Bytes s′) (a : Accepted s) (f : Finished b) (a′ : Accepted s′) (e : valueOf s′ ≡ valueOf s ++ (bodyOf b ∷ [])) where
+module _ (s b s′ : List ℕ) (bs : Bytes s) (bb : Bytes b) (bs′ : Bytes s′) (a : Accepted s) (f : Finished b) (a′ : Accepted s′)
+    (e : valueOf s′ ≡ valueOf s ++ (bodyOf b ∷ [])) where
   one-more : count s′ ≡ suc (count s)
   one-more =
       let n = length-rows s 0 (count s) in
@@ -135,7 +146,8 @@ added {n} {d} {b} {d′} {x} bd bb t z =
     let bs = bytes-take n d bd in
     let l : length s ≡ n = length-take-le n d (c .long) in
     let w : length (add.newBook s b) ≡ m = new-length s b bs bb (c .old) (c .body) ∙ ap (λ k. add.newLength k b) l in
-    let all : Bytes d′ = subst Bytes (sym (c .slice)) (bytes-append (add.newBook s b) (drop m d) (bytes-book (valueOf s ++ (bodyOf b ∷ []))) (bytes-drop d m bd)) in
+    let all : Bytes d′ =
+    subst Bytes (sym (c .slice)) (bytes-append (add.newBook s b) (drop m d) (bytes-book (valueOf s ++ (bodyOf b ∷ []))) (bytes-drop d m bd)) in
     let (a, e) = added-accepted d n b bd bb t z in
     subst (λ k. Grown s b (take k d′) × (drop k d′ ≡ drop k d)) (sym (c .size)) (
       grown s b (take m d′) bs bb (bytes-take m d′ all) (c .old) (c .body) a e,
@@ -168,17 +180,41 @@ returns b r e = record {
 
 round : {b : Body} {w w′ : List ℕ} {x : Said} → write.WriteTells b w x w′ → x .number ≡ 0
     → {n : ℕ} {d d′ : List ℕ} {y : Said} → Bytes d → add.AddTells d n (take (x .result) w′) y d′ → y .number ≡ 0
-    → (r : List ℕ) → says.AskedPart (take (y .result) d′) (count (take n d)) r → Returns b r
+    → (r : List ℕ) → says.AskedPart (take (y .result) d′) (count (take n d)) r → (r ≡ take (x .result) w′) × Returns b r
 round {b} t z bd u v r p =
     let w = written t z in
-    let (g, _) = added bd (subst Bytes (sym (w .bytes)) (bytes-body b)) u v in
-    returns b r (ap bodyOf (g .new-part r p) ∙ w .says)
+    let (g, _) = added bd (written-bytes w) u v in
+    (g .new-part r p, returns b r (ap bodyOf (g .new-part r p) ∙ w .says))
+
+-- the body is not at fault
+addable : {b : Body} {w w′ : List ℕ} {x : Said} → write.WriteTells b w x w′ → x .number ≡ 0
+    → {n : ℕ} {d d′ : List ℕ} {y : Said} → n ≤ length d → Accepted (take n d) → add.AddTells d n (take (x .result) w′) y d′
+    → (y .number ≡ 0) ⊎ ((y ≡ refused 15) ⊎ (y ≡ refused 11))
+addable t z l a (add.length-out h e q) = absurd (omega arith)
+addable t z l a (add.book h f u q) = absurd (f a)
+addable t z l a (add.body h _ u q) = absurd (finished-no (written t z .finished) u)
+addable t z l a (add.known h _ f j k o e q) = inr (inl e)
+addable t z l a (add.short h _ f u o e q) = inr (inr e)
+addable t z l a (add.added h _ f u g k e q) = inl (number-of e)
+
+unit-attested : {p k : ℕ} {G H rows scratch rows′ scratch′ : List ℕ} (m : UnitAnswer) → Makes p G H k rows scratch m rows′ scratch′ → m .refusal ≡ 0
+    → (c : ℕ) → length rows′ ≡ 6 * c
+    → {w w′ : List ℕ} {x : Said} → write.WriteTells (unitBody p G H m c rows′) w x w′ → x .number ≡ 0
+    → {n : ℕ} {d d′ : List ℕ} {y : Said} → Bytes d → add.AddTells d n (take (x .result) w′) y d′ → y .number ≡ 0
+    → {v : Said} → AttestTells (take (y .result) d′) (count (take n d)) v → v ≡ passed 1
+unit-attested m h z c e t o bd u q v =
+    let w = written t o in
+    let (g, _) = added bd (written-bytes w) u q in
+    let more = g .one-more in
+    unit-bookable m h z c e .attests (g .accepted) (omega arith) (g .new-entry ∙ w .says) v
 
 pub book-calls : BookCalls
 book-calls = record {
   written = written;
   added = added;
+  addable = addable;
   round = round;
   same-rows = λ s t b c a a′ e. sym (book-back s b a) ∙ ap bookBytes e ∙ book-back t c a′;
-  unit-bookable = λ m h z c e. unit-bookable m h z c e;
+  unit-bookable = unit-bookable;
+  unit-attested = unit-attested;
 }

@@ -1,7 +1,7 @@
 -- What is written is bytes: a body, and a book.
 --   bytes-append, bytes-body, bytes-book
 use mathlib.Core.List.{List, [], _∷_, _++_}
-use Prim.Native.Nat.{ℕ, zero, suc, _+_, _*_, _/_, _%_, _<_}
+use Prim.Native.Nat.{ℕ, zero, suc, _+_, _*_, _/_, _<_}
 use native.Mathlib.Omega.{arith}
 use lib.ListN.{length, getD}
 use Rattle.book_bytes.specs.Bytes.{le, words, Bytes}

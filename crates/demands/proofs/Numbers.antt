@@ -1,7 +1,7 @@
 -- Which numbers come with an answer: what each contract's cases say.
 --   numbered    an answer's number is one of its row
 use mathlib.Core.Path.{_≡_, refl, sym, ap, _∙_, subst}
-use mathlib.Core.Logic.{_≢_, _⊎_, inl, inr}
+use mathlib.Core.Logic.{_⊎_, inl, inr}
 use mathlib.Core.List.{List, [], _∷_, _++_}
 use Prim.Native.Nat.{ℕ, zero, suc, _-_, _≤_, _<_}
 use native.Mathlib.Omega.{arith}
@@ -49,7 +49,8 @@ use Rattle.base_lists.specs.Coefficients.{trim}
 use Rattle.lister_print.specs.Text.{rows-text, unit-text, made-text}
 use Rattle.lister_print.proofs.Prints.{made-unit, made-refused}
 use Rattle.lister.specs.Listing as listing
-use Rattle.demands.specs.Numbers.{Numbered, Says, refuses, answers, Gives, refusal, open-field, series, open-series, order, check, step, walk, from-order, unit, pairs, compare, transfer}
+use Rattle.demands.specs.Numbers.{Numbered, Says, refuses, answers, Gives}
+use Rattle.demands.specs.Numbers.{refusal, open-field, series, open-series, order, check, step, walk, from-order, unit, pairs, compare, transfer}
 use Rattle.demands.specs.Numbers.{book, ask, attest, list, write, add, parse, line, end}
 use Rattle.demands.specs.Numbers.{order-c, step-c, walk-c, from-order-c, unit-c, one-field-c, book-c, ask-c, attest-c, list-c, write-c, add-c}
 use Rattle.demands.proofs.Kept.{number-of}

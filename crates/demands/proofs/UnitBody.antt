@@ -2,14 +2,14 @@
 --   unit-sizes      E0 has the degree of the unit, an even number from 2 on; E1 and E2 are not 0; the norm is a constant
 --   row-list        a row that is not 0, without the zeros at its end, is a list of coefficients of its degree
 --   unit-bookable   the body of the unit can be written and attested
-use mathlib.Core.Path.{_≡_, refl, sym, ap, ap₂, _∙_, subst}
-use mathlib.Core.Logic.{_≢_, _⊎_, inl, inr}
+use mathlib.Core.Path.{_≡_, sym, ap, _∙_, subst}
+use mathlib.Core.Logic.{_⊎_, inl, inr}
 use mathlib.Core.List.{List}
 use Prim.Native.Nat.{ℕ, zero, suc, _≤_, _<_}
 use Prim.Native.Nat as N
 use native.Mathlib.Omega.{arith}
 use native.Mathlib.Decide.{decLt}
-use lib.ListN.{length, getD, take}
+use lib.ListN.{length, getD}
 use lib.Seq.{getD-take}
 use Rattle.base_lists.specs.Pieces.{cut}
 use Rattle.base_lists.specs.Coefficients.{Size, trim}
@@ -24,7 +24,6 @@ use Rattle.math_triple.specs.Tri.{normT}
 use Rattle.math_fp.specs.Fp.{Prime}
 use Rattle.math_valued.specs.Val.{Valued}
 use Rattle.math_valued.specs.Degree.{Has, Leads}
-use Rattle.math_valued.specs.Polynomial.{polys}
 use Rattle.math_valued.proofs.Degree as d
 use Rattle.math_valued.proofs.Compare.{has-scale, has-unscale, leads-unique}
 use Rattle.math_valued.proofs.Polynomial.{view, not-zero, const-path, unit-const}
@@ -35,7 +34,7 @@ use Rattle.math_rows.proofs.Floors.{zero-row}
 use Rattle.math_rows.proofs.Trims.{trim-row}
 use Rattle.math_rows.proofs.Unique.{cast-inj}
 use Rattle.math_ideals.specs.Setting.{Roots, Setting, P}
-use Rattle.math_ideals.specs.Element.{O, ev, X, Y, Z, norm}
+use Rattle.math_ideals.specs.Element.{O, X, Z, norm}
 use Rattle.math_ideals.specs.Ideal.{Basis}
 use Rattle.math_ideals.specs.Next.{Start}
 use Rattle.math_ideals.proofs.Sizes.{ev-XZ, two-b, two-c}
@@ -52,7 +51,7 @@ use Rattle.door_unit.specs.declared.UnitAnswer.{UnitAnswer}
 use Rattle.door_unit.specs.Unit as unit
 use Rattle.door_unit.proofs.Once.{refused-number}
 use Rattle.unit_make.specs.Rows.{six, Holds}
-use Rattle.book_body.specs.Body.{Body, UnitList, FirstList, Rule, FieldSays, bodyBytes}
+use Rattle.book_body.specs.Body.{Body, UnitList, Rule, bodyBytes}
 use Rattle.book_write.specs.Write as write
 use Rattle.book_check.specs.Book as book
 use Rattle.book_attest.specs.Attest as attest

@@ -4,14 +4,15 @@
 --   Grown s b s′        the book s′ is the book s with the bytes b as its last body, and nothing of the older entries has changed
 --   Returns b r         the bytes r say the body b, and the list reader returns each of its lists
 --   unitBody p G H m c rows   the body of a unit that `unit` made: its period, and its first three rows without the zeros at their ends
---   Bookable b          the body b can be written and attested: its field is accepted, it obeys the body rule, its E has a constant norm
+--   Bookable b          the body b can be written and attested: its field is accepted, it obeys the body rule, and its E has a non-zero
+--                       constant norm
 --   BookCalls           what follows one call from the answer of another
 -- How to read it: a call is an outcome that meets the contract of its function, x and y are what it says, `result` the length it returns.
 -- `take n d` is the book of length n in the slice d. A lent slice of bytes holds bytes: `Bytes`.
 -- The theorem `book-calls` is in proofs/BookCalls.antt.
 use mathlib.Core.Path.{_≡_}
 use mathlib.Core.Logic.{_⊎_}
-use mathlib.Core.List.{List, [], _++_}
+use mathlib.Core.List.{List, _++_}
 use Prim.Native.Nat.{ℕ, zero, suc, _+_, _*_, _<_, _≤_}
 use lib.ListN.{length, take, drop}
 use Rattle.base_lists.specs.Pieces.{cut}
@@ -37,8 +38,9 @@ listOf b (suc (suc (suc zero))) = b .E1
 listOf b (suc (suc (suc (suc k)))) = b .E2
 
 -- "Writing a body takes p, G, H, the period and the three E lists into a lent slice and returns its length; the slice beyond that length is
--- unchanged."
+-- unchanged."; "Its length is 16 + twice the sum of the lengths."
 pub record Wrote (b : Body) (d : List ℕ) (n : ℕ) (d′ : List ℕ) : Type 0 where
+  pub long : n ≡ 16 + 2 * (length (b .G) + length (b .H) + length (b .E0) + length (b .E1) + length (b .E2))
   pub bytes : take n d′ ≡ bodyBytes b
   pub says : bodyOf (take n d′) ≡ b
   pub finished : Finished (take n d′)
@@ -91,12 +93,17 @@ pub record BookCalls : Type 0 where
       {n : ℕ} {d b d′ : List ℕ} {x : Said} → Bytes d → Bytes b →
       AddTells d n b x d′ → x .number ≡ 0 →
       Grown (take n d) b (take (x .result) d′) × (drop (x .result) d′ ≡ drop (x .result) d)
-  -- written, added, asked for: the part says the body that was given to be written, list by list
+  -- a body that was written can be added to an accepted book: what refuses it is its field or the room, never the body
+  pub addable :
+      {b : Body} {w w′ : List ℕ} {x : Said} → WriteTells b w x w′ → x .number ≡ 0 →
+      {n : ℕ} {d d′ : List ℕ} {y : Said} → n ≤ length d → Accepted (take n d) → AddTells d n (take (x .result) w′) y d′ →
+      (y .number ≡ 0) ⊎ ((y ≡ refused 15) ⊎ (y ≡ refused 11))
+  -- written, added, asked for: the part is the bytes written, and says the body that was given, list by list
   pub round :
       {b : Body} {w w′ : List ℕ} {x : Said} → WriteTells b w x w′ → x .number ≡ 0 →
       {n : ℕ} {d d′ : List ℕ} {y : Said} → Bytes d → AddTells d n (take (x .result) w′) y d′ → y .number ≡ 0 →
       (r : List ℕ) → AskedPart (take (y .result) d′) (count (take n d)) r →
-      Returns b r
+      (r ≡ take (x .result) w′) × Returns b r
   -- two accepted books with the same rows are the same bytes
   pub same-rows : (s t : List ℕ) → Bytes s → Bytes t → Accepted s → Accepted t → valueOf s ≡ valueOf t → s ≡ t
   -- a unit that `unit` made can be written into the book
@@ -105,3 +112,12 @@ pub record BookCalls : Type 0 where
       Makes p G H n rows scratch m rows′ scratch′ → m .refusal ≡ 0 →
       (c : ℕ) → length rows′ ≡ 6 * c →
       Bookable (unitBody p G H m c rows′)
+  -- and once it is written and added, its entry is attested
+  pub unit-attested :
+      {p k : ℕ} {G H rows scratch rows′ scratch′ : List ℕ} (m : UnitAnswer) →
+      Makes p G H k rows scratch m rows′ scratch′ → m .refusal ≡ 0 →
+      (c : ℕ) → length rows′ ≡ 6 * c →
+      {w w′ : List ℕ} {x : Said} → WriteTells (unitBody p G H m c rows′) w x w′ → x .number ≡ 0 →
+      {n : ℕ} {d d′ : List ℕ} {y : Said} → Bytes d → AddTells d n (take (x .result) w′) y d′ → y .number ≡ 0 →
+      {z : Said} → AttestTells (take (y .result) d′) (count (take n d)) z →
+      z ≡ passed 1
