@@ -6,7 +6,7 @@
 --   Gives k l n        n comes with an answer that meets a contract whose numbers are 0 to k, and l: a row for each contract
 -- The rows:
 --   field_open::refusal, open               0 to 8              book_check::check                   0, 13
---   field_series::series                    0 to 8, 14          book_check::ask                     0, 13, 14
+--   field_series::series                    0 to 8, 14          book_check::ask_answer              0, 13, 14
 --   field_series::open_with_series          0 to 8              book_attest::attest                 0, 13, 14
 --   door_basis::order                       0 to 8              book_body::list_of                  0, 11, 14
 --   door_basis::check, door_step::step      0 to 9              book_write::write_body              0 to 8, 11, 13
