@@ -32,7 +32,7 @@ module _ (s b : List ℕ) (bs : Bytes s) (bb : Bytes b) (a : Accepted s) (f : Fi
   abbrev new : List Body
   new = valueOf s ++ (bodyOf b ∷ [])
 
-  new-length : length (newBook s b) ≡ newLength (length s) b
+  pub new-length : length (newBook s b) ≡ newLength (length s) b
   new-length =
       let from : ℕ = 6 + width * count s in
       let x : List ℕ = lines s (6 + width * suc (count s)) (count s) in

@@ -1,5 +1,11 @@
 pub mod Cases
+pub mod Kept
+pub mod Numbers
+pub mod FromC
 pub mod Demand1
+pub mod Bytes
+pub mod UnitBody
+pub mod BookCalls
 pub mod Demand2
 pub mod Demand3
 pub mod Smallest
