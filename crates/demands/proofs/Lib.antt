@@ -1,14 +1,5 @@
 pub mod Cases
-pub mod Kept
-pub mod Numbers
-pub mod FromC
-pub mod Demand1
-pub mod Bytes
-pub mod UnitBody
-pub mod BookCalls
-pub mod Demand2
-pub mod Demand3
-pub mod Smallest
-pub mod SameField
 pub mod Tabled
 pub mod TakenUp
+pub mod Demand2
+pub mod Demand3

@@ -1,1 +1,1 @@
-// The three demands as statements (specs/) and as theorems (proofs/). No code of its own.
+// Demands 2 and 3 as statements and theorems; there is no code.

@@ -22,8 +22,8 @@ use Rattle.basis_field.proofs.First.{first-unique}
 use Rattle.door_unit.specs.declared.UnitAnswer.{UnitAnswer}
 use Rattle.door_unit.specs.Unit.{Makes, Success}
 use Rattle.unit_make.specs.Rows.{six}
-use Rattle.demands.specs.Smallest.{SmallestRows, SmallestUnit}
+use Rattle.demands_requests.specs.Smallest.{SmallestRows, SmallestUnit}
 use Rattle.demands.proofs.Cases.{walk-closed, walk-spent, told-closed, told-spent, told-accepted, unit-made, unit-spent, unit-narrow, unit-accepted, success-unit}
 
 -- ---- what the functions answer
 unit-rows : (p n : ℕ) (G H rows scratch rows′ scratch′ : List ℕ) (m : UnitAnswer) → Makes p G H n rows scratch m rows′ scratch′ → m .refusal ≡ 0 → SmallestRows p G H m rows′

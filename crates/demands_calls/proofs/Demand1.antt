@@ -19,10 +19,10 @@ use Rattle.text_cut.specs.Lines.{lines-of}
 use Rattle.text_cut.proofs.Steps.{cut-unique}
 use Rattle.text_read.proofs.Answers.{parse-unique}
 use Rattle.lister.proofs.Once.{lists-unique, answer-unique, passes-unique, output-unique}
-use Rattle.demands.specs.Fixed.{Demand1}
-use Rattle.demands.proofs.Numbers.{numbered}
-use Rattle.demands.proofs.Kept as kept
-use Rattle.demands.proofs.FromC.{from-c}
+use Rattle.demands_calls.specs.Fixed.{Demand1}
+use Rattle.demands_calls.proofs.Numbers.{numbered}
+use Rattle.demands_calls.proofs.Kept as kept
+use Rattle.demands_calls.proofs.FromC.{from-c}
 
 pub demand-1 : Demand1
 demand-1 = record {

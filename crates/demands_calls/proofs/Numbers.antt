@@ -49,11 +49,11 @@ use Rattle.base_lists.specs.Coefficients.{trim}
 use Rattle.lister_print.specs.Text.{rows-text, unit-text, made-text}
 use Rattle.lister_print.proofs.Prints.{made-unit, made-refused}
 use Rattle.lister.specs.Listing as listing
-use Rattle.demands.specs.Numbers.{Numbered, Says, refuses, answers, Gives}
-use Rattle.demands.specs.Numbers.{refusal, open-field, series, open-series, order, check, step, walk, from-order, unit, pairs, compare, transfer}
-use Rattle.demands.specs.Numbers.{book, ask, attest, list, write, add, parse, line, end}
-use Rattle.demands.specs.Numbers.{order-c, step-c, walk-c, from-order-c, unit-c, one-field-c, book-c, ask-c, attest-c, list-c, write-c, add-c}
-use Rattle.demands.proofs.Kept.{number-of}
+use Rattle.demands_calls.specs.Numbers.{Numbered, Says, refuses, answers, Gives}
+use Rattle.demands_calls.specs.Numbers.{refusal, open-field, series, open-series, order, check, step, walk, from-order, unit, pairs, compare, transfer}
+use Rattle.demands_calls.specs.Numbers.{book, ask, attest, list, write, add, parse, line, end}
+use Rattle.demands_calls.specs.Numbers.{order-c, step-c, walk-c, from-order-c, unit-c, one-field-c, book-c, ask-c, attest-c, list-c, write-c, add-c}
+use Rattle.demands_calls.proofs.Kept.{number-of}
 
 -- ---- the book
 zero-of : {k n : ℕ} {A : Type 0} → n ≡ 0 → (n ≤ k) ⊎ A

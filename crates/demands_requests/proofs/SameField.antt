@@ -23,7 +23,7 @@ use Rattle.book_check.specs.Answer as says
 use Rattle.book_check.proofs.Facts.{fault-thirteen}
 use Rattle.book_add.specs.Add as add
 use Rattle.book_add.proofs.One.{add-unique}
-use Rattle.demands.specs.SameField.{SameField}
+use Rattle.demands_requests.specs.SameField.{SameField}
 
 yes-of : {A : Type 0} (r : Bool) → Decides r A → A → r ≡ true
 yes-of true d a = refl

@@ -25,7 +25,7 @@ use Rattle.text_read.specs.declared.Parsed.{Parsed}
 use Rattle.text_read.specs.declared.Parsed.the-variants.{Read, Malformed}
 use Rattle.lister.specs.Listing as lister
 use Rattle.lister.specs.declared.Going.{Going}
-use Rattle.demands.specs.Numbers.{parseSays}
+use Rattle.demands_calls.specs.Numbers.{parseSays}
 
 pub number-of : {x y : Said} → x ≡ y → x .number ≡ y .number
 number-of e = ap (λ (x : Said). x .number) e

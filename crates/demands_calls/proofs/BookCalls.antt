@@ -27,10 +27,10 @@ use Rattle.book_add.specs.Add as add
 use Rattle.book_add.proofs.Accepted.{new-length, added-accepted}
 use Rattle.book_add.proofs.Put.{bytes-take}
 use Rattle.book_attest.specs.Attest.{AttestTells}
-use Rattle.demands.specs.BookCalls.{listOf, Wrote, Grown, Returns, unitBody, BookCalls}
-use Rattle.demands.proofs.Kept.{number-of}
-use Rattle.demands.proofs.UnitBody.{unit-bookable}
-use Rattle.demands.proofs.Bytes.{bytes-append, bytes-body, bytes-book}
+use Rattle.demands_calls.specs.BookCalls.{listOf, Wrote, Grown, Returns, unitBody, BookCalls}
+use Rattle.demands_calls.proofs.Kept.{number-of}
+use Rattle.demands_calls.proofs.UnitBody.{unit-bookable}
+use Rattle.demands_calls.proofs.Bytes.{bytes-append, bytes-body, bytes-book}
 
 result-of : {x y : Said} → x ≡ y → x .result ≡ y .result
 result-of e = ap (λ (x : Said). x .result) e

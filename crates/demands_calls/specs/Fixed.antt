@@ -45,8 +45,8 @@ use Rattle.text_read.specs.declared.Parsed.{Parsed}
 use Rattle.lister_print.specs.Text.{Ends}
 use Rattle.lister.specs.Listing as lister
 use Rattle.lister.specs.declared.Going.{Going}
-use Rattle.demands.specs.Numbers.{Numbered, parseSays, Gives}
-use Rattle.demands.specs.FromC.{FromC}
+use Rattle.demands_calls.specs.Numbers.{Numbered, parseSays, Gives}
+use Rattle.demands_calls.specs.FromC.{FromC}
 
 pub record Demand1 : Type 0 where
   -- "an answer or a numbered refusal"

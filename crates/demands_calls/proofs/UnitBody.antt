@@ -55,8 +55,8 @@ use Rattle.book_body.specs.Body.{Body, UnitList, Rule, bodyBytes}
 use Rattle.book_write.specs.Write as write
 use Rattle.book_check.specs.Book as book
 use Rattle.book_attest.specs.Attest as attest
-use Rattle.demands.specs.BookCalls.{unitBody, Bookable}
-use Rattle.demands.proofs.Kept.{number-of}
+use Rattle.demands_calls.specs.BookCalls.{unitBody, Bookable}
+use Rattle.demands_calls.proofs.Kept.{number-of}
 
 -- ---- the theory: E0, E1, E2 of a unit of positive degree
 module _ (S : Setting) where

@@ -1,0 +1,7 @@
+pub mod Kept
+pub mod Numbers
+pub mod FromC
+pub mod Demand1
+pub mod Bytes
+pub mod UnitBody
+pub mod BookCalls

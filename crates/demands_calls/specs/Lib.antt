@@ -1,0 +1,4 @@
+pub mod Numbers
+pub mod FromC
+pub mod Fixed
+pub mod BookCalls
