@@ -2,9 +2,9 @@
 -- have the same period and regulator, and say how the rows of the unit carry over: E1 and E2 change places on a swap and take constant
 -- factors, E0 stays. Refusals: inner reason "twice" and refusal 15 now use the wider test; an old book that breaks it is refused."
 --   SameField   the request: the relation, what such pairs share in the theory's words and in the answers, rows carried over, the book
--- How to read it: `OneField` (pairs/specs/OneField.antt) has the words of the request, `RowsCarry` and `RecordCarries` (pairs/specs/Rows.antt)
--- say how rows of numbers carry over, `Shared` (onefield/specs/Shared.antt) what two such pairs share as fields with their series, and
--- `Alike` (alike/specs/Alike.antt) what the functions answer for them.
+-- How to read it: `OneField` (pair_agree/specs/OneField.antt) has the words of the request, `RowsCarry` and `RecordCarries` (pair_agree/specs/Rows.antt)
+-- say how rows of numbers carry over, `Shared` (pair_theory/specs/Shared.antt) what two such pairs share as fields with their series, and
+-- `Alike` (pair_answers/specs/Alike.antt) what the functions answer for them.
 -- The theorem `same-field` is in proofs/SameField.antt.
 use mathlib.Core.Path.{_≡_}
 use mathlib.Core.Bool.{true}
