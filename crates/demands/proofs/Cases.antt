@@ -1,9 +1,9 @@
 -- Which case of its contract an answer is, by its number: every other case has another number.
---   walk-closed walk-spent   a walk answered with 0 has closed; one answered with 10 has spent its budget
---   walk-reaches walk-stays  with either number it has reached its basis; with 10 none of its steps closed
---   told-closed told-spent   the same of a walk from the order
---   unit-made success-unit   a unit answered with 0 was made, and the rows are that unit
---   unit-spent unit-narrow   with 10 the budget was spent, with 11 the room was too little
+--   walk-closed walk-spent        a walk answered with 0 has closed; one answered with 10 has spent its budget
+--   walk-reaches walk-stays       with either number it has reached its basis; with 10 none of its steps closed
+--   told-closed told-spent        the same of a walk from the order
+--   unit-made success-unit        a unit answered with 0 was made, and the rows are that unit
+--   unit-spent unit-narrow        with 10 the budget was spent, with 11 the room was too little
 --   told-accepted unit-accepted   then the field is accepted
 use mathlib.Core.Path.{_≡_, sym, ap, _∙_, subst}
 use mathlib.Core.Logic.{_⊎_, inl, inr}

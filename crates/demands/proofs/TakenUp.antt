@@ -5,12 +5,11 @@ use mathlib.Core.Path.{_≡_, subst}
 use mathlib.Core.Logic.{_⊎_, inl, inr}
 use mathlib.Core.List.{List}
 use Prim.Native.Nat.{ℕ, _+_}
-use Rattle.field_open.specs.Refusal.{Accepted}
 use Rattle.basis_record.specs.Record.{IsRecord}
 use Rattle.basis_field.specs.First.{IsFirst}
 use Rattle.basis_field.proofs.First.{first-unique}
 use Rattle.walk_chain.specs.declared.WalkAnswer.{WalkAnswer}
-use Rattle.walk_chain.specs.Walk.{Walks, Reaches, StaysOpen, Closes}
+use Rattle.walk_chain.specs.Walk.{Reaches, StaysOpen, Closes}
 use Rattle.walk_chain.proofs.Walk.{closes-unique}
 use Rattle.walk_chain.proofs.TakenUp.{reaches-then, stays-then, closes-then}
 use Rattle.door_walk.specs.declared.PeriodAnswer.{PeriodAnswer}

@@ -12,9 +12,10 @@
 -- door_step, walk_chain, door_walk, door_unit and book_check; `Rows` and `stored` (crate examples_tests) write a basis and its record of 119
 -- numbers.
 use mathlib.Core.Path.{_≡_}
+use mathlib.Core.Bool.{Bool, true, false}
 use mathlib.Core.List.{List, [], _∷_, _++_}
 use Prim.Native.Nat.{ℕ, _*_, _≤_}
-use native.Mathlib.Decide.{ℕ-discrete}
+use lib.Dec.{eqb}
 use lib.ListN.{length, take, replicate}
 use Rattle.math_triple.specs.Tri.{Tri}
 use Rattle.math_ideals.specs.Element.{norm}
@@ -124,10 +125,13 @@ abbrev pub AllHold : List (ℕ × Line) → Type 0
 AllHold [] = Unit {0}
 AllHold ((n, l) ∷ ls) = Holds l × AllHold ls
 
+abbrev pub starts : ℕ → List ℕ → Bool
+starts n [] = false
+starts n (m ∷ ms) = eqb n m
+
 -- n before the numbers, unless they begin with it
 abbrev pub before : ℕ → List ℕ → List ℕ
-before n [] = n ∷ []
-before n (m ∷ ms) = elim (ℕ-discrete n m) [ yes e ↦ m ∷ ms | no f ↦ n ∷ m ∷ ms ]
+before n ms = elim (starts n ms) [ true ↦ ms | false ↦ n ∷ ms ]
 
 abbrev pub labels : List (ℕ × Line) → List ℕ
 labels [] = []

@@ -2,7 +2,7 @@
 --   open-then closing-then                of any chain
 --   reaches-then stays-then closes-then   of records, whatever the budgets
 --   taken-up                              of answers: a walk refused with 10, and the walk from where it stopped, are the long walk
-use mathlib.Core.Path.{_≡_, refl, sym, ap, _∙_}
+use mathlib.Core.Path.{_≡_, sym, ap, _∙_}
 use mathlib.Core.Logic.{_≢_}
 use mathlib.Core.List.{List}
 use Prim.Native.Nat.{ℕ, _+_, _-_, _≤_, _<_}
@@ -17,7 +17,7 @@ use Rattle.math_chain.proofs.Walk.{same-chain, chain-then, prefix}
 use Rattle.field_open.proofs.Stages.{refusal-unique, numbered}
 use Rattle.basis_record.specs.Record.{setting, basisOf, IsRecord}
 use Rattle.walk_chain.specs.declared.WalkAnswer.{WalkAnswer}
-use Rattle.walk_chain.specs.Walk.{Reaches, StaysOpen, Closes, refused, Spent, Goes, budget, no-record, closed, spent, Walks}
+use Rattle.walk_chain.specs.Walk.{Reaches, StaysOpen, Closes, Spent, Goes, budget, no-record, closed, spent, Walks}
 use Rattle.base_answers.specs.Limits.{most}
 
 -- ---- of any chain
