@@ -33,10 +33,10 @@ use Rattle.basis_parts.specs.Frame.{Frame, Meaning, rd, rowμ, X, Y, Ltμ}
 use Rattle.basis_reduce.specs.Clear.{Pair, pair, swapIf}
 use Rattle.basis_record.specs.Store.{Stored, Loaded}
 use Rattle.basis_scale.specs.First.{nothing, unit, units, OrderAsks}
-use Rattle.poly_rows.specs.Leaf as leaf
 use Rattle.basis_scale.specs.Place.{padded}
 use Rattle.basis_scale.specs.Based.{ReducedBasisAsks, ReducedBasisGives, BasedAt, Based, Z, at, Mpt, Npt}
 use Rattle.demands_inner.proofs.Rows.{by-row}
+use Rattle.demands_inner.proofs.Poly.{scaled-at}
 use Rattle.demands_inner.specs.UpTo.{Scaled}
 use Rattle.demands_inner.proofs.Pairs.{times-X, times-Y, pairs-unique}
 
@@ -208,15 +208,14 @@ based-unique {B = B} {B′ = B′} μ h h′ = by-parts (rd μ) B B′ (h .size)
 pub reduced-basis-unique : {F : Frame} {q : Pair} {top : ℕ} {d : List ℕ} {lu : ℕ} {x1 : List ℕ} {n1 : ℕ} {y1 : List ℕ} {n2 : ℕ} {o o′ : Pair} {d₁ x₁ y₁ B d₂ x₂ y₂ B′ : List ℕ}
     → ReducedBasisAsks F q top d lu x1 n1 y1 n2 → (h : ReducedBasisGives F q d x1 y1 o d₁ x₁ y₁ B) (k : ReducedBasisGives F q d x1 y1 o′ d₂ x₂ y₂ B′)
     → (B ≡ B′) × (swapIf (h .swap) o ≡ swapIf (k .swap) o′) × (d₁ ≡ d₂) × (x₁ ≡ x₂) × (y₁ ≡ y₂)
-reduced-basis-unique {F} g h k =
+reduced-basis-unique g h k =
     let μ = g .inp .clear .some in
-    let e = based-unique μ (h .based) (k .based) in
-    let same : {x s t : List ℕ} → leaf.Scaled (F .m .p) 2 x s → leaf.Scaled (F .m .p) 2 x t → s ≡ t = λ {x} {s} {t} a b. by-row (rd μ) (a .is-row) (b .is-row) (a .law (μ .prime)) (b .law (μ .prime)) in (
+    let e = based-unique μ (h .based) (k .based) in (
       e,
       h .left .rows ∙ ap (λ B. pair (padded 1 B) (padded 2 B) (padded 4 B) (padded 5 B)) e ∙ sym (k .left .rows),
       h .left .u ∙ ap (padded 6) e ∙ sym (k .left .u),
-      same (h .left .twice-x) (k .left .twice-x),
-      same (h .left .twice-y) (k .left .twice-y),
+      scaled-at (μ .prime) (h .left .twice-x) (k .left .twice-x),
+      scaled-at (μ .prime) (h .left .twice-y) (k .left .twice-y),
     )
 
 pub order-unique : {F : Frame} {top : ℕ} {B B′ : List ℕ} → OrderAsks F top → Based F units unit nothing nothing B → Based F units unit nothing nothing B′ → B ≡ B′

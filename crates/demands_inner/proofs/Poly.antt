@@ -22,7 +22,7 @@ use Rattle.math_rows.proofs.Floors.{sized}
 use Rattle.math_rows.proofs.Quotient.{division-unique}
 use Rattle.math_rows.proofs.Unique.{row-unique}
 use Rattle.num_prime.specs.Table.{PrimeTest}
-use Rattle.poly_rows.specs.Leaf.{Given, Opposite, ScaleInAsks, ScaleInGives, CrossInAsks, CrossInGives, MulAsks, Product, Listed}
+use Rattle.poly_rows.specs.Leaf.{Given, Opposite, Scaled, ScaleInAsks, ScaleInGives, CrossInAsks, CrossInGives, MulAsks, Product, Listed}
 use Rattle.num_mod.specs.Prepared.{Added}
 use Rattle.num_mod.specs.declared.Modulus.{Modulus}
 use Rattle.poly_rows.specs.Division.{DivisionAsks, Quotient}
@@ -53,8 +53,11 @@ add-product-unique h k = h .law ∙ sym (k .law)
 pub minus-unique : {p : ℕ} {x r s : List ℕ} → Given p x → Opposite p x r → Opposite p x s → r ≡ s
 minus-unique {p} g h k = by-row (reading p (g .prime)) (h .is-row) (k .is-row) (h .law (g .prime)) (k .law (g .prime))
 
+pub scaled-at : {p : ℕ} (pr : Prime p) {c : ℕ} {x r s : List ℕ} → Scaled p c x r → Scaled p c x s → r ≡ s
+scaled-at {p} pr h k = by-row (reading p pr) (h .is-row) (k .is-row) (h .law pr) (k .law pr)
+
 pub scale-in-unique : {q : Modulus} {c : ℕ} {x : List ℕ} {n : ℕ} {r s : List ℕ} → ScaleInAsks q c x n → ScaleInGives (q .p) c x n r → ScaleInGives (q .p) c x n s → r ≡ s
-scale-in-unique {q} g h k = by-row (reading (q .p) (g .prime)) (h .short .is-row) (k .short .is-row) (h .scaled .law (g .prime)) (k .scaled .law (g .prime))
+scale-in-unique g h k = scaled-at (g .prime) (h .scaled) (k .scaled)
 
 pub cross-in-unique : {q : Modulus} {a : ℕ} {x : List ℕ} {c k : ℕ} {y : List ℕ} {n : ℕ} {r s : List ℕ} → CrossInAsks q a x c k y n
     → CrossInGives (q .p) a x c k y n r → CrossInGives (q .p) a x c k y n s → r ≡ s

@@ -16,7 +16,7 @@ use Rattle.math_turns.proofs.Turn.{moved-back, moved-then}
 use Rattle.basis_parts.specs.Frame.{Frame, Meaning, rd, pt, X, Hasμ}
 use Rattle.basis_parts.specs.Leaves.{PartAsks, Parted, TopOfAsks, Topped, LeadOfAsks, Led}
 use Rattle.basis_parts.specs.declared.Top.{Top}
-use Rattle.basis_parts.proofs.Tops.{topped-most, topped-not, topped-has}
+use Rattle.basis_parts.proofs.Tops.{topped-most, topped-not}
 use Rattle.basis_reduce.specs.Clear.{Pair, Ends, ClearYAsks, Reduced}
 use Rattle.demands_inner.proofs.Rows.{floor-unique}
 use Rattle.demands_inner.specs.UpTo.{Scaled}
@@ -39,8 +39,8 @@ top-of-unique {low = low} t t′ i h k = λ j. record { n = n j; c = leads (decL
     leads (yes u) =
         let μ = i .inp .some in
         let e : t .n ≡ t′ .n = n in
-        let (x, y, z) = topped-has k (omega arith) μ in
-        cast-inj (rd μ) (t .c) (t′ .c) (h .below) (k .below) (leads-unique (rd μ .𝓥) (t .n - 1, 0, topped-not h u μ, h .lead u μ) (t′ .n - 1, 0, y, z))
+        let v : low < t′ .n = omega arith in
+        cast-inj (rd μ) (t .c) (t′ .c) (h .below) (k .below) (leads-unique (rd μ .𝓥) (t .n - 1, 0, topped-not h u μ, h .lead u μ) (t′ .n - 1, 0, topped-not k v μ, k .lead v μ))
     leads (no u) =
         let a : low ≤ t .n = h .from in
         let e : t .n ≡ t′ .n = n in
