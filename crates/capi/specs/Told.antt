@@ -6,7 +6,7 @@
 --   FromOrderTells       period and regulator of the walk from the order
 --   UnitTells            the unit and its inverse in the lent slices, period and regulator
 --   OneFieldTells        whether two pairs are of one field, as 1 or 0
--- In proofs/Once.antt: two outcomes that meet one of them are equal. `Puts`, what a walk puts in place, is in walk_in_place/specs/Puts.antt.
+-- In proofs/Once.antt: two outcomes that meet one of them are equal. `Puts`, what a walk puts in place, is in capi_walk/specs/Puts.antt.
 use mathlib.Core.Path.{_≡_}
 use mathlib.Core.Logic.{_≢_}
 use mathlib.Core.Bool.{Bool, true, false}
