@@ -2,7 +2,8 @@
 --   order-tells-unique, step-tells-unique, walk-tells-unique, from-order-tells-unique, unit-tells-unique, one-field-tells-unique
 --   check-says-unique, write-says-unique, add-says-unique, attest-says-unique
 -- Those that only pass on have theirs below: ask-says-unique in book_place/proofs/Once.antt, prime-says-unique, period-says-unique and
--- list-says-unique in book_parts/proofs/Once.antt, begin-says-unique in book_begin/proofs/Once.antt.
+-- list-says-unique in book_parts/proofs/Once.antt, begin-says-unique in book_begin/proofs/Once.antt, rows-says-unique in
+-- book_rows/proofs/Once.antt.
 use mathlib.Core.Path.{_≡_, _∙_, sym, ap, subst}
 use mathlib.Core.List.{List}
 use Prim.Native.Nat.{ℕ, zero, suc}

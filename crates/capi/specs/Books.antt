@@ -2,7 +2,7 @@
 --   CheckSays, WriteSays, AddSays, AttestSays    what the contract of the function behind each allows
 -- In proofs/Once.antt: two outcomes that meet one of them are equal. `numbers`, the five in a row, is in book_numbers/specs/Numbers.antt. What
 -- asking for an entry tells is in book_place/specs/Place.antt, for a part of a body in book_parts/specs/Parts.antt; beginning a book in
--- book_begin/specs/Begin.antt.
+-- book_begin/specs/Begin.antt; writing a body from rows in book_rows/specs/Rows.antt.
 use mathlib.Core.Path.{_≡_}
 use mathlib.Core.List.{List}
 use Prim.Native.Nat.{ℕ}

@@ -8,6 +8,7 @@ ghost use Rattle.book_check.specs.Book.{count};
 ghost use Rattle.book_write.specs.Write.{bodyFrom};
 ghost use Rattle.book_place.specs.Place.{AskSays};
 ghost use Rattle.book_begin.specs.Begin.{BeginSays};
+ghost use Rattle.book_rows.specs.Rows.{RowsSays};
 ghost use Rattle.book_parts.specs.Parts.{PrimeSays, PeriodSays, ListSays};
 ghost use Rattle.door_transfer.specs.Transfer.{Transfers};
 ghost use Rattle.capi.specs.Told.{OrderTells, StepTells, WalkTells, FromOrderTells, UnitTells, OneFieldTells};
@@ -263,6 +264,23 @@ pub extern "C" fn zaminuk_book_write(
 {
     let w = book_write::write_body(p, g, h, base_answers::Period(period), a, b, c, out);
     let o = book_numbers::wrote_row(w);
+    *said = o;
+}
+
+// Writes a body from the six rows of a unit and its inverse into a lent slice; the result is its length.
+#[no_mangle]
+pub extern "C" fn zaminuk_book_write_rows(
+    p: u64,
+    g: &[u64],
+    h: &[u64],
+    period: u64,
+    rows: &[u16],
+    out: &mut [u8],
+    said: &mut [u64; 5],
+)
+    ensures { λ _. ⌜ RowsSays p (now (g .entry)) (now (h .entry)) period (now (rows .entry)) (now (out .entry)) (now (out .exit)) (now (said .exit)) ⌝ }
+{
+    let o = book_rows::write_rows(p, g, h, base_answers::Period(period), rows, out);
     *said = o;
 }
 
