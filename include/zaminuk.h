@@ -11,8 +11,8 @@
    be written. What is written may overlap nothing else that is handed over in the same call, neither an input nor another output: so the
    body that zaminuk_book_add adds may not lie in the slice of the book, also not behind the book. Inputs may be the same or overlap. With
    length 0 a pointer is not followed and may be NULL; a pointer that has no length is never NULL. Nothing else is asked of the caller.
-   Stack. No call allocates. It needs stack, measured in this version's machine code: zaminuk_book_attest 174 KiB; zaminuk_book_write_rows
-   104 KiB; zaminuk_book_check, .._ask, .._add and zaminuk_body_.. 38 KiB; zaminuk_unit 18 KiB; all others 14 KiB.
+   Stack. No call allocates. What it needs of the stack, by the frames in the machine code of this version: zaminuk_book_attest 176 KiB;
+   zaminuk_book_write_rows 100 KiB; zaminuk_book_check, .._ask, .._add and zaminuk_body_.. 34 KiB; zaminuk_unit 18 KiB; all others 14 KiB.
    Threads. Nothing is kept between calls and nothing is shared, so calls may run at the same time as long as none writes what another has.
    Platform. The library is x86-64 code for Linux (System V calling convention), and needs only memcpy and memset of the C library.
 
@@ -60,7 +60,7 @@ enum zaminuk_number {
     ZAMINUK_NO_ROOM = 11,           /* too little room */
     ZAMINUK_NO_LINE = 12,           /* of the lister alone: text line malformed */
     ZAMINUK_MALFORMED = 13,         /* book or body malformed, with a reason */
-    ZAMINUK_OUT_OF_RULE = 14,       /* lent lengths or budget out of their rule, no such entry or list, or pairs that are not of one field */
+    ZAMINUK_OUT_OF_RULE = 14,       /* lent lengths or budget out of their rule, no such entry or list, pairs not of one field */
     ZAMINUK_KNOWN = 15              /* field already in the book: an entry is of one field with the body */
 };
 
@@ -118,8 +118,8 @@ uint32_t zaminuk_from_order(uint64_t p, const uint64_t *g, size_t gn, const uint
                             zaminuk_period *period, zaminuk_regulator *regulator);
 
 /* The fundamental unit, the smallest of positive degree with E0 monic, and its inverse: E0, E1, E2, F0, F1, F2 into rows, c = rn/6
-   coefficients each, zeros above a row's degree; scratch has the same length and holds zeros afterwards. 14 where rn is not 6c with c at most
-   4,096, sn is not rn, or the budget is over 1,000,000; then 10; then 11 where c is not above twice the regulator. */
+   coefficients each, zeros above a row's degree; scratch has the same length and holds zeros afterwards. 14 where rn is not 6c with c at
+   most 4,096, sn is not rn, or the budget is over 1,000,000; then 10; then 11 where c is not above twice the regulator. */
 uint32_t zaminuk_unit(uint64_t p, const uint64_t *g, size_t gn, const uint64_t *h, size_t hn, uint64_t budget,
                       uint16_t *rows, size_t rn, uint16_t *scratch, size_t sn, zaminuk_period *period, zaminuk_regulator *regulator);
 
@@ -152,8 +152,8 @@ void zaminuk_book_write_rows(uint64_t p, const uint64_t *g, size_t gn, const uin
 
 /* A body added to the book of the given length at the front of out; the result is the new length. 14 where length is over n; 13 for the
    book, then for the body, whose entry is the number of bodies; 15 where an entry is of one field with the body; 11 where the new book does
-   not fit n or 65,536. The body may not lie in out. The whole book is checked each time, so an addition takes as long as a check: it grows with
-   the square of the number of bodies. */
+   not fit n or 65,536. The body may not lie in out. The whole book is checked each time: the cost of an addition is that of a check, and
+   grows with the square of the number of bodies. */
 void zaminuk_book_add(uint8_t *out, size_t n, size_t length, const uint8_t *body, size_t bn, uint64_t said[ZAMINUK_SAID]);
 
 /* Checks a book: 0, or 13. */
@@ -169,8 +169,8 @@ void zaminuk_book_ask(const uint8_t *book, size_t n, size_t i, size_t *start, si
 void zaminuk_book_attest(const uint8_t *book, size_t n, size_t i, uint64_t said[ZAMINUK_SAID]);
 
 /* The parts of a body, which is checked first: 13 with reason 3 or 4, entry 0, where it is not formed or its field is refused. The results:
-   the prime; the period; the length of list k (0 to 4 for G, H, E0, E1, E2), which stands in the front of out. 14 for another k, 11 where on
-   is less than the length. */
+   the prime; the period; the length of list k (0 to 4 for G, H, E0, E1, E2), which stands in the front of out. 14 for another k, 11 where
+   on is less than the length. */
 void zaminuk_body_prime(const uint8_t *body, size_t n, uint64_t said[ZAMINUK_SAID]);
 void zaminuk_body_period(const uint8_t *body, size_t n, uint64_t said[ZAMINUK_SAID]);
 void zaminuk_body_list(const uint8_t *body, size_t n, size_t k, uint64_t *out, size_t on, uint64_t said[ZAMINUK_SAID]);
