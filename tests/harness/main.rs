@@ -7,6 +7,7 @@ mod books;
 mod lister;
 mod pairs;
 mod plain;
+mod shelves;
 mod units;
 mod vectors;
 
@@ -14,7 +15,14 @@ fn main() {
     let args: Vec<String> = std::env::args().collect();
     let parts = match args.get(1).map(|s| s.as_str()) {
         Some("--bench") => return bench::all(&args[2..]),
-        Some(dir) => [plain::random(1, 20000), pairs::random(2, 1000), vectors::folder(dir), lister::examples("examples")],
+        Some(dir) => [
+            plain::random(1, 20000),
+            pairs::random(2, 1000),
+            shelves::random(3, 3000),
+            shelves::begun(4, 300),
+            vectors::folder(dir),
+            lister::examples("examples"),
+        ],
         None => {
             eprintln!("usage: harness DIR | harness --bench WALKERS");
             std::process::exit(2);
