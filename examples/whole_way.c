@@ -150,6 +150,32 @@ static void again_in_other_words(field x, field y) {
     shelve(y);
 }
 
+/* Nothing, as NULL with length 0: each call answers. */
+static void nothing(field x) {
+    zaminuk_period period;
+    zaminuk_regulator regulator;
+    uint32_t no = zaminuk_refusal(5, NULL, 0, NULL, 0);
+    printf("of nothing: %u", (unsigned)no);
+    no = zaminuk_series(x.p, x.g, x.gn, x.h, x.hn, NULL, 0, NULL, 0);
+    printf(" %u", (unsigned)no);
+    no = zaminuk_unit(x.p, x.g, x.gn, x.h, x.hn, 1000, NULL, 0, NULL, 0, &period, &regulator);
+    printf(" %u", (unsigned)no);
+    no = zaminuk_transfer(x.p, x.g, x.gn, x.h, x.hn, x.g, x.gn, x.h, x.hn, NULL, 0);
+    printf(" %u bodies %u\n", (unsigned)no, (unsigned)zaminuk_book_bodies(NULL, 0));
+    zaminuk_book_begin(NULL, 0, said.at);
+    told("  begun");
+    zaminuk_book_check(NULL, 0, said.at);
+    told("  checked");
+    zaminuk_book_add(NULL, 0, 0, NULL, 0, said.at);
+    told("  added");
+    zaminuk_body_prime(NULL, 0, said.at);
+    told("  prime");
+    zaminuk_body_list(body.at, 50, 0, NULL, 0, said.at);
+    told("  list");
+    zaminuk_book_write_rows(x.p, x.g, x.gn, x.h, x.hn, period, NULL, 0, NULL, 0, said.at);
+    told("  body");
+}
+
 int main(void) {
     static const uint64_t a[] = {0, 1, 0, 1}, one[] = {1}, b[] = {4, 0, 0, 1}, c[] = {0, 2, 0, 2};
     const field first = {5, a, 4, one, 1}, second = {5, b, 4, one, 1}, other = {5, one, 1, c, 4};
@@ -174,7 +200,7 @@ int main(void) {
     book.at[length - 1] ^= 1;
     zaminuk_book_check(book.at, length, said.at);
     told("damaged");
-    printf("refused: %u %u\n", (unsigned)zaminuk_refusal(6, a, 4, one, 1), (unsigned)zaminuk_refusal(5, NULL, 0, one, 1));
+    nothing(first);
     printf("edges %s\n", edges(0) ? "untouched" : "WRITTEN");
     return edges(0) ? 0 : 1;
 }

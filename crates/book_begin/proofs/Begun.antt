@@ -44,4 +44,8 @@ module _ (d d' : List ℕ) (r : ℕ) (h : 6 ≤ length d) (q : Written d 0 six 6
   front = subst (λ x. Written d 0 x 6 r d') (sym empty-bytes) q
 
   pub put-begun : BeginSays d d' (0 ∷ 0 ∷ 0 ∷ 0 ∷ r ∷ [])
-  put-begun = record { said = passed r; tells = begun (rw empty-bytes h) (ap passed (sym (front-long front h))) (front-whole front h); written = refl }
+  put-begun = record {
+    said = passed r;
+    tells = begun (rw empty-bytes h) (ap passed (sym (front-long front h))) (front-whole front h);
+    written = refl;
+  }

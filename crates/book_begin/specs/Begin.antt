@@ -3,8 +3,8 @@
 --   BeginTells d x d'  beginning a book in the slice d, which is d' then, says x: 11 when the slice is shorter; else the length, with the
 --                      empty book at the front and the rest of the slice as it was
 --   BeginSays          the same, as the five numbers of the answer
--- In proofs/Once.antt: two outcomes that meet one of them are equal (begin-unique, begin-says-unique); in proofs/Begun.antt: a book begun is
--- accepted and has no bodies (begun-accepted, begun-empty).
+-- In proofs/Once.antt: two outcomes that meet one of them are equal (begin-unique, begin-says-unique), a refusal leaves the slice
+-- as it was (begin-kept); in proofs/Begun.antt: a book begun is accepted and has no bodies (begun-accepted, begun-empty).
 use mathlib.Core.Path.{_≡_}
 use mathlib.Core.List.{List, [], _++_}
 use Prim.Native.Nat.{ℕ, _<_, _≤_}

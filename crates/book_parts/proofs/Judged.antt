@@ -21,7 +21,8 @@ module _ (s : List ℕ) (r : Seen) (t : JudgeTells s 0 r) where
   pub number-bad : {n : ℕ} (why : Reason) → r ≡ Bad why → NumberTells s n (reasonSays why)
   number-bad why e = fault (judge-bad s 0 r why e t)
 
-  pub list-good : {k : ℕ} {d d' : List ℕ} (a : Got) {o : List ℕ} → r ≡ Good → ListTells s k d (gotSays a) d' → o ≡ numbers (gotSays a) → ListSays s k d d' o
+  pub list-good : {k : ℕ} {d d' : List ℕ} (a : Got) {o : List ℕ}
+      → r ≡ Good → ListTells s k d (gotSays a) d' → o ≡ numbers (gotSays a) → ListSays s k d d' o
   list-good a e l w =
       let j = judge-good s 0 r e t in
       record { said = gotSays a; tells = listed (record { formed = j .0; field = j .1 }) l; written = w }

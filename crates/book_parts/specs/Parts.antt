@@ -4,7 +4,7 @@
 --                          no such list; 11 when the slice is shorter; else the length
 --   PrimeSays, PeriodSays, ListSays    the prime, the period and a list, as the five numbers of the answer
 -- In proofs/Once.antt: two outcomes that meet one of them are equal (number-unique, part-unique, prime-says-unique, period-says-unique,
--- list-says-unique).
+-- list-says-unique), and a refusal leaves the slice as it was (part-kept).
 use mathlib.Core.Path.{_≡_}
 use mathlib.Core.List.{List}
 use Prim.Native.Nat.{ℕ}

@@ -62,7 +62,8 @@ same-body p G H t {a} {a'} {b} {b'} {c} {c'} {d} {x} {d'} e f g w =
     subst (λ z. WriteTells (bodyFrom p G H t a' b' z) d x d') g
     (subst (λ z. WriteTells (bodyFrom p G H t a' z c) d x d') f (subst (λ z. WriteTells (bodyFrom p G H t z b c) d x d') e w))
 
-module _ (c : ℕ) (l : List ℕ) (s : Six c l) {n : ℕ} {f : List ℕ} (at to : ℕ) (e : to ≡ at + c) (w : Widened (take (to - at) (drop at l)) zeros n f) where
+module _ (c : ℕ) (l : List ℕ) (s : Six c l) {n : ℕ} {f : List ℕ} (at to : ℕ) (e : to ≡ at + c)
+    (w : Widened (take (to - at) (drop at l)) zeros n f) where
   wide-is : to - at ≡ c
   wide-is = omega arith
 

@@ -2,10 +2,11 @@
 --   Six c l            l has six rows of c numbers, c at most 4,096
 --   rowOf c at l       the row of c numbers from place `at` on, without the zeros at its end
 --   bodyOfRows         the body of p, G, H, the period and the first three of six rows
---   RowsTells p G H t l d x d'   writing it into the slice d, which is d' then, says x: where l is not six such rows, refusals 1 to 8, then 14;
---                      else what writing that body says
+--   RowsTells p G H t l d x d'   writing it into the slice d, which is d' then, says x: where l is not six such rows, refusals 1 to 8, then
+--                      14; else what writing that body says
 --   RowsSays           the same, as the five numbers of the answer
--- In proofs/Once.antt: two outcomes that meet one of them are equal (rows-unique, rows-says-unique).
+-- In proofs/Once.antt: two outcomes that meet one of them are equal (rows-unique, rows-says-unique), and a refusal
+-- leaves the slice as it was (rows-kept).
 use mathlib.Core.Path.{_≡_}
 use mathlib.Core.Logic.{_≢_}
 use mathlib.Core.List.{List}

@@ -1,7 +1,7 @@
 -- What the functions of the C interface tell of a book: document 01's numbers, as five in a row.
 --   CheckSays, WriteSays, AddSays, AttestSays    what the contract of the function behind each allows
--- In proofs/Once.antt: two outcomes that meet one of them are equal. `numbers`, the five in a row, is in book_numbers/specs/Numbers.antt. What
--- asking for an entry tells is in book_place/specs/Place.antt, for a part of a body in book_parts/specs/Parts.antt; beginning a book in
+-- In proofs/Once.antt: two outcomes that meet one of them are equal. `numbers`, the five in a row, is in book_numbers/specs/Numbers.antt.
+-- What asking for an entry tells is in book_place/specs/Place.antt, for a part of a body in book_parts/specs/Parts.antt; beginning a book in
 -- book_begin/specs/Begin.antt; writing a body from rows in book_rows/specs/Rows.antt.
 use mathlib.Core.Path.{_≡_}
 use mathlib.Core.List.{List}

@@ -1,4 +1,5 @@
--- What the functions of the C interface tell: the one answer that the contract of the function behind each allows, in numbers and lent arrays.
+-- What the functions of the C interface tell: the one answer that the contract of the function behind each allows, in numbers and lent
+-- arrays.
 --   Left n a b x         what is lent: without a refusal it holds x afterwards, with one it is as it was
 --   OrderTells           the record of the order, into a lent array
 --   StepTells            the next record in place of the old one, and the degree of the m divided by

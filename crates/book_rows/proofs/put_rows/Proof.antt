@@ -78,7 +78,8 @@ array-share-prefix-e1 c = search needs
 slice-aggregate-write-body-2 : tie.Need-slice-aggregate-write-body-2
 slice-aggregate-write-body-2 c =
     let w = c .before .before .before .before .before .before .before in
-    row-count _ _ (w .before .before .before .before .before .before .before .before .before .before .before .pre) _ _ refl (w .widen2 .ensures)
+    let at = w .before .before .before .before .before .before .before .before .before .before .before in
+    row-count _ _ (at .pre) _ _ refl (w .widen2 .ensures)
 
 array-share-prefix-e2 : tie.Need-array-share-prefix-e2
 array-share-prefix-e2 c = search needs
@@ -86,7 +87,8 @@ array-share-prefix-e2 c = search needs
 slice-aggregate-write-body-3 : tie.Need-slice-aggregate-write-body-3
 slice-aggregate-write-body-3 c =
     let w = c .before .before .before .before in
-    row-count _ _ (w .before .before .before .before .before .before .before .before .before .before .before .before .before .before .before .pre) _ _ refl (w .widen3 .ensures)
+    let at = w .before .before .before .before .before .before .before .before .before .before .before .before .before .before .before in
+    row-count _ _ (at .pre) _ _ refl (w .widen3 .ensures)
 
 write-body-requires : tie.Need-write-body-requires
 write-body-requires c κs = search needs

@@ -18,12 +18,14 @@ cast-t13 c = search needs
 returns : tie.Need-returns
 returns c =
     let s = c .before .before .before .before .before .before .before .before in
-    refused-rows (s .args .rows .now) (c .before .before .before .fits2 .ensures) (not-true _ (c .before .before .if1 .taken)) (c .if2 .taken) (c .before .refusal .ensures)
+    refused-rows (s .args .rows .now) (c .before .before .before .fits2 .ensures) (not-true _ (c .before .before .if1 .taken))
+    (c .if2 .taken) (c .before .refusal .ensures)
 
 returns-2 : tie.Need-returns-2
 returns-2 c =
     let s = c .before .before .before .before .before .before .before .before in
-    unfit-rows (s .args .rows .now) (c .before .before .before .fits2 .ensures) (not-true _ (c .before .before .if1 .taken)) (c .if2 .left) (c .before .refusal .ensures)
+    unfit-rows (s .args .rows .now) (c .before .before .before .fits2 .ensures) (not-true _ (c .before .before .if1 .taken))
+    (c .if2 .left) (c .before .refusal .ensures)
 
 put-rows-requires : tie.Need-put-rows-requires
 put-rows-requires c κs = six-of _ (c .before .before .fits2 .ensures .yes! (not-false _ (c .before .if1 .left)))
