@@ -20,9 +20,11 @@ mod c {
         pub fn zaminuk_book_attest(book: *const u8, n: usize, i: usize, said: *mut u64);
         pub fn zaminuk_book_write(p: u64, g: *const u64, gn: usize, h: *const u64, hn: usize, period: u64, a: *const u64, an: usize, b: *const u64, bn: usize, c: *const u64, cn: usize, out: *mut u8, n: usize, said: *mut u64);
         pub fn zaminuk_book_add(out: *mut u8, n: usize, length: usize, body: *const u8, bn: usize, said: *mut u64);
-        pub fn zaminuk_body_prime(body: *const u8, n: usize) -> u64;
-        pub fn zaminuk_body_period(body: *const u8, n: usize) -> u64;
+        pub fn zaminuk_body_prime(body: *const u8, n: usize, said: *mut u64);
+        pub fn zaminuk_body_period(body: *const u8, n: usize, said: *mut u64);
         pub fn zaminuk_body_list(body: *const u8, n: usize, k: usize, out: *mut u64, on: usize, said: *mut u64);
+        pub fn zaminuk_book_begin(out: *mut u8, n: usize, said: *mut u64);
+        pub fn zaminuk_book_write_rows(p: u64, g: *const u64, gn: usize, h: *const u64, hn: usize, period: u64, rows: *const u16, rn: usize, out: *mut u8, n: usize, said: *mut u64);
     }
 }
 
@@ -130,6 +132,17 @@ impl Field {
     pub fn write(&self, period: u64, e: &[Vec<u64>], out: &mut [u8]) -> Said {
         said(|o| unsafe { c::zaminuk_book_write(self.p, self.g.as_ptr(), self.g.len(), self.h.as_ptr(), self.h.len(), period, e[0].as_ptr(), e[0].len(), e[1].as_ptr(), e[1].len(), e[2].as_ptr(), e[2].len(), out.as_mut_ptr(), out.len(), o) })
     }
+
+    /// Writes a body of this field from the six rows of its unit and the inverse.
+    #[rustfmt::skip]
+    pub fn write_rows(&self, period: u64, rows: &[u16], out: &mut [u8]) -> Said {
+        said(|o| unsafe { c::zaminuk_book_write_rows(self.p, self.g.as_ptr(), self.g.len(), self.h.as_ptr(), self.h.len(), period, rows.as_ptr(), rows.len(), out.as_mut_ptr(), out.len(), o) })
+    }
+}
+
+/// Begins a book, one with no bodies, at the front of a slice; the result is its length.
+pub fn book_begin(out: &mut [u8]) -> Said {
+    said(|o| unsafe { c::zaminuk_book_begin(out.as_mut_ptr(), out.len(), o) })
 }
 
 /// Checks a book.
@@ -159,9 +172,14 @@ pub fn book_add(out: &mut [u8], length: usize, body: &[u8]) -> Said {
     said(|o| unsafe { c::zaminuk_book_add(out.as_mut_ptr(), out.len(), length, body.as_ptr(), body.len(), o) })
 }
 
-/// Prime and period of a body.
-pub fn body_numbers(body: &[u8]) -> (u64, u64) {
-    unsafe { (c::zaminuk_body_prime(body.as_ptr(), body.len()), c::zaminuk_body_period(body.as_ptr(), body.len())) }
+/// The prime of a body: the result.
+pub fn body_prime(body: &[u8]) -> Said {
+    said(|o| unsafe { c::zaminuk_body_prime(body.as_ptr(), body.len(), o) })
+}
+
+/// The period of a body: the result.
+pub fn body_period(body: &[u8]) -> Said {
+    said(|o| unsafe { c::zaminuk_body_period(body.as_ptr(), body.len(), o) })
 }
 
 /// List k of a body, 0 to 4, at the front of a slice; the result is its length.

@@ -47,7 +47,7 @@ fn check_line(book: &[u8], right: &str) -> Verdict {
 
 /// A part reads back: written again from its numbers and lists it is the same bytes.
 fn rewritten(part: &[u8]) -> Verdict {
-    let (p, period) = api::body_numbers(part);
+    let (p, period) = (api::body_prime(part).result, api::body_period(part).result);
     let lists: Vec<Vec<u64>> = (0..5)
         .map(|k| {
             let mut out = vec![7; 5000];

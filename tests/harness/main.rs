@@ -7,6 +7,7 @@ mod books;
 mod lister;
 mod pairs;
 mod plain;
+mod shelves;
 mod units;
 mod vectors;
 
@@ -53,6 +54,8 @@ fn main() {
     jobs.push(Box::new(|| lister::examples("examples")));
     jobs.push(Box::new(|| plain::random(1, 20000)));
     jobs.push(Box::new(|| pairs::random(2, 1000)));
+    jobs.push(Box::new(|| shelves::random(3, 3000)));
+    jobs.push(Box::new(|| shelves::begun(4, 300)));
     let (passed, failed) = side_by_side(jobs);
     println!("{} passed, {} failed", passed, failed);
     if failed > 0 {

@@ -13,7 +13,7 @@ fn monic(p: u64, l: &[u64]) -> Vec<u64> {
 }
 
 /// In which order two accepted pairs agree after all lists are made monic: not exchanged, exchanged, or in none.
-fn order_of(x: &Field, y: &Field) -> Option<bool> {
+pub fn order_of(x: &Field, y: &Field) -> Option<bool> {
     let (g, h, g2, h2) = (monic(x.p, &x.g), monic(x.p, &x.h), monic(x.p, &y.g), monic(x.p, &y.h));
     match ((&g, &h) == (&g2, &h2), (&g, &h) == (&h2, &g2)) {
         (true, _) => Some(false),
@@ -86,7 +86,7 @@ pub fn pair_case(line: &str) -> Verdict {
     ensure(no == 0 || rows == before, || "a refusal writes".into())
 }
 
-fn some_field(n: &mut Numbers) -> Field {
+pub fn some_field(n: &mut Numbers) -> Field {
     loop {
         let p = PRIMES[n.below(12) as usize];
         let (dg, dh) = [(1, 1), (3, 0), (0, 3), (2, 2), (4, 1), (1, 4), (5, 2), (3, 3), (6, 0)][n.below(9) as usize];

@@ -93,7 +93,7 @@ pub fn refusal(p: u64, g: &[u64], h: &[u64]) -> u32 {
     0
 }
 
-fn product(p: u64, a: &[u64], b: &[u64]) -> Vec<u64> {
+pub fn product(p: u64, a: &[u64], b: &[u64]) -> Vec<u64> {
     let mut c = vec![0; a.len() + b.len() - 1];
     for (i, x) in a.iter().enumerate() {
         for (j, y) in b.iter().enumerate() {

@@ -168,14 +168,23 @@ pub unsafe fn zaminuk_book_add(out: *mut u8, n: usize, length: usize, body: *con
     call(15, &mut [given(out, n), count(n), count(length), lent(body, bn), count(bn), given(said, 5)]);
 }
 
-pub unsafe fn zaminuk_body_prime(body: *const u8, n: usize) -> u64 {
-    call(16, &mut [lent(body, n), count(n)])
+pub unsafe fn zaminuk_body_prime(body: *const u8, n: usize, said: *mut u64) {
+    call(16, &mut [lent(body, n), count(n), given(said, 5)]);
 }
 
-pub unsafe fn zaminuk_body_period(body: *const u8, n: usize) -> u64 {
-    call(17, &mut [lent(body, n), count(n)])
+pub unsafe fn zaminuk_body_period(body: *const u8, n: usize, said: *mut u64) {
+    call(17, &mut [lent(body, n), count(n), given(said, 5)]);
 }
 
 pub unsafe fn zaminuk_body_list(body: *const u8, n: usize, k: usize, out: *mut u64, on: usize, said: *mut u64) {
     call(18, &mut [lent(body, n), count(n), count(k), given(out, on), count(on), given(said, 5)]);
+}
+
+pub unsafe fn zaminuk_book_begin(out: *mut u8, n: usize, said: *mut u64) {
+    call(19, &mut [given(out, n), count(n), given(said, 5)]);
+}
+
+#[rustfmt::skip]
+pub unsafe fn zaminuk_book_write_rows(p: u64, g: *const u64, gn: usize, h: *const u64, hn: usize, period: u64, rows: *const u16, rn: usize, out: *mut u8, n: usize, said: *mut u64) {
+    call(20, &mut [Number(p), lent(g, gn), count(gn), lent(h, hn), count(hn), Number(period), lent(rows, rn), count(rn), given(out, n), count(n), given(said, 5)]);
 }

@@ -1,4 +1,5 @@
-/* The library as a process, for machines that cannot link its x86-64 code: remote.rs calls it through standard input and output.
+/* The library as a process, for machines that cannot link its x86-64 code: remote.rs and python/zaminuk.py call it through standard input and
+   output.
 
    A request is a row of 64-bit words: how many words follow, the place of the entry in the table below, how many arguments, and for
    each argument two words: 0 and a number, or 1 and the length of a block of bytes. A block stands right there, and at least one byte
@@ -16,13 +17,15 @@ long write(int to, const void *from, word n);
 typedef word entry(word, word, word, word, word, word, word, word, word, word, word, word, word, word, word, word);
 entry zaminuk_refusal, zaminuk_series, zaminuk_order, zaminuk_check, zaminuk_step, zaminuk_walk, zaminuk_from_order, zaminuk_unit,
     zaminuk_one_field, zaminuk_transfer, zaminuk_book_check, zaminuk_book_bodies, zaminuk_book_ask, zaminuk_book_attest,
-    zaminuk_book_write, zaminuk_book_add, zaminuk_body_prime, zaminuk_body_period, zaminuk_body_list;
+    zaminuk_book_write, zaminuk_book_add, zaminuk_body_prime, zaminuk_body_period, zaminuk_body_list, zaminuk_book_begin,
+    zaminuk_book_write_rows;
 
-/* As in zaminuk.h. */
+/* Places of this table are names: new entries come last. */
 static entry *const entries[] = {
     zaminuk_refusal, zaminuk_series, zaminuk_order, zaminuk_check, zaminuk_step, zaminuk_walk, zaminuk_from_order, zaminuk_unit,
     zaminuk_one_field, zaminuk_transfer, zaminuk_book_check, zaminuk_book_bodies, zaminuk_book_ask, zaminuk_book_attest,
-    zaminuk_book_write, zaminuk_book_add, zaminuk_body_prime, zaminuk_body_period, zaminuk_body_list,
+    zaminuk_book_write, zaminuk_book_add, zaminuk_body_prime, zaminuk_body_period, zaminuk_body_list, zaminuk_book_begin,
+    zaminuk_book_write_rows,
 };
 
 enum { ENTRIES = sizeof entries / sizeof *entries, MOST = 16, ROOM = 1 << 21 };

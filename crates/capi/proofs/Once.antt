@@ -1,13 +1,14 @@
 -- Two outcomes of a function of the C interface that meet its contract are equal: results and lent arrays.
 --   order-tells-unique, step-tells-unique, walk-tells-unique, from-order-tells-unique, unit-tells-unique, one-field-tells-unique
---   check-says-unique, list-says-unique, write-says-unique, add-says-unique, attest-says-unique
--- Of asking for an entry, which only passes on: ask-says-one in book_asked/proofs/Once.antt.
+--   check-says-unique, write-says-unique, add-says-unique, attest-says-unique
+-- Those that only pass on have theirs below: ask-says-unique in book_place/proofs/Once.antt, prime-says-unique, period-says-unique and
+-- list-says-unique in book_parts/proofs/Once.antt, begin-says-unique in book_begin/proofs/Once.antt, rows-says-unique in
+-- book_rows/proofs/Once.antt.
 use mathlib.Core.Path.{_≡_, _∙_, sym, ap, subst}
 use mathlib.Core.List.{List}
 use Prim.Native.Nat.{ℕ, zero, suc}
 use native.Mathlib.Omega.{arith}
 use Rattle.book_body.specs.Body.{Body}
-use Rattle.book_body.proofs.One.{list-unique}
 use Rattle.book_check.proofs.One.{tells-unique}
 use Rattle.book_write.proofs.One.{write-unique}
 use Rattle.book_add.proofs.One.{add-unique}
@@ -25,7 +26,7 @@ use Rattle.door_unit.proofs.Once.{makes-unique}
 use Rattle.door_compare.specs.declared.CompareAnswer.{CompareAnswer}
 use Rattle.door_compare.proofs.Once.{compares-unique}
 use Rattle.capi.specs.Told.{Left, OrderTells, StepTells, WalkTells, FromOrderTells, UnitTells, asNumber, OneFieldTells}
-use Rattle.capi.specs.Books.{CheckSays, ListSays, WriteSays, AddSays, AttestSays}
+use Rattle.capi.specs.Books.{CheckSays, WriteSays, AddSays, AttestSays}
 
 -- ---- what is lent
 left-unique : (n : ℕ) {a b b′ x x′ : List ℕ} → x ≡ x′ → Left n a b x → Left n a b′ x′ → b ≡ b′
@@ -76,9 +77,6 @@ one-field-tells-unique t u =
 -- ---- books
 pub check-says-unique : {s o o′ : List ℕ} → CheckSays s o → CheckSays s o′ → o ≡ o′
 check-says-unique {s} t u = same-numbers (tells-unique s (t .tells) (u .tells)) (t .written) (u .written)
-
-pub list-says-unique : {s : List ℕ} {k : ℕ} {d e e′ o o′ : List ℕ} → ListSays s k d e o → ListSays s k d e′ o′ → (e ≡ e′) × (o ≡ o′)
-list-says-unique t u = let w = list-unique (t .tells) (u .tells) in (w .1, same-numbers (w .0) (t .written) (u .written))
 
 pub write-says-unique : {b : Body} {d e e′ o o′ : List ℕ} → WriteSays b d e o → WriteSays b d e′ o′ → (e ≡ e′) × (o ≡ o′)
 write-says-unique t u = let w = write-unique _ _ (t .tells) (u .tells) in (w .1, same-numbers (w .0) (t .written) (u .written))

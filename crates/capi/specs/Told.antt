@@ -1,4 +1,5 @@
--- What the functions of the C interface tell: the one answer that the contract of the function behind each allows, in numbers and lent arrays.
+-- What the functions of the C interface tell: the one answer that the contract of the function behind each allows, in numbers and lent
+-- arrays.
 --   Left n a b x         what is lent: without a refusal it holds x afterwards, with one it is as it was
 --   OrderTells           the record of the order, into a lent array
 --   StepTells            the next record in place of the old one, and the degree of the m divided by
@@ -6,7 +7,7 @@
 --   FromOrderTells       period and regulator of the walk from the order
 --   UnitTells            the unit and its inverse in the lent slices, period and regulator
 --   OneFieldTells        whether two pairs are of one field, as 1 or 0
--- In proofs/Once.antt: two outcomes that meet one of them are equal. `Puts`, what a walk puts in place, is in walk_in_place/specs/Puts.antt.
+-- In proofs/Once.antt: two outcomes that meet one of them are equal. `Puts`, what a walk puts in place, is in capi_walk/specs/Puts.antt.
 use mathlib.Core.Path.{_≡_}
 use mathlib.Core.Logic.{_≢_}
 use mathlib.Core.Bool.{Bool, true, false}

@@ -5,12 +5,14 @@ ghost use Rattle.field_series.specs.Answer.{Answer};
 ghost use Rattle.door_basis.specs.Answer.{Checks};
 ghost use mathlib.Core.Path.{_≡_};
 ghost use Rattle.book_check.specs.Book.{count};
-ghost use Rattle.book_body.specs.Body.{bodyOf};
 ghost use Rattle.book_write.specs.Write.{bodyFrom};
 ghost use Rattle.book_place.specs.Place.{AskSays};
+ghost use Rattle.book_begin.specs.Begin.{BeginSays};
+ghost use Rattle.book_rows.specs.Rows.{RowsSays};
+ghost use Rattle.book_parts.specs.Parts.{PrimeSays, PeriodSays, ListSays};
 ghost use Rattle.door_transfer.specs.Transfer.{Transfers};
 ghost use Rattle.capi.specs.Told.{OrderTells, StepTells, WalkTells, FromOrderTells, UnitTells, OneFieldTells};
-ghost use Rattle.capi.specs.Books.{CheckSays, ListSays, WriteSays, AddSays, AttestSays};
+ghost use Rattle.capi.specs.Books.{CheckSays, WriteSays, AddSays, AttestSays};
 
 // The number of the first refusal of p, G, H; 0 where the field is accepted.
 #[no_mangle]
@@ -209,21 +211,22 @@ pub extern "C" fn zaminuk_book_attest(book: &[u8], i: usize, said: &mut [u64; 5]
     *said = o;
 }
 
-// The prime of a body.
+// The prime of a body: the result.
 #[no_mangle]
-pub extern "C" fn zaminuk_body_prime(body: &[u8]) -> u64
-    ensures { λ r. ⌜ r ≡ bodyOf (now (body .entry)) .p ⌝ }
+pub extern "C" fn zaminuk_body_prime(body: &[u8], said: &mut [u64; 5])
+    ensures { λ _. ⌜ PrimeSays (now (body .entry)) (now (said .exit)) ⌝ }
 {
-    book_body::prime_of(body)
+    let o = book_parts::prime(body);
+    *said = o;
 }
 
-// The period of a body.
+// The period of a body: the result.
 #[no_mangle]
-pub extern "C" fn zaminuk_body_period(body: &[u8]) -> u64
-    ensures { λ r. ⌜ r ≡ bodyOf (now (body .entry)) .period ⌝ }
+pub extern "C" fn zaminuk_body_period(body: &[u8], said: &mut [u64; 5])
+    ensures { λ _. ⌜ PeriodSays (now (body .entry)) (now (said .exit)) ⌝ }
 {
-    let t = book_body::period_of(body);
-    t.0
+    let o = book_parts::period(body);
+    *said = o;
 }
 
 // List k of a body, 0 to 4 for G, H, E0, E1, E2, into the front of a lent slice; the result is its length.
@@ -231,8 +234,16 @@ pub extern "C" fn zaminuk_body_period(body: &[u8]) -> u64
 pub extern "C" fn zaminuk_body_list(body: &[u8], k: usize, out: &mut [u64], said: &mut [u64; 5])
     ensures { λ _. ⌜ ListSays (now (body .entry)) k (now (out .entry)) (now (out .exit)) (now (said .exit)) ⌝ }
 {
-    let a = book_body::list_of(body, k, out);
-    let o = book_numbers::got_row(a);
+    let o = book_parts::list(body, k, out);
+    *said = o;
+}
+
+// Begins a book, one with no bodies, at the front of a lent slice; the result is its length.
+#[no_mangle]
+pub extern "C" fn zaminuk_book_begin(out: &mut [u8], said: &mut [u64; 5])
+    ensures { λ _. ⌜ BeginSays (now (out .entry)) (now (out .exit)) (now (said .exit)) ⌝ }
+{
+    let o = book_begin::begin(out);
     *said = o;
 }
 
@@ -253,6 +264,23 @@ pub extern "C" fn zaminuk_book_write(
 {
     let w = book_write::write_body(p, g, h, base_answers::Period(period), a, b, c, out);
     let o = book_numbers::wrote_row(w);
+    *said = o;
+}
+
+// Writes a body from the six rows of a unit and its inverse into a lent slice; the result is its length.
+#[no_mangle]
+pub extern "C" fn zaminuk_book_write_rows(
+    p: u64,
+    g: &[u64],
+    h: &[u64],
+    period: u64,
+    rows: &[u16],
+    out: &mut [u8],
+    said: &mut [u64; 5],
+)
+    ensures { λ _. ⌜ RowsSays p (now (g .entry)) (now (h .entry)) period (now (rows .entry)) (now (out .entry)) (now (out .exit)) (now (said .exit)) ⌝ }
+{
+    let o = book_rows::write_rows(p, g, h, base_answers::Period(period), rows, out);
     *said = o;
 }
 

@@ -1,0 +1,45 @@
+-- Two outcomes of writing a body from rows that meet the contract are equal: what is said, the slice, and the five numbers (rows-unique,
+-- rows-says-unique). A refusal leaves the slice as it was (rows-kept).
+use mathlib.Core.Path.{_≡_, _∙_, sym, ap, subst}
+use mathlib.Core.Logic.{_≢_}
+use mathlib.Core.List.{List}
+use Prim.Native.Nat.{ℕ}
+use native.Mathlib.Omega.{arith}
+use Rattle.base_answers.specs.Said.{Said, refused}
+use Rattle.book_body.specs.Body.{Body}
+use Rattle.field_open.proofs.Stages.{refusal-unique}
+use Rattle.book_write.specs.Write.{WriteTells}
+use Rattle.book_write.specs.Write as write
+use Rattle.book_write.proofs.One.{write-unique}
+use Rattle.book_numbers.proofs.Same.{same-numbers}
+use Rattle.book_rows.specs.Rows.{Six, bodyOfRows, RowsTells, field, unfit, body, RowsSays}
+
+six-unique : {c k : ℕ} {l : List ℕ} → Six c l → Six k l → k ≡ c
+six-unique t u = let a = t .whole in let b = u .whole in omega arith
+
+write-kept : {b : Body} {d e : List ℕ} {x : Said} → WriteTells b d x e → x .number ≢ 0 → e ≡ d
+write-kept (write.field n h s p q) f = q
+write-kept (write.rule s r p q) f = q
+write-kept (write.short s r l p q) f = q
+write-kept (write.done s r l p q) f = absurd (f (ap (λ (z : Said). z .number) p))
+
+module _ {p : ℕ} {G H : List ℕ} {t : ℕ} {l d : List ℕ} where
+  pub rows-unique : {x y : Said} {e f : List ℕ} → RowsTells p G H t l d x e → RowsTells p G H t l d y f → (x ≡ y) × (e ≡ f)
+  rows-unique (field s n h o a b) (field r m k u v w) = (a ∙ ap refused (refusal-unique p G H n m o u) ∙ sym v, b ∙ sym w)
+  rows-unique (field s n h o a b) (unfit r u v w) = absurd (h (refusal-unique p G H n 0 o u))
+  rows-unique (field s n h o a b) (body c r u) = absurd (s c r)
+  rows-unique (unfit s o a b) (field r m k u v w) = absurd (k (refusal-unique p G H m 0 u o))
+  rows-unique (unfit s o a b) (unfit r u v w) = (a ∙ sym v, b ∙ sym w)
+  rows-unique (unfit s o a b) (body c r u) = absurd (s c r)
+  rows-unique (body c s o) (field r m k u v w) = absurd (r c s)
+  rows-unique (body c s o) (unfit r u v w) = absurd (r c s)
+  rows-unique {y = y} {f = f} (body c s o) (body k r u) =
+      write-unique (bodyOfRows p G H t c l) d o (subst (λ z. WriteTells (bodyOfRows p G H t z l) d y f) (six-unique s r) u)
+
+  pub rows-kept : {x : Said} {e : List ℕ} → RowsTells p G H t l d x e → x .number ≢ 0 → e ≡ d
+  rows-kept (field s n h o a b) f = b
+  rows-kept (unfit s o a b) f = b
+  rows-kept (body c s o) f = write-kept o f
+
+  pub rows-says-unique : {e e′ o o′ : List ℕ} → RowsSays p G H t l d e o → RowsSays p G H t l d e′ o′ → (e ≡ e′) × (o ≡ o′)
+  rows-says-unique q u = let w = rows-unique (q .tells) (u .tells) in (w .1, same-numbers (w .0) (q .written) (u .written))

@@ -1,0 +1,452 @@
+"""Units of purely cubic function fields: the proved library from Python.
+
+A field is p, G, H: a prime and two lists of coefficients, lowest power first. What the library refuses raises Refused, with the number.
+
+>>> x = Field(5, [0, 1, 0, 1], [1])             # the cube root of t^3 + t over 5
+>>> x.period_and_regulator()
+(2, 2)
+>>> u = x.unit()
+>>> u.E
+([4, 0, 1, 0, 1], [0, 4, 0, 1], [2, 0, 1])
+>>> Field(6, [0, 1, 0, 1], [1])
+Traceback (most recent call last):
+    ...
+zaminuk.Refused: 1: p < 5, p > 65,535 or p not prime
+
+A book of units is bytes:
+
+>>> book = Book.begin().add(Body.of(x, u)).add(Body.of(Field(5, [4, 0, 0, 1], [1])))
+>>> len(book), book.bodies(), book.attest(0), book.body(1).period()
+(110, 2, True, 1)
+
+On x86-64 the shared library libzaminuk.so is loaded: the one that ZAMINUK_LIBRARY names, or one in the folder above this file's, or one that
+the system finds. Where ZAMINUK_SERVER is set, to a command, that process has the library instead (tests/harness/serve.c).
+"""
+import ctypes
+import ctypes.util
+import os
+import shlex
+import struct
+import subprocess
+from collections import namedtuple
+
+__all__ = ["Refused", "Field", "Walk", "Unit", "Book", "Body", "refusal"]
+
+REFUSALS = {
+    1: "p < 5, p > 65,535 or p not prime",
+    2: "p mod 3 = 1",
+    3: "G, then H: empty, over 13 long, a coefficient not below p, last one 0",
+    4: "G and H both constant",
+    5: "deg G + deg H > 16",
+    6: "deg G - deg H not a multiple of 3",
+    7: "G or H has a square factor",
+    8: "G and H share a factor",
+    9: "rows are not the scaled reduced basis of a reduced ideal of this field",
+    10: "no closing within the budget",
+    11: "too little room",
+    13: "book or body malformed",
+    14: "lent lengths or budget out of their rule, no such entry or list, or pairs that are not of one field",
+    15: "field already in the book",
+}
+REASONS = {1: "mark", 2: "contents", 3: "body rule", 4: "field refused", 5: "twice"}
+
+RECORD = 119
+BUDGET = 1000000
+LONGEST = 4096
+BOOK = 65536
+
+
+class Refused(Exception):
+    """A refusal: its number, and with 13 the reason, the entry and the other number; with 10 of a walk `reached`, a Walk.
+
+    >>> try:
+    ...     Book(b"PCF1").check()
+    ... except Refused as e:
+    ...     e.number, e.reason, e.entry, str(e)
+    (13, 1, 0, '13: book or body malformed: mark')
+    """
+
+    def __init__(self, number, reason=0, entry=0, other=0, reached=None):
+        self.number, self.reason, self.entry, self.other, self.reached = number, reason, entry, other, reached
+        text = "%d: %s" % (number, REFUSALS.get(number, "refused"))
+        if number == 13:
+            text += ": " + REASONS[reason]
+            if reason >= 3:
+                text += ", entry %d" % entry
+            if reason == 4:
+                text += ", refusal %d" % other
+            if reason == 5:
+                text += ", earlier entry %d" % other
+        super().__init__(text)
+
+
+# ---- the library: `call(name, *arguments)`. An argument is a number, bytes that are only read, or a bytearray that may be written.
+
+# As in serve.c, whose table has the same order.
+ENTRIES = (
+    "refusal series order check step walk from_order unit one_field transfer book_check book_bodies book_ask book_attest book_write "
+    "book_add body_prime body_period body_list book_begin book_write_rows"
+).split()
+
+
+class Loaded:
+    """The shared library in this process."""
+
+    def __init__(self, path):
+        self.library = ctypes.CDLL(path)
+
+    def call(self, name, *arguments):
+        passed, blocks = [], []
+        for a in arguments:
+            if isinstance(a, int):
+                passed.append(ctypes.c_uint64(a))
+            else:  # aligned for every type, and never at NULL
+                block = (ctypes.c_uint64 * (len(a) // 8 + 1))()
+                ctypes.memmove(block, bytes(a), len(a))
+                passed.append(ctypes.byref(block))
+                blocks.append((a, block))
+        entry = getattr(self.library, "zaminuk_" + name)
+        entry.restype = ctypes.c_uint64
+        result = entry(*passed)
+        for a, block in blocks:
+            if isinstance(a, bytearray):
+                a[:] = bytes(block)[: len(a)]
+        return result
+
+
+class Served:
+    """The library in a process of its own, called through pipes; serve.c says what requests and answers are."""
+
+    def __init__(self, command):
+        self.process = subprocess.Popen(shlex.split(command), stdin=subprocess.PIPE, stdout=subprocess.PIPE)
+
+    def call(self, name, *arguments):
+        words = struct.pack("<QQ", ENTRIES.index(name), len(arguments))
+        places = []
+        for a in arguments:
+            if isinstance(a, int):
+                words += struct.pack("<QQ", 0, a)
+            else:
+                words += struct.pack("<QQ", 1, len(a))
+                places.append((a, len(words)))
+                words += bytes(a) + b"\xa5" * (8 - len(a) % 8)
+        self.process.stdin.write(struct.pack("<Q", len(words) // 8) + words)
+        self.process.stdin.flush()
+        answer = self.process.stdout.read(len(words))
+        if len(answer) < len(words):
+            raise OSError("the process that has the library gave no whole answer")
+        for a, at in places:
+            if isinstance(a, bytearray):
+                a[:] = answer[at : at + len(a)]
+        return struct.unpack("<Q", answer[:8])[0]
+
+
+_library = None
+
+
+def _call(name, *arguments):
+    global _library
+    if _library is None:
+        if os.environ.get("ZAMINUK_SERVER"):
+            _library = Served(os.environ["ZAMINUK_SERVER"])
+        else:
+            beside = os.path.join(os.path.dirname(os.path.abspath(__file__)), "..", "libzaminuk.so")
+            path = os.environ.get("ZAMINUK_LIBRARY") or (beside if os.path.exists(beside) else ctypes.util.find_library("zaminuk"))
+            if not path:
+                raise OSError("libzaminuk.so is not found: name it in ZAMINUK_LIBRARY")
+            _library = Loaded(path)
+    return _library.call(name, *arguments)
+
+
+# ---- numbers and blocks
+
+def _longs(numbers):
+    return struct.pack("<%dQ" % len(numbers), *numbers)
+
+
+def _shorts(numbers):
+    return struct.pack("<%dH" % len(numbers), *numbers)
+
+
+def _numbers(block, form):
+    return [n for (n,) in struct.iter_unpack("<" + form, bytes(block))]
+
+
+def _trim(row):
+    while row and row[-1] == 0:
+        row.pop()
+    return row
+
+
+def _answer(number):
+    number &= 0xFFFFFFFF
+    if number:
+        raise Refused(number)
+
+
+def _said(name, *arguments):
+    """Calls a function of a book; its result."""
+    block = bytearray(40)
+    _call(name, *arguments, block)
+    number, reason, entry, other, result = _numbers(block, "Q")
+    if number:
+        raise Refused(number, reason, entry, other)
+    return result
+
+
+# ---- fields
+
+class Walk(namedtuple("Walk", "rows steps sum")):
+    """A walk: the rows of its last basis, the steps taken, and the sum of their degrees."""
+
+
+class Unit(namedtuple("Unit", "period regulator E F")):
+    """The fundamental unit E = (E0, E1, E2) and its inverse F = (F0, F1, F2), lists of coefficients without zeros at their end."""
+
+
+def _pair(G, H):
+    g, h = _longs(G), _longs(H)
+    return (g, len(G), h, len(H))
+
+
+def refusal(p, G, H):
+    """The number of the first refusal of the field p, G, H; 0 where it is accepted.
+
+    >>> refusal(5, [0, 1, 0, 1], [1]), refusal(7, [0, 1, 0, 1], [1])
+    (0, 2)
+    """
+    return _call("refusal", p, *_pair(G, H)) & 0xFFFFFFFF
+
+
+class Field:
+    """An accepted field: the cube root of G H^2 over the integers mod p. Refusals 1 to 8 are raised here."""
+
+    def __init__(self, p, G, H):
+        self.p, self.G, self.H = p, list(G), list(H)
+        _answer(refusal(p, self.G, self.H))
+
+    def __repr__(self):
+        return "Field(%d, %r, %r)" % (self.p, self.G, self.H)
+
+    def _field(self):
+        return (self.p,) + _pair(self.G, self.H)
+
+    def series(self, n):
+        """The first n coefficients of r and w, highest power first.
+
+        >>> Field(5, [0, 1, 0, 1], [1]).series(8)
+        ([1, 0, 2, 0, 1, 0, 0, 0], [1, 0, 4, 0, 1, 0, 4, 0])
+        """
+        r, w = bytearray(2 * n), bytearray(2 * n)
+        _answer(_call("series", *self._field(), r, n, w, n))
+        return _numbers(r, "H"), _numbers(w, "H")
+
+    def order(self):
+        """The basis of the order: 119 numbers, the rows M0, M1, M2, N0, N1, N2, U of 17 each.
+
+        >>> [i for i, c in enumerate(Field(5, [4, 0, 0, 1], [1]).order()) if c]
+        [2, 18, 34, 52, 68, 102]
+        """
+        rows = bytearray(2 * RECORD)
+        _answer(_call("order", *self._field(), rows))
+        return _numbers(rows, "H")
+
+    def check(self, rows):
+        """Raises refusal 9 where the 119 numbers are not the scaled reduced basis of a reduced ideal.
+
+        >>> x = Field(5, [4, 0, 0, 1], [1])
+        >>> x.check(x.order())
+        >>> x.check([0] * 119)
+        Traceback (most recent call last):
+            ...
+        zaminuk.Refused: 9: rows are not the scaled reduced basis of a reduced ideal of this field
+        """
+        _answer(_call("check", *self._field(), self._record(rows)))
+
+    def _record(self, rows):
+        if len(rows) != RECORD:
+            raise ValueError("a basis is %d numbers" % RECORD)
+        return bytearray(_shorts(rows))
+
+    def step(self, rows):
+        """The next basis, and the degree of the m divided by.
+
+        >>> x = Field(5, [0, 1, 0, 1], [1])
+        >>> rows, degree = x.step(x.order())
+        >>> degree, x.step(rows)[1]
+        (3, 1)
+        """
+        block, degree = self._record(rows), bytearray(8)
+        _answer(_call("step", *self._field(), block, degree))
+        return _numbers(block, "H"), _numbers(degree, "Q")[0]
+
+    def walk(self, rows, budget=BUDGET):
+        """A walk from a basis until it comes back: a Walk. Where the budget is spent, refusal 10 has `reached`.
+
+        >>> x = Field(5, [0, 1, 0, 1], [1])
+        >>> x.walk(x.order())[1:]
+        (2, 4)
+        >>> try:
+        ...     x.walk(x.order(), 1)
+        ... except Refused as e:
+        ...     e.number, e.reached.rows == x.step(x.order())[0], e.reached[1:]
+        (10, True, (1, 3))
+        """
+        block, steps, total = self._record(rows), bytearray(8), bytearray(8)
+        number = _call("walk", *self._field(), budget, block, steps, total) & 0xFFFFFFFF
+        walk = Walk(_numbers(block, "H"), _numbers(steps, "Q")[0], _numbers(total, "Q")[0])
+        if number:
+            raise Refused(number, reached=walk if number == 10 else None)
+        return walk
+
+    def period_and_regulator(self, budget=BUDGET):
+        """Period and regulator, by at most `budget` steps from the order."""
+        period, regulator = bytearray(8), bytearray(8)
+        _answer(_call("from_order", *self._field(), budget, period, regulator))
+        return _numbers(period, "Q")[0], _numbers(regulator, "Q")[0]
+
+    def unit(self, budget=BUDGET):
+        """The fundamental unit and its inverse: a Unit. A walk for its degree comes first, so there is room; 11 where 4,096 is too little.
+
+        >>> Field(5, [4, 0, 0, 1], [1]).unit()
+        Unit(period=1, regulator=1, E=([0, 0, 1], [0, 1], [1]), F=([0, 1], [4], []))
+        """
+        c = min(2 * self.period_and_regulator(budget)[1] + 1, LONGEST)
+        rows, scratch, period, regulator = bytearray(12 * c), bytearray(12 * c), bytearray(8), bytearray(8)
+        _answer(_call("unit", *self._field(), budget, rows, 6 * c, scratch, 6 * c, period, regulator))
+        return self._unit(_numbers(period, "Q")[0], _numbers(regulator, "Q")[0], rows, c)
+
+    @staticmethod
+    def _unit(period, regulator, rows, c):
+        all = _numbers(rows, "H")
+        lists = [_trim(all[k * c : (k + 1) * c]) for k in range(6)]
+        return Unit(period, regulator, tuple(lists[:3]), tuple(lists[3:]))
+
+    def same(self, G, H):
+        """Whether p, G, H is the same field: the pairs agree after all lists are made monic, in either order.
+
+        >>> x = Field(5, [0, 1, 0, 1], [1])
+        >>> x.same([1], [0, 2, 0, 2]), x.same([1], [4, 0, 0, 1])
+        (True, False)
+        """
+        told = bytearray(8)
+        _answer(_call("one_field", *self._field(), *_pair(G, H), told))
+        return _numbers(told, "Q") == [1]
+
+    def transfer(self, unit, G, H):
+        """The unit for another pair of the same field.
+
+        >>> x = Field(5, [0, 1, 0, 1], [1])
+        >>> x.transfer(x.unit(), [1], [0, 2, 0, 2]) == Field(5, [1], [0, 2, 0, 2]).unit()
+        True
+        """
+        c = 2 * unit.regulator + 1
+        rows = bytearray(b"".join(_shorts(l + [0] * (c - len(l))) for l in unit.E + unit.F))
+        _answer(_call("transfer", *self._field(), *_pair(G, H), rows, 6 * c))
+        return self._unit(unit.period, unit.regulator, rows, c)
+
+
+# ---- books
+
+class Body(bytes):
+    """The bytes of one field with its unit. Its parts are read after a check: 13 where it is not formed or its field is refused.
+
+    >>> b = Body.of(Field(5, [0, 1, 0, 1], [1]))
+    >>> len(b), b.prime(), b.period(), b.lists()
+    (50, 5, 2, ([0, 1, 0, 1], [1], [4, 0, 1, 0, 1], [0, 4, 0, 1], [2, 0, 1]))
+    >>> Body(b[:-1]).prime()
+    Traceback (most recent call last):
+        ...
+    zaminuk.Refused: 13: book or body malformed: body rule, entry 0
+    """
+
+    @classmethod
+    def of(cls, field, unit=None):
+        """The body of a field and its unit, which is made where none is given."""
+        unit = unit or field.unit()
+        return cls.write(field.p, field.G, field.H, unit.period, *unit.E)
+
+    @classmethod
+    def write(cls, p, G, H, period, E0, E1, E2):
+        """The body of these values. Refusals 1 to 8; 13, body rule."""
+        out = bytearray(16 + 2 * (len(G) + len(H) + len(E0) + len(E1) + len(E2)))
+        lists = [a for l in (E0, E1, E2) for a in (_longs(l), len(l))]
+        n = _said("book_write", p, *_pair(G, H), period, *lists, out, len(out))
+        return cls(out[:n])
+
+    def prime(self):
+        return _said("body_prime", bytes(self), len(self))
+
+    def period(self):
+        return _said("body_period", bytes(self), len(self))
+
+    def list(self, k):
+        """List k: 0 to 4 for G, H, E0, E1, E2; 14 for another."""
+        out = bytearray(8 * LONGEST)
+        n = _said("body_list", bytes(self), len(self), k, out, LONGEST)
+        return _numbers(out, "Q")[:n]
+
+    def lists(self):
+        return tuple(self.list(k) for k in range(5))
+
+
+class Book(bytes):
+    """A book of units, PCF1. It does not change: `add` makes a new one.
+
+    >>> book = Book.begin()
+    >>> bytes(book)
+    b'PCF1\\x00\\x00'
+    >>> x = Field(5, [0, 1, 0, 1], [1])
+    >>> book = book.add(Body.of(x))
+    >>> book.check(), book.bodies(), book.body(0) == Body.of(x), book.attest(0)
+    (None, 1, True, True)
+    >>> book.add(Body.of(Field(5, [1], [0, 2, 0, 2])))
+    Traceback (most recent call last):
+        ...
+    zaminuk.Refused: 15: field already in the book
+    >>> book.body(1)
+    Traceback (most recent call last):
+        ...
+    zaminuk.Refused: 14: lent lengths or budget out of their rule, no such entry or list, or pairs that are not of one field
+    """
+
+    @classmethod
+    def begin(cls):
+        """A book with no bodies."""
+        out = bytearray(6)
+        return cls(out[: _said("book_begin", out, len(out))])
+
+    def check(self):
+        """Raises refusal 13 where the book is malformed."""
+        _said("book_check", bytes(self), len(self))
+
+    def bodies(self):
+        """The number of bodies that the contents say; nothing is checked."""
+        return _call("book_bodies", bytes(self), len(self))
+
+    def body(self, i):
+        """Entry i. 13, then 14 where there is none."""
+        start, size = bytearray(8), bytearray(8)
+        _said("book_ask", bytes(self), len(self), i, start, size)
+        at = _numbers(start, "Q")[0]
+        return Body(self[at : at + _numbers(size, "Q")[0]])
+
+    def attest(self, i):
+        """Whether entry i's E has a non-zero constant norm."""
+        return _said("book_attest", bytes(self), len(self), i) == 1
+
+    def add(self, body):
+        """The book with a body more. 13 for the book, then for the body; 15; 11 where it is over 65,536 bytes then."""
+        out = bytearray(bytes(self) + bytes(8 + len(body)))
+        return Book(out[: _said("book_add", out, len(out), len(self), bytes(body), len(body))])
+
+
+if __name__ == "__main__":
+    import doctest
+    import sys
+
+    import zaminuk
+
+    outcome = doctest.testmod(zaminuk)
+    print("python: %d examples, %d failed" % (outcome.attempted, outcome.failed))
+    sys.exit(1 if outcome.failed else 0)
