@@ -4,6 +4,7 @@
 mod api;
 mod bench;
 mod books;
+mod doors;
 mod lister;
 mod pairs;
 mod plain;
@@ -14,7 +15,7 @@ fn main() {
     let args: Vec<String> = std::env::args().collect();
     let parts = match args.get(1).map(|s| s.as_str()) {
         Some("--bench") => return bench::all(&args[2..]),
-        Some(dir) => [plain::random(1, 20000), pairs::random(2, 1000), vectors::folder(dir), lister::examples("examples")],
+        Some(dir) => [plain::random(1, 20000), pairs::random(2, 1000), vectors::folder(dir), lister::examples("examples"), doors::all()],
         None => {
             eprintln!("usage: harness DIR | harness --bench WALKERS");
             std::process::exit(2);

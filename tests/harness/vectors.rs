@@ -260,6 +260,7 @@ pub fn names(dir: &str) -> Vec<String> {
 /// Every file of a folder.
 pub fn folder(dir: &str) -> (usize, usize) {
     let (mut passed, mut failed) = (0, 0);
+    let mut known = false;
     for name in names(dir) {
         let path = format!("{}/{}", dir, name);
         let kind = name.splitn(2, '-').nth(1).unwrap_or("");
@@ -283,11 +284,16 @@ pub fn folder(dir: &str) -> (usize, usize) {
             k if k.starts_with("lister") && k.ends_with(".out") => (0, 0),
             _ => {
                 println!("{}: not known, skipped", path);
-                (0, 0)
+                continue;
             }
         };
+        known = true;
         passed += a;
         failed += b;
+    }
+    if !known {
+        println!("{}: FAILED: no file here is known", dir);
+        failed += 1;
     }
     (passed, failed)
 }
