@@ -4,6 +4,7 @@
 mod api;
 mod bench;
 mod books;
+mod doors;
 mod lister;
 mod pairs;
 mod plain;
@@ -52,6 +53,7 @@ fn main() {
         std::process::exit(2);
     }
     jobs.push(Box::new(|| lister::examples("examples")));
+    jobs.push(Box::new(doors::all));
     jobs.push(Box::new(|| plain::random(1, 20000)));
     jobs.push(Box::new(|| pairs::random(2, 1000)));
     jobs.push(Box::new(|| shelves::random(3, 3000)));

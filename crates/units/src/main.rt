@@ -1,78 +1,210 @@
 // The unit lister: reads lines p;G;H from standard input and writes an answer to each, as they come.
-ghost use Prim.Native.Nat.{_≤_};
+ghost use mathlib.Core.Path.{_≡_};
+ghost use Rattle.units.specs.Serve.{Plans, Settles, Asks, Wrote, Answers, Heard, Stopped, Turns, Ran};
 ghost use lib.ListN.{length};
-ghost use Rattle.units.specs.Serve.{Serves};
-ghost use Rattle.lister.specs.Listing.{room};
+ghost use Prim.Native.Nat.{_+_, _≤_};
+ghost use Rattle.libc.specs.Io.{Moved};
 use libc::STDIN_FILENO;
 use libc::STDOUT_FILENO;
 use lister::Going;
 
-// Whether to go on, and how many bytes of a line are pending.
-pub struct Standing {
-    pub on: bool,
+// Where the program stands. Of a line n bytes are pending; of the piece that was read, m bytes, those from `at` on are not answered yet;
+// of the answers those from `from` up to `to` are not written yet. The phase is 0 before the input's end is read, 1 from then on, 2 once
+// all is written, 3 once a call failed.
+pub struct Stand {
     pub n: usize,
+    pub at: usize,
+    pub m: usize,
+    pub from: usize,
+    pub to: usize,
+    pub phase: u8,
 }
 
-// Writes the answers to the lines that end in a piece of the input, where n bytes of the first are pending. `out` is written out
-// whenever it has no room left for an answer.
-fn serve(kept: &mut [u8], s: &[u8], out: &mut [u8], n: usize) -> Standing
-    requires { ⌜ room ≤ length (now out) ⌝ }
-    ensures { λ r. ⌜ Serves (now (kept .entry)) n (now (s .entry)) r (now (kept .exit)) ⌝ }
+// What comes next: a part of the answers is handed to a descriptor, lines are answered, a descriptor is read, or nothing is left.
+pub enum Act {
+    Write(i32, usize, usize),
+    Answer,
+    Read(i32),
+    Stop,
+}
+
+fn plan(s: Stand) -> Act
+    ensures { λ r. ⌜ Plans s r ⌝ }
 {
-    let mut g = Going { at: 0, n, to: 0 };
-    while g.at < s.len() {
-        let at = g.at;
-        let m = g.n;
-        let t = lister::pass(kept, s, out, Going { at, n: m, to: 0 });
-        let to = t.to;
-        let ok = io::write_all(STDOUT_FILENO, &out[..to]);
-        if !ok {
-            return Standing { on: false, n: 0 };
-        }
-        g = t;
+    let from = s.from;
+    let to = s.to;
+    if from < to {
+        return Act::Write(STDOUT_FILENO, from, to);
     }
-    Standing { on: true, n: g.n }
+    if s.at < s.m {
+        return Act::Answer;
+    }
+    if s.phase == 0 {
+        return Act::Read(STDIN_FILENO);
+    }
+    Act::Stop
 }
 
-// Reads once, and answers what came.
-fn read_once(kept: &mut [u8], buf: &mut [u8], out: &mut [u8], n: usize) -> Standing
-    requires { ⌜ room ≤ length (now out) ⌝ }
+// Whether a call that failed is to be tried again: it was interrupted, or would have had to wait.
+fn again() -> bool {
+    let why = os::errno();
+    if why == libc::EINTR {
+        return true;
+    }
+    if why == libc::EAGAIN {
+        libc::sched_yield();
+        return true;
+    }
+    false
+}
+
+// The phase after a call that moved so many bytes.
+fn settle(phase: u8, moved: usize) -> u8
+    ensures { λ r. ⌜ Settles moved phase r ⌝ }
 {
-    let got = libc::read(STDIN_FILENO, buf);
+    if moved > 0 {
+        return phase;
+    }
+    if again() {
+        return phase;
+    }
+    3
+}
+
+// After a write of a part of the answers.
+fn wrote(s: Stand, part: &[u8], got: isize) -> Stand
+    requires { ⌜ (Moved (length (now part)) got) × (s .from + length (now part) ≤ s .to) ⌝ }
+    ensures { λ r. ⌜ Wrote s got r ⌝ }
+{
+    let w = io::count(got, part);
+    let from = s.from + w;
+    let phase = settle(s.phase, w);
+    Stand {
+        n: s.n,
+        at: s.at,
+        m: s.m,
+        from,
+        to: s.to,
+        phase,
+    }
+}
+
+// The lines of a piece are answered, as many as there is room for.
+fn answer(kept: &mut [u8], buf: &[u8], out: &mut [u8], s: Stand) -> Stand
+    requires { ⌜ s .m ≤ length (now buf) ⌝ }
+    ensures { λ r. ⌜ Answers (now (kept .entry)) (now (buf .entry)) (now (out .entry)) s r (now (kept .exit)) (now (out .exit)) ⌝ }
+{
+    let n = s.n;
+    let at = s.at;
+    let m = s.m;
+    let g = lister::pass(kept, &buf[..m], out, Going { at, n, to: 0 });
+    Stand {
+        n: g.n,
+        at: g.at,
+        m,
+        from: 0,
+        to: g.to,
+        phase: s.phase,
+    }
+}
+
+// After a read: a piece came, or the input's end, or nothing.
+fn heard(buf: &[u8], out: &mut [u8], s: Stand, got: isize) -> Stand
+    requires { ⌜ Moved (length (now buf)) got ⌝ }
+    ensures { λ r. ⌜ Heard (now (out .entry)) s got r (now (out .exit)) ⌝ }
+{
+    let n = s.n;
+    if got == 0 {
+        let to = lister_print::finish(out, n);
+        return Stand {
+            n: 0,
+            at: 0,
+            m: 0,
+            from: 0,
+            to,
+            phase: 1,
+        };
+    }
     let m = io::count(got, buf);
-    if m == 0 {
-        return Standing { on: false, n };
+    let phase = settle(s.phase, m);
+    Stand {
+        n,
+        at: 0,
+        m,
+        from: 0,
+        to: 0,
+        phase,
     }
-    serve(kept, &buf[..m], out, n)
 }
 
-// Turn after turn to the input's end. A proved loop has to end, so the turns are counted down, from a number that no input uses up.
-fn read_all(kept: &mut [u8], buf: &mut [u8], out: &mut [u8]) -> usize
-    requires { ⌜ room ≤ length (now out) ⌝ }
+// All is written.
+fn stopped(s: Stand) -> Stand
+    ensures { λ r. ⌜ Stopped s r ⌝ }
 {
+    Stand {
+        n: s.n,
+        at: s.at,
+        m: s.m,
+        from: s.from,
+        to: s.to,
+        phase: 2,
+    }
+}
+
+// One turn: what `plan` says is done.
+fn turn(kept: &mut [u8], buf: &mut [u8], out: &mut [u8], s: Stand) -> Stand
+    requires { ⌜ Asks (now buf) (now out) s ⌝ }
+    ensures { λ r. ⌜ Turns (now (kept .entry)) (now (buf .entry)) (now (out .entry)) s r (now (kept .exit)) (now (buf .exit)) (now (out .exit)) ⌝ }
+{
+    let a = plan(s);
+    match a {
+        Act::Write(fd, from, to) => {
+            let part = &out[from..to];
+            let got = libc::write(fd, part);
+            wrote(s, part, got)
+        }
+        Act::Answer => answer(kept, buf, out, s),
+        Act::Read(fd) => {
+            let got = libc::read(fd, buf);
+            heard(buf, out, s, got)
+        }
+        Act::Stop => stopped(s),
+    }
+}
+
+// Turn after turn. A proved loop has to end, so the turns are counted down, from a number that no input uses up.
+fn run(kept: &mut [u8], buf: &mut [u8], out: &mut [u8]) -> Stand
+    requires { ⌜ (length (now kept) ≡ 255) × (20000 ≤ length (now out)) ⌝ }
+    ensures { λ r. ⌜ Ran r ⌝ }
+{
+    let mut s = Stand {
+        n: 0,
+        at: 0,
+        m: 0,
+        from: 0,
+        to: 0,
+        phase: 0,
+    };
     let mut left = u64::MAX;
-    let mut t = Standing { on: true, n: 0 };
-    while t.on && left > 0 {
-        let n = t.n;
-        let q = read_once(kept, buf, out, n);
-        t = q;
+    while s.phase < 2 && left > 0 {
+        let r = turn(kept, buf, out, s);
+        s = r;
         left -= 1;
     }
-    t.n
-}
-
-// The whole input, and a line that its end leaves pending.
-fn run(out: &mut [u8])
-    requires { ⌜ room ≤ length (now out) ⌝ }
-{
-    let mut kept = [0u8; 255];
-    let mut buf = io::large_buffer();
-    let n = read_all(&mut kept, &mut buf, out);
-    let to = lister_print::finish(out, n);
-    io::write_all(STDOUT_FILENO, &out[..to]);
+    s
 }
 
 fn main() {
-    let mut out = io::large_buffer();
-    run(&mut out);
+    let mut kept = [0u8; 255];
+    let mut buf = io::large_buffer();
+    let mut out = [0u8; 20256];
+    let s = run(&mut kept, &mut buf, &mut out);
+    if s.phase == 2 {
+        return;
+    }
+    if s.from < s.to {
+        os::fail(b"units: standard output");
+    } else {
+        os::fail(b"units: standard input");
+    }
 }

@@ -1,53 +1,86 @@
--- `units::run` is safe and ends.
-use mathlib.Core.Path.{sym}
+-- `units::run` meets its contract. The invariant: the turns so far are a run.
+use mathlib.Core.Path.{_≡_, refl, _∙_}
+use mathlib.Core.List.{List, [], _++_}
+use Prim.Native.Nat.{_≤_}
 use native.Mathlib.Omega.{arith}
-use lib.Seq.{length-take-le}
-use Rattle.units.proofs.Hearing.{put-prefix}
+use lib.ListN.{length}
+use Rattle.units.specs.Serve.{Call, Run, begin, more}
+use Rattle.units.proofs.Hearing.{run-asks, ran}
 use borrow.Author.Needs.{needs}
 use Rattle.units.proofs.run.Statement.{statement}
 use Rattle.units.proofs.run.Tie as tie
 
-large-buffer-requires : tie.Need-large-buffer-requires
-large-buffer-requires c κs = search needs
+abbrev Inv-loop : tie.InvT-loop
+Inv-loop kept₀ buf₀ out₀ s₀ left₀ kept buf out s left =
+    (length kept ≡ length kept₀) × (length buf ≡ length buf₀) × (length out ≡ length out₀) × ((cs : List Call) × Run cs kept buf out s)
 
-slice-aggregate-read-all : tie.Need-slice-aggregate-read-all
-slice-aggregate-read-all c = search needs
+abbrev μ-loop : tie.MeasureT-loop
+μ-loop kept₀ buf₀ out₀ s₀ left₀ kept buf out s left = left
 
-slice-aggregate-read-all-2 : tie.Need-slice-aggregate-read-all-2
-slice-aggregate-read-all-2 c = search needs
+loop-holds : tie.Need-loop-holds Inv-loop μ-loop
+loop-holds c = let p = c .before .before .before .pre in (refl, refl, refl, ([], begin _ _ _ (p .0) (p .1)))
 
-read-all-requires : tie.Need-read-all-requires
-read-all-requires c κs = search needs
+turn-requires : tie.Need-turn-requires Inv-loop μ-loop
+turn-requires c κs = run-asks (c .before .before .before .before .before .before .loop .inv .3 .1)
 
-finish-requires : tie.Need-finish-requires
-finish-requires c κs = search needs
+sub-left : tie.Need-sub-left Inv-loop μ-loop
+sub-left c = search needs
 
-slice-reshare-prefix-write-all : tie.Need-slice-reshare-prefix-write-all
-slice-reshare-prefix-write-all c = search needs
+loop-less : tie.Need-loop-less Inv-loop μ-loop
+loop-less c = let h : 1 ≤ (c .before .before .before .before .before .before .before .before .before .before .before .before .before .loop .left) = sub-left c in omega arith
 
-slice-aggregate-write-all : tie.Need-slice-aggregate-write-all
-slice-aggregate-write-all c = sym (length-take-le _ _ (put-prefix (omega arith) (c .before .before .before .finish .ensures)))
+loop-again : tie.Need-loop-again Inv-loop μ-loop
+loop-again c =
+    let at6 = c .before .before .before .before .before .before in
+    let at11 = at6 .before .before .before .before .before in
+    let x = at11 .before .before .loop .inv in
+    let t = at6 .turn .ensures in (
+      (at6 .turn .kept .0) ∙ (x .0),
+      (at6 .turn .kept .1 .0) ∙ (x .1),
+      (at6 .turn .kept .1 .1 .0) ∙ (x .2),
+      (t .calls ++ x .3 .0, more (x .3 .1) (at11 .if1 .taken) (t .turn)),
+    )
 
-write-all-requires : tie.Need-write-all-requires
-write-all-requires c κs = search needs
+same-length : tie.Need-same-length Inv-loop μ-loop
+same-length c = (c .before .before .before .loop .inv .0)
 
-same-length : tie.Need-same-length
-same-length c = search needs
+same-length-2 : tie.Need-same-length-2 Inv-loop μ-loop
+same-length-2 c = (c .before .before .before .loop .inv .1)
 
-returns : tie.Need-returns
-returns c = search needs
+same-length-3 : tie.Need-same-length-3 Inv-loop μ-loop
+same-length-3 c = (c .before .before .before .loop .inv .2)
+
+returns : tie.Need-returns Inv-loop μ-loop
+returns c = ran (c .before .before .before .loop .inv .3 .1)
+
+same-length-4 : tie.Need-same-length-4 Inv-loop μ-loop
+same-length-4 c = (c .before .before .loop .inv .0)
+
+same-length-5 : tie.Need-same-length-5 Inv-loop μ-loop
+same-length-5 c = (c .before .before .loop .inv .1)
+
+same-length-6 : tie.Need-same-length-6 Inv-loop μ-loop
+same-length-6 c = (c .before .before .loop .inv .2)
+
+returns-2 : tie.Need-returns-2 Inv-loop μ-loop
+returns-2 c = ran (c .before .before .loop .inv .3 .1)
 
 pub run-spec : {M : Type 1} → statement M
 run-spec =
     tie.close
     (tie.spec
-    large-buffer-requires
-    slice-aggregate-read-all
-    slice-aggregate-read-all-2
-    read-all-requires
-    finish-requires
-    slice-reshare-prefix-write-all
-    slice-aggregate-write-all
-    write-all-requires
+    Inv-loop
+    μ-loop
+    loop-holds
+    turn-requires
+    sub-left
+    loop-less
+    loop-again
     same-length
-    returns)
+    same-length-2
+    same-length-3
+    returns
+    same-length-4
+    same-length-5
+    same-length-6
+    returns-2)
