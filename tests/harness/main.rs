@@ -53,11 +53,12 @@ fn main() {
         std::process::exit(2);
     }
     jobs.push(Box::new(|| lister::examples("examples")));
-    jobs.push(Box::new(doors::all));
     jobs.push(Box::new(|| plain::random(1, 20000)));
     jobs.push(Box::new(|| pairs::random(2, 1000)));
     jobs.push(Box::new(|| shelves::random(3, 3000)));
     jobs.push(Box::new(|| shelves::begun(4, 300)));
+    // It waits more than it works, so it goes first.
+    jobs.insert(0, Box::new(doors::all));
     let (passed, failed) = side_by_side(jobs);
     println!("{} passed, {} failed", passed, failed);
     if failed > 0 {

@@ -7,9 +7,12 @@ use lib.ListN.{getD}
 use Rattle.base_answers.specs.Said.{Said}
 use Rattle.book_numbers.specs.Numbers.{numbers}
 use Rattle.book_place.proofs.Once.{ask-says-unique}
+use Rattle.book_begin.proofs.Once as begun
+use Rattle.book_parts.proofs.Once as parts
+use Rattle.book_rows.proofs.Once as rowed
 use Rattle.capi.proofs.Once as once
 use Rattle.demands_calls.specs.FromC.{FromC}
-use Rattle.demands_calls.proofs.Kept.{unit-kept, list-kept, write-kept, add-kept}
+use Rattle.demands_calls.proofs.Kept.{unit-kept, write-kept, add-kept}
 
 -- the first of the five numbers is the refusal's
 refused-first : {out : List ℕ} (x : Said) → out ≡ numbers x → getD out 0 0 ≢ 0 → x .number ≢ 0
@@ -21,7 +24,9 @@ from-c = record {
   step-kept = λ t f. t .rows .kept f;
   walk-kept = λ t f g. t .puts .rows .kept f g;
   unit-kept = λ t f. unit-kept (t .m) (t .makes) (λ z. f (t .number ∙ z));
-  list-kept = λ t f. list-kept (t .tells) (refused-first (t .said) (t .written) f);
+  begin-kept = λ t f. begun.begin-kept (t .tells) (refused-first (t .said) (t .written) f);
+  rows-kept = λ t f. rowed.rows-kept _ _ _ _ _ _ (t .tells) (refused-first (t .said) (t .written) f);
+  list-kept = λ t f. parts.part-kept (t .tells) (refused-first (t .said) (t .written) f);
   write-kept = λ t f. write-kept (t .tells) (refused-first (t .said) (t .written) f);
   add-kept = λ t f. add-kept (t .tells) (refused-first (t .said) (t .written) f);
   order-fixed = once.order-tells-unique;
@@ -33,7 +38,11 @@ from-c = record {
   check-book-fixed = once.check-says-unique;
   ask-fixed = ask-says-unique;
   attest-fixed = once.attest-says-unique;
-  list-fixed = once.list-says-unique;
+  begin-fixed = begun.begin-says-unique;
+  prime-fixed = parts.prime-says-unique;
+  period-fixed = parts.period-says-unique;
+  rows-fixed = λ t u. rowed.rows-says-unique _ _ _ _ _ _ t u;
+  list-fixed = parts.list-says-unique;
   write-fixed = once.write-says-unique;
   add-fixed = once.add-says-unique;
 }

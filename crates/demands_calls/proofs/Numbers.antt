@@ -34,6 +34,9 @@ use Rattle.book_body.specs.Code as code
 use Rattle.book_write.specs.Write as written
 use Rattle.book_check.specs.Answer as books
 use Rattle.book_check.proofs.Facts.{body-thirteen, fault-thirteen}
+use Rattle.book_begin.specs.Begin as begun
+use Rattle.book_parts.specs.Parts as parts
+use Rattle.book_rows.specs.Rows as rowed
 use Rattle.book_add.specs.Add as added
 use Rattle.book_attest.specs.Attest as attested
 use Rattle.book_numbers.specs.Numbers.{numbers}
@@ -52,7 +55,7 @@ use Rattle.lister.specs.Listing as listing
 use Rattle.demands_calls.specs.Numbers.{Numbered, Says, refuses, answers, Gives}
 use Rattle.demands_calls.specs.Numbers.{refusal, open-field, series, open-series, order, check, step, walk, from-order, unit, pairs, compare, transfer}
 use Rattle.demands_calls.specs.Numbers.{book, ask, attest, list, write, add, parse, line, end}
-use Rattle.demands_calls.specs.Numbers.{order-c, step-c, walk-c, from-order-c, unit-c, one-field-c, book-c, ask-c, attest-c, list-c, write-c, add-c}
+use Rattle.demands_calls.specs.Numbers.{order-c, step-c, walk-c, from-order-c, unit-c, one-field-c, book-c, ask-c, attest-c, begin-c, prime-c, period-c, list-c, rows-c, write-c, add-c}
 use Rattle.demands_calls.proofs.Kept.{number-of}
 
 -- ---- the book
@@ -91,6 +94,31 @@ write-numbered {b} (written.field n h s e q) = let z = stages.numbered (b .p) (b
 write-numbered (written.rule s r e q) = inr (inr (inl (number-of e)))
 write-numbered (written.short s r l e q) = inr (inl (number-of e))
 write-numbered (written.done s r l e q) = zero-of (number-of e)
+
+begin-numbered : {d d′ : List ℕ} {x : Said} → begun.BeginTells d x d′ → Numbered 0 (11 ∷ []) (x .number)
+begin-numbered (begun.short h e q) = inr (inl (number-of e))
+begin-numbered (begun.begun h e q) = zero-of (number-of e)
+
+number-numbered : {s : List ℕ} {n : ℕ} {x : Said} → parts.NumberTells s n x → Numbered 0 (13 ∷ []) (x .number)
+number-numbered (parts.fault f) = inr (inl (body-thirteen f))
+number-numbered (parts.told f e) = zero-of (number-of e)
+
+part-numbered : {k : ℕ} {s d d′ : List ℕ} {x : Said} → parts.PartTells s k d x d′ → Numbered 0 (11 ∷ 13 ∷ 14 ∷ []) (x .number)
+part-numbered (parts.faulty f q) = inr (inr (inl (body-thirteen f)))
+part-numbered (parts.listed f (code.read h l e q)) = zero-of (number-of e)
+part-numbered (parts.listed f (code.none h e q)) = inr (inr (inr (inl (number-of e))))
+part-numbered (parts.listed f (code.short h l e q)) = inr (inl (number-of e))
+
+-- what writing a body gives, and 14
+with-fourteen : {n : ℕ} → Numbered 8 (11 ∷ 13 ∷ []) n → Numbered 8 (11 ∷ 13 ∷ 14 ∷ []) n
+with-fourteen (inl h) = inl h
+with-fourteen (inr (inl e)) = inr (inl e)
+with-fourteen (inr (inr (inl e))) = inr (inr (inl e))
+
+rows-numbered : {p t : ℕ} {G H l d d′ : List ℕ} {x : Said} → rowed.RowsTells p G H t l d x d′ → Numbered 8 (11 ∷ 13 ∷ 14 ∷ []) (x .number)
+rows-numbered {p} {t} {G} {H} (rowed.field f n h r e q) = let z = stages.numbered p G H n r in inl (omega (arith, number-of e))
+rows-numbered (rowed.unfit f r e q) = inr (inr (inr (inl (number-of e))))
+rows-numbered (rowed.body c s w) = with-fourteen (write-numbered w)
 
 add-numbered : {n : ℕ} {d b d′ : List ℕ} {x : Said} → added.AddTells d n b x d′ → Numbered 0 (11 ∷ 13 ∷ 14 ∷ 15 ∷ []) (x .number)
 add-numbered (added.length-out l e q) = inr (inr (inr (inl (number-of e))))
@@ -283,6 +311,10 @@ numbered (one-field-c t) = subst (Numbered 8 []) (sym (t .number)) (compare-numb
 numbered (book-c t) = subst (Numbered 0 (13 ∷ [])) (sym (first-is (t .written))) (book-numbered (book-cases (t .tells)))
 numbered (ask-c t) = subst (Numbered 0 (13 ∷ 14 ∷ [])) (sym (first-is (t .written))) (ask-numbered (t .tells))
 numbered (attest-c t) = subst (Numbered 0 (13 ∷ 14 ∷ [])) (sym (first-is (t .written))) (attest-numbered (t .tells))
-numbered (list-c t) = subst (Numbered 0 (11 ∷ 14 ∷ [])) (sym (first-is (t .written))) (list-numbered (t .tells))
+numbered (begin-c t) = subst (Numbered 0 (11 ∷ [])) (sym (first-is (t .written))) (begin-numbered (t .tells))
+numbered (prime-c t) = subst (Numbered 0 (13 ∷ [])) (sym (first-is (t .written))) (number-numbered (t .tells))
+numbered (period-c t) = subst (Numbered 0 (13 ∷ [])) (sym (first-is (t .written))) (number-numbered (t .tells))
+numbered (list-c t) = subst (Numbered 0 (11 ∷ 13 ∷ 14 ∷ [])) (sym (first-is (t .written))) (part-numbered (t .tells))
+numbered (rows-c t) = subst (Numbered 8 (11 ∷ 13 ∷ 14 ∷ [])) (sym (first-is (t .written))) (rows-numbered (t .tells))
 numbered (write-c t) = subst (Numbered 8 (11 ∷ 13 ∷ [])) (sym (first-is (t .written))) (write-numbered (t .tells))
 numbered (add-c t) = subst (Numbered 0 (11 ∷ 13 ∷ 14 ∷ 15 ∷ [])) (sym (first-is (t .written))) (add-numbered (t .tells))

@@ -3,8 +3,7 @@
 --   FromC   a field `..-kept` says that a refusal leaves what is lent as it was, `..-fixed` that two outcomes of one call are equal
 -- How to read it: n is the number that a function returns. The functions of the book return nothing and put five numbers into a lent row
 -- `out`, of which the first is the refusal's. zaminuk_refusal, zaminuk_series, zaminuk_check and zaminuk_transfer have the contracts of
--- the functions behind them, so that the fields of `Demand1` are theirs; zaminuk_book_bodies, zaminuk_body_prime and zaminuk_body_period
--- have an equation for a contract.
+-- the functions behind them, so that the fields of `Demand1` are theirs; zaminuk_book_bodies has an equation for a contract.
 -- The theorem `from-c` is in proofs/FromC.antt.
 use mathlib.Core.Path.{_≡_}
 use mathlib.Core.Logic.{_≢_}
@@ -14,7 +13,10 @@ use lib.ListN.{getD}
 use Rattle.book_body.specs.Body.{Body}
 use Rattle.book_place.specs.Place.{AskSays}
 use Rattle.capi.specs.Told.{OrderTells, StepTells, WalkTells, FromOrderTells, UnitTells, OneFieldTells}
-use Rattle.capi.specs.Books.{CheckSays, ListSays, WriteSays, AddSays, AttestSays}
+use Rattle.book_begin.specs.Begin.{BeginSays}
+use Rattle.book_parts.specs.Parts.{PrimeSays, PeriodSays, ListSays}
+use Rattle.book_rows.specs.Rows.{RowsSays}
+use Rattle.capi.specs.Books.{CheckSays, WriteSays, AddSays, AttestSays}
 
 pub record FromC : Type 0 where
   -- "A refusal writes nothing to a lent buffer"; a walk refused with 10 is the exception that document 01 names
@@ -25,6 +27,8 @@ pub record FromC : Type 0 where
       {p k n l r : ℕ} {G H a b c d : List ℕ} →
       UnitTells p G H k a b n l r c d → n ≢ 0 →
       (c ≡ a) × (d ≡ b)
+  pub begin-kept : {d e out : List ℕ} → BeginSays d e out → getD out 0 0 ≢ 0 → e ≡ d
+  pub rows-kept : {p t : ℕ} {G H l d e out : List ℕ} → RowsSays p G H t l d e out → getD out 0 0 ≢ 0 → e ≡ d
   pub list-kept : {s : List ℕ} {k : ℕ} {d e out : List ℕ} → ListSays s k d e out → getD out 0 0 ≢ 0 → e ≡ d
   pub write-kept : {b : Body} {d e out : List ℕ} → WriteSays b d e out → getD out 0 0 ≢ 0 → e ≡ d
   pub add-kept : {d : List ℕ} {n : ℕ} {b e out : List ℕ} → AddSays d n b e out → getD out 0 0 ≢ 0 → e ≡ d
@@ -59,6 +63,13 @@ pub record FromC : Type 0 where
       AskSays s i a l o → AskSays s i a′ l′ o′ →
       (a ≡ a′) × (l ≡ l′) × (o ≡ o′)
   pub attest-fixed : {s : List ℕ} {i : ℕ} {o o′ : List ℕ} → AttestSays s i o → AttestSays s i o′ → o ≡ o′
+  pub begin-fixed : {d e e′ o o′ : List ℕ} → BeginSays d e o → BeginSays d e′ o′ → (e ≡ e′) × (o ≡ o′)
+  pub prime-fixed : {s o o′ : List ℕ} → PrimeSays s o → PrimeSays s o′ → o ≡ o′
+  pub period-fixed : {s o o′ : List ℕ} → PeriodSays s o → PeriodSays s o′ → o ≡ o′
+  pub rows-fixed :
+      {p t : ℕ} {G H l d e e′ o o′ : List ℕ} →
+      RowsSays p G H t l d e o → RowsSays p G H t l d e′ o′ →
+      (e ≡ e′) × (o ≡ o′)
   pub list-fixed :
       {s : List ℕ} {k : ℕ} {d e e′ o o′ : List ℕ} →
       ListSays s k d e o → ListSays s k d e′ o′ →

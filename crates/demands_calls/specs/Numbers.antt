@@ -14,8 +14,10 @@
 --   door_walk::from_order                   0 to 8, 10, 14      text_read::parse                    0, 12
 --   door_unit::unit                         0 to 8, 10, 11, 14  lister::answer                      0 to 8, 10, 11, 12
 --   door_compare::refusal, compare          0 to 8              lister_print::finish                0, 12
---   door_transfer::transfer                 0 to 8, 14
--- The functions for C and Rust (crate capi) give the numbers of the functions behind them.
+--   door_transfer::transfer                 0 to 8, 14          book_begin::begin                   0, 11
+--   book_parts::prime, period               0, 13               book_parts::list                    0, 11, 13, 14
+--   book_rows::write_rows                   0 to 8, 11, 13, 14
+-- The other functions for C and Rust (crate capi) give the numbers of the functions behind them.
 -- That every such n is one of the row's numbers is `numbered` of `demand-1`.
 use mathlib.Core.Path.{_≡_}
 use mathlib.Core.Logic.{_⊎_}
@@ -49,7 +51,10 @@ use Rattle.book_add.specs.Add.{AddTells}
 use Rattle.book_attest.specs.Attest.{AttestTells}
 use Rattle.book_place.specs.Place.{AskSays}
 use Rattle.capi.specs.Told.{OrderTells, StepTells, WalkTells, FromOrderTells, UnitTells, OneFieldTells}
-use Rattle.capi.specs.Books.{CheckSays, ListSays, WriteSays, AddSays, AttestSays}
+use Rattle.book_begin.specs.Begin.{BeginSays}
+use Rattle.book_parts.specs.Parts.{PrimeSays, PeriodSays, ListSays}
+use Rattle.book_rows.specs.Rows.{RowsSays}
+use Rattle.capi.specs.Books.{CheckSays, WriteSays, AddSays, AttestSays}
 use Rattle.text_put.specs.Print.{refused-text}
 use Rattle.text_cut.specs.Feed.{end-text}
 use Rattle.text_read.specs.Tells.{ParseTells}
@@ -110,6 +115,10 @@ pub data Gives : ℕ → List ℕ → ℕ → Type 0 where
   book-c : {s out : List ℕ} → CheckSays s out → Gives 0 (13 ∷ []) (getD out 0 0)
   ask-c : {s : List ℕ} {i a l : ℕ} {out : List ℕ} → AskSays s i a l out → Gives 0 (13 ∷ 14 ∷ []) (getD out 0 0)
   attest-c : {s : List ℕ} {i : ℕ} {out : List ℕ} → AttestSays s i out → Gives 0 (13 ∷ 14 ∷ []) (getD out 0 0)
-  list-c : {s : List ℕ} {k : ℕ} {d d′ out : List ℕ} → ListSays s k d d′ out → Gives 0 (11 ∷ 14 ∷ []) (getD out 0 0)
+  begin-c : {d d′ out : List ℕ} → BeginSays d d′ out → Gives 0 (11 ∷ []) (getD out 0 0)
+  prime-c : {s out : List ℕ} → PrimeSays s out → Gives 0 (13 ∷ []) (getD out 0 0)
+  period-c : {s out : List ℕ} → PeriodSays s out → Gives 0 (13 ∷ []) (getD out 0 0)
+  list-c : {s : List ℕ} {k : ℕ} {d d′ out : List ℕ} → ListSays s k d d′ out → Gives 0 (11 ∷ 13 ∷ 14 ∷ []) (getD out 0 0)
+  rows-c : {p t : ℕ} {G H l d d′ out : List ℕ} → RowsSays p G H t l d d′ out → Gives 8 (11 ∷ 13 ∷ 14 ∷ []) (getD out 0 0)
   write-c : {b : Body} {d d′ out : List ℕ} → WriteSays b d d′ out → Gives 8 (11 ∷ 13 ∷ []) (getD out 0 0)
   add-c : {d : List ℕ} {n : ℕ} {b d′ out : List ℕ} → AddSays d n b d′ out → Gives 0 (11 ∷ 13 ∷ 14 ∷ 15 ∷ []) (getD out 0 0)
