@@ -29,7 +29,8 @@ use Rattle.book_check.proofs.Value.{book-back, book-obeys}
 use Rattle.book_check.proofs.Written.{writing-accepted, written-count, reads-back, one-value}
 use Rattle.demands.specs.Meaning.{BackFirst, UnitRows, Demand2}
 use Rattle.demands.proofs.Cases.{walk-closed, walk-reaches, told-closed, unit-made, success-unit}
-use Rattle.demands.proofs.Tabled.{order-tabled, series-tabled, check-tabled, step-tabled, walk-tabled, period-tabled, unit-tabled, order-closing}
+use Rattle.demands.proofs.Tabled.{order-tabled, series-tabled, check-tabled, step-tabled}
+use Rattle.demands.proofs.Tabled.{walk-tabled, period-tabled, unit-tabled, order-closing}
 use Rattle.demands.proofs.TakenUp.{together, together-agrees}
 
 -- ---- the step
