@@ -9,7 +9,7 @@ use Rattle.math_ideals.specs.Setting.{Setting}
 use Rattle.math_ideals.specs.Ideal.{Basis}
 use Rattle.math_ideals.specs.Next.{Start}
 use Rattle.math_chain.specs.Chain.{Chain, Closing}
-use Rattle.math_chain.proofs.Walk.{chain-good}
+use Rattle.math_chain.proofs.Walk.{chain-good, open-none}
 use Rattle.math_chain.proofs.Closing.{closing-start}
 use Rattle.math_chain.proofs.Exists.{order-exists}
 use Rattle.math_chain.proofs.Unit.{unit-degree}
@@ -29,7 +29,8 @@ use Rattle.book_check.proofs.Value.{book-back, book-obeys}
 use Rattle.book_check.proofs.Written.{writing-accepted, written-count, reads-back, one-value}
 use Rattle.demands.specs.Meaning.{BackFirst, UnitRows, Demand2}
 use Rattle.demands.proofs.Cases.{walk-closed, walk-reaches, told-closed, unit-made, success-unit}
-use Rattle.demands.proofs.Tabled.{order-tabled, series-tabled, check-tabled, step-tabled, walk-tabled, period-tabled, unit-tabled, order-closing}
+use Rattle.demands.proofs.Tabled.{order-tabled, series-tabled, check-tabled, step-tabled}
+use Rattle.demands.proofs.Tabled.{walk-tabled, period-tabled, unit-tabled, order-closing}
 use Rattle.demands.proofs.TakenUp.{together, together-agrees}
 
 -- ---- the step
@@ -102,6 +103,14 @@ demand-2 = record {
   walk-tabled = λ w h. walk-tabled _ _ _ _ _ w h;
   period-tabled = λ o h. period-tabled _ _ _ _ o h;
   unit-tabled = λ m h. unit-tabled _ _ _ _ _ _ m _ _ h;
+  walk-zero = λ {p} {G} {H} {B} w A r h.
+      walk-tabled p G H 0 B w h .no-closing .1 (A, omega arith, r, open-none (setting A) (basisOf A B));
+  period-zero = λ {p} {G} {H} o A h.
+      let (B₀, st) = order-exists (setting A) in
+      period-tabled p G H 0 o h .no-closing .1 (A, omega arith, B₀, st, open-none (setting A) B₀);
+  unit-zero = λ {p} {c} {G} {H} {rows} {scratch} {rows′} {scratch′} m A b h.
+      let (B₀, st) = order-exists (setting A) in
+      unit-tabled p G H 0 rows scratch m rows′ scratch′ h .no-closing .1 (A, c, b, B₀, st, open-none (setting A) B₀);
   written-accepted = λ bs o. writing-accepted bs o;
   reads-back = λ bs o. (written-count bs o, reads-back bs o);
   accepted-written = λ s b a. (book-obeys s b a, book-back s b a);

@@ -35,7 +35,8 @@ use Rattle.door_walk.specs.Order as walks
 use Rattle.door_unit.specs.declared.UnitAnswer.{UnitAnswer}
 use Rattle.door_unit.specs.Unit as unit
 use Rattle.door_unit.proofs.Once.{refused-number}
-use Rattle.demands.specs.Tabled.{FieldTabled, OrderTabled, SeriesTabled, RecordTabled, WalkTabled, PeriodTabled, UnitWithin, UnitTabled}
+use Rattle.demands.specs.Tabled.{FieldTabled, OrderTabled, SeriesTabled, RecordTabled}
+use Rattle.demands.specs.Tabled.{WalkTabled, PeriodTabled, UnitWithin, UnitTabled}
 
 both : {A B : Type 0} → A → B → A ↔ B
 both a b = (λ x. b, λ y. a)

@@ -33,7 +33,7 @@ use Rattle.walk_chain.specs.Walk.{Walks, Reaches, Closes}
 use Rattle.door_walk.specs.declared.PeriodAnswer.{PeriodAnswer}
 use Rattle.door_walk.specs.Order.{FromOrder}
 use Rattle.door_unit.specs.declared.UnitAnswer.{UnitAnswer}
-use Rattle.door_unit.specs.Unit.{Makes}
+use Rattle.door_unit.specs.Unit.{Lent, Makes}
 use Rattle.unit_make.specs.Rows.{six}
 use Rattle.book_bytes.specs.Bytes.{Bytes}
 use Rattle.book_body.specs.Body.{Body}
@@ -135,6 +135,22 @@ pub record Demand2 : Type 0 where
       {p n : ℕ} {G H rows scratch rows′ scratch′ : List ℕ} (m : UnitAnswer) →
       Makes p G H n rows scratch m rows′ scratch′ →
       UnitTabled p G H n rows scratch (m .refusal)
+  -- "B = 0 with nothing refused before is always 10"
+  pub walk-zero :
+      {p : ℕ} {G H B : List ℕ} (w : WalkAnswer) →
+      Accepted p G H → IsRecord p G H B →
+      Walks p G H 0 B w →
+      w .refusal ≡ 10
+  pub period-zero :
+      {p : ℕ} {G H : List ℕ} (o : PeriodAnswer) →
+      Accepted p G H →
+      FromOrder p G H 0 o →
+      o .refusal ≡ 10
+  pub unit-zero :
+      {p c : ℕ} {G H rows scratch rows′ scratch′ : List ℕ} (m : UnitAnswer) →
+      Accepted p G H → Lent c rows scratch 0 →
+      Makes p G H 0 rows scratch m rows′ scratch′ →
+      m .refusal ≡ 10
   -- the book
   pub written-accepted : (bs : List Body) → Obeys bs → book.Accepted (bookBytes bs)
   pub reads-back :

@@ -8,9 +8,9 @@
 --   Holds            what a line says: at that input the contract is met by the line's answer only
 --   AllHold          all of a list of lines hold
 --   labels           the numbers that stand before the lines, each once where lines in a row share it
--- A polynomial is a list of coefficients, lowest first. The contracts' definitions are those of crates field_open, field_series, door_basis,
--- door_step, walk_chain, door_walk, door_unit and book_check; `Rows` and `stored` (crate examples_tests) write a basis and its record of 119
--- numbers.
+-- A polynomial is a list of coefficients, lowest first. The contracts' definitions are those of crates field_open, field_series,
+-- door_basis, door_step, walk_chain, door_walk, door_unit and book_check; `Rows` and `stored` (crate examples_tests) write a basis and its
+-- record of 119 numbers.
 use mathlib.Core.Path.{_≡_}
 use mathlib.Core.Bool.{Bool, true, false}
 use mathlib.Core.List.{List, [], _∷_, _++_}
