@@ -10,12 +10,13 @@ use Rattle.base_lists.specs.Pieces.{Written}
 use Rattle.base_lists.specs.Coefficients.{Size, trim}
 use Rattle.base_lists.proofs.Puts.{written-none, front-is, front-count}
 use Rattle.base_lists.proofs.Trims.{trim-size, trim-length}
-use Rattle.base_answers.specs.Decides.{Decides}
+use Rattle.base_answers.specs.Limits.{SixRows, NoSixRows}
+use Rattle.base_answers.proofs.Limits.{no-six}
 use Rattle.base_answers.specs.Said.{Said, refused}
 use Rattle.field_open.specs.Refusal.{Refusal}
 use Rattle.book_write.specs.Write.{bodyFrom, WriteTells}
 use Rattle.book_rows.specs.Rows.{Six, rowOf, field, unfit, RowsSays}
-use Rattle.book_rows.specs.Code.{Widened, SixRows}
+use Rattle.book_rows.specs.Code.{Widened}
 
 pub none-put : (d l : List ℕ) → Written d 0 (take 0 l) 0 0 d
 none-put d l = written-none d 0
@@ -28,10 +29,10 @@ row-put d l d' n i s e w =
     record { put = subst (λ k. Written d 0 (trim l) k i d') (sym f) (subst (λ x. Written d 0 x i i d') g w); within = omega arith }
 
 pub six-of : (l : List ℕ) → SixRows (length l) → Six (length l / 6) l
-six-of l s = let e = s .even in let h = s .room in record { room = omega arith; whole = omega arith }
+six-of l s = let e = s .0 in let h = s .1 in record { room = omega arith; whole = omega arith }
 
 pub six-none : (l : List ℕ) → (SixRows (length l) → ⊥) → (c : ℕ) → Six c l → ⊥
-six-none l f c s = let h = s .room in let w = s .whole in f (record { even = omega arith; room = omega arith })
+six-none l f c s = let h = s .room in let w = s .whole in f (omega arith, omega arith)
 
 -- ---- the slices that are handed on
 module _ {row d d' : List ℕ} {r : ℕ} (w : Widened row d r d') (h : length row ≤ length d) where
@@ -80,9 +81,9 @@ module _ (c : ℕ) (l : List ℕ) (s : Six c l) {n : ℕ} {f : List ℕ} (at to 
   row-fits = widened-fits w within
 
 -- ---- the answers where the rows are not six
-module _ {p : ℕ} {G H : List ℕ} {t : ℕ} (l : List ℕ) {d : List ℕ} {r : Bool} (q : Decides r (SixRows (length l))) (e : r ≡ false) where
+module _ {p : ℕ} {G H : List ℕ} {t : ℕ} (l : List ℕ) {d : List ℕ} {r : Bool} (q : NoSixRows (length l) r) (e : r ≡ true) where
   pub refused-rows : {n : ℕ} → n ≢ 0 → Refusal p G H n → RowsSays p G H t l d d (n ∷ 0 ∷ 0 ∷ 0 ∷ 0 ∷ [])
-  refused-rows {n} h o = record { said = refused n; tells = field (six-none l (q .no! e)) n h o refl refl; written = refl }
+  refused-rows {n} h o = record { said = refused n; tells = field (six-none l (no-six q e)) n h o refl refl; written = refl }
 
   pub unfit-rows : {n : ℕ} → n ≡ 0 → Refusal p G H n → RowsSays p G H t l d d (14 ∷ 0 ∷ 0 ∷ 0 ∷ 0 ∷ [])
-  unfit-rows h o = record { said = refused 14; tells = unfit (six-none l (q .no! e)) (subst (Refusal p G H) h o) refl refl; written = refl }
+  unfit-rows h o = record { said = refused 14; tells = unfit (six-none l (no-six q e)) (subst (Refusal p G H) h o) refl refl; written = refl }

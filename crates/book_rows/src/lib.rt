@@ -1,10 +1,9 @@
 // Writing a body of the book from the rows of a unit, as `unit` leaves them in a lent slice.
 ghost use Prim.Native.Nat.{_≤_};
 ghost use lib.ListN.{length};
-ghost use Rattle.base_answers.specs.Decides.{Decides};
 ghost use Rattle.book_write.specs.Write.{wroteSays, WriteTells, Numbered};
 ghost use Rattle.book_rows.specs.Rows.{Six, bodyOfRows, RowsSays};
-ghost use Rattle.book_rows.specs.Code.{SixRows, Widened};
+ghost use Rattle.book_rows.specs.Code.{Widened};
 
 // A row without the zeros at its end, into the front of a lent slice; its length.
 fn widen(row: &[u16], out: &mut [u64]) -> usize
@@ -19,19 +18,6 @@ fn widen(row: &[u16], out: &mut [u64]) -> usize
         i += 1;
     }
     i
-}
-
-// Whether n is the length of six equal rows of at most 4,096 numbers.
-fn fits(n: usize) -> bool
-    ensures { λ r. ⌜ Decides r (SixRows n) ⌝ }
-{
-    if n % 6 != 0 {
-        return false;
-    }
-    if n > 24576 {
-        return false;
-    }
-    true
 }
 
 // Writes the body of the first three of six rows of c numbers.
@@ -73,8 +59,8 @@ pub fn write_rows(
         ⌜ RowsSays p (now (g .entry)) (now (h .entry)) (period .0) (now (rows .entry)) (now (out .entry)) (now (out .exit)) o ⌝ }
 {
     let n = rows.len();
-    let ok = fits(n);
-    if !ok {
+    let odd = base_answers::no_six_rows(n);
+    if odd {
         let x = field_open::refusal(p, g, h);
         if x != 0 {
             return [x as u64, 0, 0, 0, 0];

@@ -1,13 +1,13 @@
 -- `write_rows` meets its contract.
 use borrow.Author.Needs.{needs}
-use borrow.Author.Tests.{not-true, not-false}
+use Rattle.base_answers.proofs.Limits as limits
 use Rattle.book_rows.specs.Rows.{body}
 use Rattle.book_rows.proofs.Facts.{six-of, refused-rows, unfit-rows}
 use Rattle.book_rows.proofs.write_rows.Statement.{statement}
 use Rattle.book_rows.proofs.write_rows.Tie as tie
 
-fits-requires : tie.Need-fits-requires
-fits-requires c κs = search needs
+no-six-rows-requires : tie.Need-no-six-rows-requires
+no-six-rows-requires c κs = search needs
 
 refusal-requires : tie.Need-refusal-requires
 refusal-requires c κs = search needs
@@ -18,17 +18,17 @@ cast-t13 c = search needs
 returns : tie.Need-returns
 returns c =
     let s = c .before .before .before .before .before .before .before .before in
-    refused-rows (s .args .rows .now) (c .before .before .before .fits2 .ensures) (not-true _ (c .before .before .if1 .taken))
+    refused-rows (s .args .rows .now) (c .before .before .before .no-six-rows .ensures) (c .before .before .if1 .taken)
     (c .if2 .taken) (c .before .refusal .ensures)
 
 returns-2 : tie.Need-returns-2
 returns-2 c =
     let s = c .before .before .before .before .before .before .before .before in
-    unfit-rows (s .args .rows .now) (c .before .before .before .fits2 .ensures) (not-true _ (c .before .before .if1 .taken))
+    unfit-rows (s .args .rows .now) (c .before .before .before .no-six-rows .ensures) (c .before .before .if1 .taken)
     (c .if2 .left) (c .before .refusal .ensures)
 
 put-rows-requires : tie.Need-put-rows-requires
-put-rows-requires c κs = six-of _ (c .before .before .fits2 .ensures .yes! (not-false _ (c .before .if1 .left)))
+put-rows-requires c κs = six-of _ (limits.six-of (c .before .before .no-six-rows .ensures) (c .before .if1 .left))
 
 wrote-row-requires : tie.Need-wrote-row-requires
 wrote-row-requires c κs = search needs
@@ -41,7 +41,7 @@ returns-3 c =
     let t = c .before .before .before in
     record {
       said = _;
-      tells = body _ (six-of _ (t .before .before .before .fits2 .ensures .yes! (not-false _ (t .before .before .if1 .left)))) (t .put-rows .ensures .0);
+      tells = body _ (six-of _ (limits.six-of (t .before .before .before .no-six-rows .ensures) (t .before .before .if1 .left))) (t .put-rows .ensures .0);
       written = c .wrote-row .ensures;
     }
 
@@ -49,7 +49,7 @@ pub write-rows-spec : {M : Type 1} → statement M
 write-rows-spec =
     tie.close
     (tie.spec
-    fits-requires
+    no-six-rows-requires
     refusal-requires
     cast-t13
     returns
