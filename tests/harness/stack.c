@@ -5,17 +5,21 @@
 
 enum { DEPTH = 400 * 1024, ROOM = 6 * 64 };
 
+/* The compiler has to think that the array is read and written here. */
+#define SEEN(all) __asm__ volatile("" : : "r"(all) : "memory")
+
 __attribute__((noinline)) static void paint(void) {
     volatile unsigned char all[DEPTH];
     size_t i;
     for (i = 0; i < DEPTH; i++) all[i] = 0xA5;
+    SEEN(all);
 }
 
 /* From the low end on, the first byte that is not paint. */
 __attribute__((noinline)) static size_t used(void) {
     volatile unsigned char all[DEPTH];
     size_t i = 0;
-    __asm__ volatile("" : : "r"(all) : "memory");
+    SEEN(all);
     while (i < DEPTH && all[i] == 0xA5) i++;
     return DEPTH - i;
 }
