@@ -21,13 +21,15 @@ slice-aggregate-times-3 : tie.Need-slice-aggregate-times-3
 slice-aggregate-times-3 c = search needs
 
 times-requires-3 : tie.Need-times-requires-3
-times-requires-3 c κs = search needs
+times-requires-3 c κs =
+    record { modulus = c .before .before .before .before .before .before .before .before .before .before .before .before .pre .modulus; room = search needs; d-most = search needs }
 
 slice-aggregate-times-4 : tie.Need-slice-aggregate-times-4
 slice-aggregate-times-4 c = search needs
 
 times-requires-4 : tie.Need-times-requires-4
-times-requires-4 c κs = search needs
+times-requires-4 c κs =
+    record { modulus = c .before .before .before .before .before .before .before .before .before .before .before .before .before .before .before .pre .modulus; room = search needs; d-most = search needs }
 
 slice-aggregate-mix : tie.Need-slice-aggregate-mix
 slice-aggregate-mix c = search needs
@@ -42,7 +44,9 @@ slice-aggregate-mix-4 : tie.Need-slice-aggregate-mix-4
 slice-aggregate-mix-4 c = search needs
 
 mix-requires : tie.Need-mix-requires
-mix-requires c κs = search needs
+mix-requires c κs =
+    let at22 = c .before .before .before .before .before .before .before .before .before .before .before .before .before .before .before .before .before .before .before .before .before .before in
+    record { modulus = at22 .pre .modulus; g-most = search needs; h-most = search needs; d-most = search needs }
 
 same-length : tie.Need-same-length
 same-length c = search needs

@@ -36,7 +36,9 @@ slice-aggregate-mix-3 : tie.Need-slice-aggregate-mix-3
 slice-aggregate-mix-3 c = search needs
 
 mix-requires : tie.Need-mix-requires
-mix-requires c κs = search needs
+mix-requires c κs =
+    let at20 = c .before .before .before .before .before .before .before .before .before .before .before .before .before .before .before .before .before .before .before .before in
+    record { modulus = at20 .pre .modulus; g-most = search needs; h-most = search needs; d-most = search needs }
 
 same-length : tie.Need-same-length
 same-length c = search needs
