@@ -1,9 +1,9 @@
 -- `carry_swapped` meets its contract: proofs/Carrying.antt.
 use mathlib.Core.Path.{_∙_}
 use borrow.Author.Needs.{needs}
-use Rattle.door_transfer.proofs.Carrying.{swapped-asks, swapped-made}
-use Rattle.door_transfer.proofs.carry_swapped.Statement.{statement}
-use Rattle.door_transfer.proofs.carry_swapped.Tie as tie
+use Rattle.pair_carry.proofs.Carrying.{swapped-asks, swapped-made}
+use Rattle.pair_carry.proofs.carry_swapped.Statement.{statement}
+use Rattle.pair_carry.proofs.carry_swapped.Tie as tie
 
 add-c2 : tie.Need-add-c2
 add-c2 c = search needs

@@ -1,9 +1,9 @@
 -- `factors` meets its contract: proofs/Leading.antt.
 use native.Mathlib.Omega.{arith}
 use borrow.Author.Needs.{needs}
-use Rattle.door_transfer.proofs.Leading.{rest-below, two-asks, root-asks, inverse-asks, lead-times, factors-law}
-use Rattle.door_transfer.proofs.factors.Statement.{statement}
-use Rattle.door_transfer.proofs.factors.Tie as tie
+use Rattle.pair_factors.proofs.Leading.{rest-below, two-asks, root-asks, inverse-asks, lead-times, factors-law}
+use Rattle.pair_factors.proofs.factors.Statement.{statement}
+use Rattle.pair_factors.proofs.factors.Tie as tie
 
 mul-requires : tie.Need-mul-requires
 mul-requires c κs = search needs

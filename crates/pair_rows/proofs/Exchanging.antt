@@ -9,7 +9,7 @@ use native.Mathlib.Omega.{arith}
 use native.Mathlib.Decide.{ℕ-discrete}
 use lib.ListN.{length, getD, set, length-set}
 use lib.Seq.{getD-set-same, getD-set-other}
-use Rattle.door_transfer.specs.Code.{Exchanged}
+use Rattle.pair_rows.specs.Code.{Exchanged}
 
 -- the places as another function counts them
 module _ (a b c : ℕ) (l l′ : List ℕ) (h : Exchanged a b c l l′) (i j k : ℕ) (u : i < c) where

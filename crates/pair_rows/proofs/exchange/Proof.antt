@@ -3,10 +3,10 @@ use mathlib.Core.Path.{_≡_, subst}
 use Prim.Native.Nat.{_≤_, _-_}
 use native.Mathlib.Omega.{arith}
 use borrow.Author.Needs.{needs, below-set}
-use Rattle.door_transfer.specs.Code.{Exchanged}
-use Rattle.door_transfer.proofs.Exchanging.{exchange-start, exchange-more}
-use Rattle.door_transfer.proofs.exchange.Statement.{statement}
-use Rattle.door_transfer.proofs.exchange.Tie as tie
+use Rattle.pair_rows.specs.Code.{Exchanged}
+use Rattle.pair_rows.proofs.Exchanging.{exchange-start, exchange-more}
+use Rattle.pair_rows.proofs.exchange.Statement.{statement}
+use Rattle.pair_rows.proofs.exchange.Tie as tie
 
 abbrev Inv-loop : tie.InvT-loop
 Inv-loop rows₀ a b c i₀ rows i = (i ≤ c) × Exchanged a b i rows₀ rows

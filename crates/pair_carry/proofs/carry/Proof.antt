@@ -1,8 +1,8 @@
 -- `carry` meets its contract: proofs/Carrying.antt.
 use borrow.Author.Needs.{needs}
-use Rattle.door_transfer.proofs.Carrying.{lead, multiply-asks, carried-made}
-use Rattle.door_transfer.proofs.carry.Statement.{statement}
-use Rattle.door_transfer.proofs.carry.Tie as tie
+use Rattle.pair_carry.proofs.Carrying.{lead, multiply-asks, carried-made}
+use Rattle.pair_carry.proofs.carry.Statement.{statement}
+use Rattle.pair_carry.proofs.carry.Tie as tie
 
 sub-a : tie.Need-sub-a
 sub-a c = search needs

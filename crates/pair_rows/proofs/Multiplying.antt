@@ -13,7 +13,7 @@ use Rattle.base_lists.specs.Pieces.{between}
 use Rattle.base_lists.proofs.Pieces.{between-length}
 use Rattle.base_lists.proofs.Puts.{Around, put-back}
 use Rattle.pair_agree.specs.Rows.{Straight}
-use Rattle.door_transfer.specs.Code.{PartAsks, Part, Multiplied}
+use Rattle.pair_rows.specs.Code.{PartAsks, Part, Multiplied}
 
 module _ (p k at c : ℕ) (l : List ℕ) (h : PartAsks p k at c l) where
   long : length (between at (at + c) l) ≡ c

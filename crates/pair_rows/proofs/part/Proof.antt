@@ -2,9 +2,9 @@
 use Prim.Native.Nat.{_+_, _-_}
 use native.Mathlib.Omega.{arith}
 use borrow.Author.Needs.{needs}
-use Rattle.door_transfer.proofs.Multiplying.{part-made}
-use Rattle.door_transfer.proofs.part.Statement.{statement}
-use Rattle.door_transfer.proofs.part.Tie as tie
+use Rattle.pair_rows.proofs.Multiplying.{part-made}
+use Rattle.pair_rows.proofs.part.Statement.{statement}
+use Rattle.pair_rows.proofs.part.Tie as tie
 
 add-to : tie.Need-add-to
 add-to c = search needs

@@ -13,8 +13,10 @@ use Rattle.field_open.specs.Refusal.{Degree}
 use Rattle.pair_agree.specs.OneField.{leading}
 use Rattle.pair_agree.specs.Rows.{Law, Crossed}
 use Rattle.pair_agree.proofs.Lists.{leading-below, leading-some}
-use Rattle.door_transfer.specs.Code.{Kind, Lead, Exchanged, MultipliedAsks, Multiplied, CarryAsks, Carried, CarriedSwapped}
-use Rattle.door_transfer.proofs.Exchanging.{first-at, second-at}
+use Rattle.pair_factors.specs.Code.{Kind, Lead}
+use Rattle.pair_rows.specs.Code.{Exchanged, MultipliedAsks, Multiplied}
+use Rattle.pair_carry.specs.Code.{CarryAsks, Carried, CarriedSwapped}
+use Rattle.pair_rows.proofs.Exchanging.{first-at, second-at}
 
 pub lead : (p : ℕ) → Kind p → {l : List ℕ} {n : ℕ} → Degree p l n → Lead p (leading l)
 lead p k {l} d = record { some = let f : leading l ≢ 0 = leading-some p (k .prime) d in omega arith; below = leading-below p (k .prime) d }

@@ -1,8 +1,8 @@
 -- `multiplied` meets its contract: proofs/Multiplying.antt.
 use borrow.Author.Needs.{needs}
-use Rattle.door_transfer.proofs.Multiplying.{multiplied-made}
-use Rattle.door_transfer.proofs.multiplied.Statement.{statement}
-use Rattle.door_transfer.proofs.multiplied.Tie as tie
+use Rattle.pair_rows.proofs.Multiplying.{multiplied-made}
+use Rattle.pair_rows.proofs.multiplied.Statement.{statement}
+use Rattle.pair_rows.proofs.multiplied.Tie as tie
 
 add-c2 : tie.Need-add-c2
 add-c2 c = search needs
