@@ -1,9 +1,9 @@
--- `book_attest::square` meets its contract.
+-- `unit_norm::square` meets its contract.
 use mathlib.Core.Path.{refl}
-use Rattle.book_attest.proofs.Norms.{square-from}
+use Rattle.unit_norm.proofs.Norms.{square-from}
 use borrow.Author.Needs.{needs}
-use Rattle.book_attest.proofs.square.Statement.{statement}
-use Rattle.book_attest.proofs.square.Tie as tie
+use Rattle.unit_norm.proofs.square.Statement.{statement}
+use Rattle.unit_norm.proofs.square.Tie as tie
 
 slice-aggregate-times : tie.Need-slice-aggregate-times
 slice-aggregate-times c = search needs

@@ -1,17 +1,21 @@
 -- The code's products are the norm.
-use mathlib.Core.Path.{_≡_, ap, ap₂, _∙_}
+--   square-from, cubes-from, norm-from   what the functions hand out
+--   norm-unique                          two lists that meet `Norm` at a prime are equal
+use mathlib.Core.Path.{_≡_, sym, ap, ap₂, _∙_}
 use mathlib.Core.List.{List, [], _∷_}
 use Prim.Native.Nat.{ℕ, _+_, _-_, _≤_}
 use native.Mathlib.Omega.{arith}
 use lib.ListN.{length}
 use Rattle.math_ring.proofs.Solve.{var, one, minus, _:+_, _:*_, solve}
+use Rattle.math_fp.specs.Fp.{Prime}
 use Rattle.math_rows.specs.Reading.{Reading}
 use Rattle.math_rows.specs.Made.{reading}
 use Rattle.math_rows.specs.Row.{row}
 use Rattle.math_rows.proofs.Rows.{const-neg, cast-sub}
+use Rattle.math_rows.proofs.Unique.{list-unique}
 use Rattle.poly_long.specs.Long.{Mixed, Times, Scaled}
 use Rattle.poly_long.proofs.Low.{whole}
-use Rattle.book_attest.specs.Code.{SquareAsks, Square, CubesAsks, Cubes, cubesOf, NormAsks, Norm}
+use Rattle.unit_norm.specs.Code.{SquareAsks, Square, CubesAsks, Cubes, cubesOf, NormAsks, Norm}
 
 -- the remainder p − 3 stands for −3
 thrice : {p : ℕ} (ρ : Reading p) → 3 ≤ p → let o = ρ .𝓥 .L .ops in ρ .𝓥 .const (ρ .cast (p - 3)) ≡ o .neg (o .add (o .add (o .𝟏) (o .𝟏)) (o .𝟏))
@@ -77,3 +81,6 @@ norm-from p g h a b c z0 z1 z2 gh x y out r w e0 e1 e2 t q k m = record {
       :+ minus (var 2 :* var 3 :* var 4 :* (var 0 :* var 1) :+ var 2 :* var 3 :* var 4 :* (var 0 :* var 1) :+ var 2 :* var 3 :* var 4 :* (var 0 :* var 1)))
       tt (row ρ g ∷ row ρ h ∷ row ρ a ∷ row ρ b ∷ row ρ c ∷ []);
 }
+
+pub norm-unique : {p : ℕ} (pr : Prime p) {g h a b c d r s : List ℕ} → Norm p g h a b c d r → Norm p g h a b c d s → r ≡ s
+norm-unique {p} pr {r = r} {s = s} x y = list-unique (reading p pr) r s (x .size ∙ sym (y .size)) (x .each) (y .each) (x .law pr ∙ sym (y .law pr))

@@ -1,10 +1,10 @@
--- `book_attest::constant_norm` meets its contract.
+-- `book_norm::constant_norm` meets its contract.
 use native.Mathlib.Omega.{arith}
 use Rattle.base_answers.proofs.Tests.{answer-yes, answer-no}
-use Rattle.book_attest.proofs.Bodies.{attested-yes, attested-no}
+use Rattle.book_norm.proofs.Bodies.{attested-yes, attested-no}
 use borrow.Author.Needs.{needs}
-use Rattle.book_attest.proofs.constant_norm.Statement.{statement}
-use Rattle.book_attest.proofs.constant_norm.Tie as tie
+use Rattle.book_norm.proofs.constant_norm.Statement.{statement}
+use Rattle.book_norm.proofs.constant_norm.Tie as tie
 
 slice-aggregate-body-norm : tie.Need-slice-aggregate-body-norm
 slice-aggregate-body-norm c = search needs

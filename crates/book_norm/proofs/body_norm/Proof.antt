@@ -1,9 +1,9 @@
--- `book_attest::body_norm` meets its contract.
+-- `book_norm::body_norm` meets its contract.
 use mathlib.Core.Path.{refl}
-use Rattle.book_attest.proofs.Bodies.{g-in, h-in, a-in, b-in, c-in, norm-in, body-norm}
+use Rattle.book_norm.proofs.Bodies.{g-in, h-in, a-in, b-in, c-in, norm-in, body-norm}
 use borrow.Author.Needs.{needs}
-use Rattle.book_attest.proofs.body_norm.Statement.{statement}
-use Rattle.book_attest.proofs.body_norm.Tie as tie
+use Rattle.book_norm.proofs.body_norm.Statement.{statement}
+use Rattle.book_norm.proofs.body_norm.Tie as tie
 
 prime-of-requires : tie.Need-prime-of-requires
 prime-of-requires c κs = search needs

@@ -1,14 +1,14 @@
--- `book_attest::load` meets its contract.
+-- `book_norm::load` meets its contract.
 use mathlib.Core.Path.{refl}
 use Prim.Native.Nat.{ℕ, _-_}
 use native.Mathlib.Omega.{arith}
 use lib.ListN.{length, getD}
 use Rattle.math_rows.proofs.Tab.{Filled, filled-start, filled-more}
 use Rattle.book_body.specs.Body.{listAt}
-use Rattle.book_attest.proofs.Bodies.{loaded}
+use Rattle.book_norm.proofs.Bodies.{loaded}
 use borrow.Author.Needs.{needs}
-use Rattle.book_attest.proofs.load.Statement.{statement}
-use Rattle.book_attest.proofs.load.Tie as tie
+use Rattle.book_norm.proofs.load.Statement.{statement}
+use Rattle.book_norm.proofs.load.Tie as tie
 
 abbrev Inv-loop : tie.InvT-loop
 Inv-loop s k out₀ i₀ out i = Filled (length out₀) (λ (j : ℕ). getD (listAt s k) j 0) out i

@@ -1,9 +1,9 @@
--- `book_attest::norm` meets its contract.
+-- `unit_norm::norm` meets its contract.
 use mathlib.Core.Path.{refl}
-use Rattle.book_attest.proofs.Norms.{norm-from}
+use Rattle.unit_norm.proofs.Norms.{norm-from}
 use borrow.Author.Needs.{needs}
-use Rattle.book_attest.proofs.norm.Statement.{statement}
-use Rattle.book_attest.proofs.norm.Tie as tie
+use Rattle.unit_norm.proofs.norm.Statement.{statement}
+use Rattle.unit_norm.proofs.norm.Tie as tie
 
 slice-aggregate-times : tie.Need-slice-aggregate-times
 slice-aggregate-times c = search needs

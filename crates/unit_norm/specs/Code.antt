@@ -1,10 +1,8 @@
--- What the code's own functions ask of and promise each other. Polynomials are `row` of lists (crate math_rows).
---   load        Loaded          the slice holds list k of the body, zeros above it
---   square      Square          a² − 3 gh b c
---   cubes       Cubes           h b³ + g c³
---   norm        Norm            the norm of a + b r + c w
---   body_norm   BodyNorm        the norm of the body's E
--- Each made list is as long as the slice it was made in.
+-- What the functions ask and promise. Polynomials are `row` of lists (crate math_rows).
+--   square   Square   a² − 3 gh b c
+--   cubes    Cubes    h b³ + g c³
+--   norm     Norm     the norm of a + b r + c w
+-- Each made list is as long as the slice it was made in. In proofs/Norms: `norm-unique`, for a prime p there is one such list.
 use mathlib.Core.Path.{_≡_}
 use mathlib.Core.List.{List}
 use Prim.Native.Nat.{ℕ, _<_, _≤_}
@@ -14,21 +12,11 @@ use Rattle.math_fp.specs.Fp.{Prime}
 use Rattle.math_rows.specs.Made.{reading}
 use Rattle.math_rows.specs.Row.{row}
 use Rattle.poly_long.specs.Long.{Storable}
-use Rattle.book_body.specs.Body.{listAt, bodyOf, Finished}
-use Rattle.book_attest.specs.Attest.{norm}
+use Rattle.unit_norm.specs.Norm.{norm}
 
 -- the places of the norm
 abbrev pub places : ℕ
 places = 12327
-
-pub record LoadAsks (s : List ℕ) (k : ℕ) (d : List ℕ) : Type 0 where
-  pub list : k < 5
-  pub fits : length (listAt s k) ≤ length d
-  pub small : (i : ℕ) → getD (listAt s k) i 0 < 65536
-
-pub record Loaded (s : List ℕ) (k : ℕ) (d r : List ℕ) : Type 0 where
-  pub size : length r ≡ length d
-  pub places : (i : ℕ) → getD r i 0 ≡ getD (listAt s k) i 0
 
 module _ (p : ℕ) (pr : Prime p) where
   open Ops (reading p pr .𝓥 .L .ops) using (add as _⊕_, mul as _⊗_, neg as ⊖_)
@@ -86,13 +74,3 @@ pub record Norm (p : ℕ) (g h a b c d r : List ℕ) : Type 0 where
   pub size : length r ≡ length d
   pub each : (i : ℕ) → getD r i 0 < p
   pub law : (pr : Prime p) → row (reading p pr) r ≡ norm p pr g h a b c
-
-pub record BodyNormAsks (s d : List ℕ) : Type 0 where
-  pub body : Finished s
-  pub room : length d ≡ places
-
-pub record BodyNorm (s d r : List ℕ) : Type 0 where
-  pub size : length r ≡ length d
-  pub each : (i : ℕ) → getD r i 0 < bodyOf s .p
-  pub law : (pr : Prime (bodyOf s .p))
-      → row (reading (bodyOf s .p) pr) r ≡ norm (bodyOf s .p) pr (bodyOf s .G) (bodyOf s .H) (bodyOf s .E0) (bodyOf s .E1) (bodyOf s .E2)

@@ -1,9 +1,9 @@
--- `book_attest::cubes` meets its contract.
+-- `unit_norm::cubes` meets its contract.
 use mathlib.Core.Path.{refl}
-use Rattle.book_attest.proofs.Norms.{cubes-from}
+use Rattle.unit_norm.proofs.Norms.{cubes-from}
 use borrow.Author.Needs.{needs}
-use Rattle.book_attest.proofs.cubes.Statement.{statement}
-use Rattle.book_attest.proofs.cubes.Tie as tie
+use Rattle.unit_norm.proofs.cubes.Statement.{statement}
+use Rattle.unit_norm.proofs.cubes.Tie as tie
 
 slice-aggregate-times : tie.Need-slice-aggregate-times
 slice-aggregate-times c = search needs
