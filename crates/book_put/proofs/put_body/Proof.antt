@@ -1,10 +1,10 @@
--- `book_add::put_body` meets its contract.
-use Rattle.book_add.proofs.Put.{assemble, ends-kept, long-kept}
+-- `book_put::put_body` meets its contract.
+use Rattle.book_put.proofs.Put.{assemble, ends-kept, long-kept}
 use Prim.Native.Nat.{suc, _*_, _+_}
 use native.Mathlib.Omega.{arith}
 use borrow.Author.Needs.{needs}
-use Rattle.book_add.proofs.put_body.Statement.{statement}
-use Rattle.book_add.proofs.put_body.Tie as tie
+use Rattle.book_put.proofs.put_body.Statement.{statement}
+use Rattle.book_put.proofs.put_body.Tie as tie
 
 mul-lift : tie.Need-mul-lift
 mul-lift c = search needs

@@ -1,8 +1,8 @@
--- `book_add::put_line` meets its contract.
-use Rattle.book_add.proofs.Lines.{line-put}
+-- `book_put::put_line` meets its contract.
+use Rattle.book_put.proofs.Lines.{line-put}
 use borrow.Author.Needs.{needs}
-use Rattle.book_add.proofs.put_line.Statement.{statement}
-use Rattle.book_add.proofs.put_line.Tie as tie
+use Rattle.book_put.proofs.put_line.Statement.{statement}
+use Rattle.book_put.proofs.put_line.Tie as tie
 
 put-four-requires : tie.Need-put-four-requires
 put-four-requires c κs = search needs

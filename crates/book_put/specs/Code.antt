@@ -1,21 +1,18 @@
--- What the code's own functions promise each other.
+-- What the functions ask and promise.
+--   newLength n b    the old length + a contents entry + the body
 --   lineEnd s at i   where the first i bodies of s end when they start at `at`
 --   lines s at i     the contents of the first i bodies of s when they start at `at`
 --   Place d n c b    the book of c bodies and length n in d can take the body b
 --   newBytes d n c b the bytes of the new book, up to its end
---   VerdictTells s b v   may b be added to s: yes, with the number of bodies; 13 with the reason; 15
 use mathlib.Core.Path.{_≡_}
-use mathlib.Core.Logic.{_⊎_}
 use mathlib.Core.List.{List, [], _++_}
 use Prim.Native.Nat.{ℕ, zero, suc, _+_, _-_, _*_, _<_, _≤_}
 use lib.ListN.{length, take, drop}
 use Rattle.book_bytes.specs.Bytes.{le}
-use Rattle.book_body.specs.Body.{OneField, bodyOf, Finished}
-use Rattle.book_check.specs.Book.{width, count, lengthAt, entry, Accepted}
-use Rattle.book_check.specs.Answer.{reasonSays, BodyFault, Tells}
-use Rattle.book_add.specs.Add.{Unlisted, newLength}
-use Rattle.book_add.specs.declared.Verdict.{Verdict}
-use Rattle.book_add.specs.declared.Verdict.the-variants.{May, No, Has}
+use Rattle.book_check.specs.Book.{width, lengthAt}
+
+abbrev pub newLength : ℕ → List ℕ → ℕ
+newLength n b = n + width + length b
 
 unfoldable pub lineEnd : List ℕ → ℕ → ℕ → ℕ
 lineEnd s at zero = at
@@ -36,9 +33,3 @@ newBytes d n c b =
     take 4 d
     ++ ((((le 2 (c + 1) ++ lines d (6 + width * suc c) c) ++ (le 4 (n + width) ++ le 4 (length b)))
     ++ take (n - (6 + width * c)) (drop (6 + width * c) d)) ++ b)
-
-abbrev pub VerdictTells : List ℕ → List ℕ → Verdict → Type 0
-VerdictTells s b (May c) = (c ≡ count s) × Accepted s × Finished b × Unlisted s b
-VerdictTells s b (No why) =
-    ((Accepted s → ⊥) × Tells s (reasonSays why)) ⊎ (Accepted s × BodyFault b (count s) (reasonSays why))
-VerdictTells s b Has = Accepted s × Finished b × ((j : ℕ) × (j < count s) × OneField (bodyOf b) (entry s j))

@@ -9,7 +9,7 @@ use Rattle.base_lists.specs.Pieces.{Written}
 use Rattle.book_bytes.specs.Bytes.{le, val, u4}
 use Rattle.base_lists.proofs.Puts.{written-then, drop-put}
 use Rattle.book_check.specs.Book.{lengthAt}
-use Rattle.book_add.specs.Code.{lineEnd, lines}
+use Rattle.book_put.specs.Code.{lineEnd, lines}
 
 pub lineEnd-more : (s : List ℕ) (at i : ℕ) → lineEnd s at (i + 1) ≡ lineEnd s at i + lengthAt s i
 unfolding lineEnd

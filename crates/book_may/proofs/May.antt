@@ -15,8 +15,8 @@ use Rattle.book_check.specs.declared.Answer.{Answer}
 use Rattle.book_check.specs.declared.Answer.the-variants.{Refused}
 use Rattle.book_check.specs.declared.Seen.{Seen}
 use Rattle.book_check.specs.declared.Seen.the-variants.{Bad}
-use Rattle.book_add.specs.Code.{VerdictTells}
-use Rattle.book_add.specs.declared.Verdict.the-variants.{May, No, Has}
+use Rattle.book_may.specs.May.{VerdictTells}
+use Rattle.book_may.specs.declared.Verdict.the-variants.{May, No, Has}
 
 pub finished : (b : List ℕ) → Formed b × FieldSays (bodyOf b) 0 → Finished b
 finished b g = record { formed = g .0; field = g .1 }

@@ -1,11 +1,11 @@
--- `book_add::may_add` meets its contract.
+-- `book_may::may_add` meets its contract.
 use Rattle.book_check.proofs.Facts.{judge-good}
 use Rattle.book_check.proofs.Asking.{yes-of}
-use Rattle.book_add.proofs.May.{finished, has-of, may-of, book-no, body-no}
+use Rattle.book_may.proofs.May.{finished, has-of, may-of, book-no, body-no}
 use native.Mathlib.Omega.{arith}
 use borrow.Author.Needs.{needs}
-use Rattle.book_add.proofs.may_add.Statement.{statement}
-use Rattle.book_add.proofs.may_add.Tie as tie
+use Rattle.book_may.proofs.may_add.Statement.{statement}
+use Rattle.book_may.proofs.may_add.Tie as tie
 
 check-requires : tie.Need-check-requires
 check-requires c κs = search needs

@@ -1,13 +1,13 @@
--- `book_add::put_lines` meets its contract.
+-- `book_put::put_lines` meets its contract.
 use Rattle.base_lists.specs.Pieces.{Written}
-use Rattle.book_add.specs.Code.{lineEnd, lines}
-use Rattle.book_add.proofs.Lines.{lineEnd-more, lineEnd-first, lines-none, line-read, lines-more, lines-all}
+use Rattle.book_put.specs.Code.{lineEnd, lines}
+use Rattle.book_put.proofs.Lines.{lineEnd-more, lineEnd-first, lines-none, line-read, lines-more, lines-all}
 use Prim.Native.Nat.{suc, _≤_, _-_, _*_, _+_}
 use mathlib.Core.Path.{_≡_}
 use native.Mathlib.Omega.{arith}
 use borrow.Author.Needs.{needs}
-use Rattle.book_add.proofs.put_lines.Statement.{statement}
-use Rattle.book_add.proofs.put_lines.Tie as tie
+use Rattle.book_put.proofs.put_lines.Statement.{statement}
+use Rattle.book_put.proofs.put_lines.Tie as tie
 
 abbrev Inv-loop : tie.InvT-loop
 Inv-loop out₀ c at₀ o₀ i₀ out at o i = (i ≤ c) × (at ≡ lineEnd out₀ (6 + 8 * suc c) i) × Written out₀ 6 (lines out₀ (6 + 8 * suc c) i) (8 * i) o out
