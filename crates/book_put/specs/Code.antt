@@ -4,9 +4,8 @@
 --   lines s at i     the contents of the first i bodies of s when they start at `at`
 --   Place d n c b    the book of c bodies and length n in d can take the body b
 --   newBytes d n c b the bytes of the new book, up to its end
-use mathlib.Core.Path.{_≡_}
 use mathlib.Core.List.{List, [], _++_}
-use Prim.Native.Nat.{ℕ, zero, suc, _+_, _-_, _*_, _<_, _≤_}
+use Prim.Native.Nat.{ℕ, zero, suc, _+_, _-_, _*_, _≤_}
 use lib.ListN.{length, take, drop}
 use Rattle.book_bytes.specs.Bytes.{le}
 use Rattle.book_check.specs.Book.{width, lengthAt}

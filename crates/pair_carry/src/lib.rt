@@ -18,7 +18,15 @@ pub fn carry(p: u64, g: &[u64], h: &[u64], g2: &[u64], h2: &[u64], c: usize, row
 }
 
 // The same where they agree in the other order: E1 and E2 change places first, and so do F1 and F2.
-pub fn carry_swapped(p: u64, g: &[u64], h: &[u64], g2: &[u64], h2: &[u64], c: usize, rows: &mut [u16])
+pub fn carry_swapped(
+    p: u64,
+    g: &[u64],
+    h: &[u64],
+    g2: &[u64],
+    h2: &[u64],
+    c: usize,
+    rows: &mut [u16],
+)
     requires { ⌜ CarryAsks p (now g) (now h) (now g2) (now h2) c (now rows) ⌝ }
     ensures { λ _. ⌜ CarriedSwapped p (now (g .entry)) (now (h .entry)) (now (g2 .entry)) (now (h2 .entry)) c (now (rows .entry)) (now (rows .exit)) ⌝ }
 {

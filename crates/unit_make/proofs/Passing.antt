@@ -32,7 +32,7 @@ use Rattle.basis_record.specs.Record.{setting, basisOf}
 use Rattle.basis_record.proofs.Unique.{basis-unique}
 use Rattle.basis_field.specs.First.{IsFirst}
 use Rattle.walk_chain.specs.Walk.{Closes}
-use Rattle.walk_chain.proofs.One.{one-of}
+use Rattle.walk_closed.proofs.One.{one-of}
 use Rattle.step_next.specs.Steps.{Steps}
 use Rattle.step_next.specs.declared.StepTaken.{StepTaken}
 use Rattle.unit_rows.specs.Six.{cut}

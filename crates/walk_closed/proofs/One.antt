@@ -1,4 +1,4 @@
--- A row is the polynomial 1 exactly where its first entry is 1 and the others are 0.
+-- A row is the polynomial 1 exactly where its first entry is 1 and the others are 0; `closed-unique`: the test has one answer, for a prime p.
 use mathlib.Core.Path.{_≡_, refl, sym, ap, _∙_}
 use mathlib.Core.Logic.{_≢_}
 use mathlib.Core.List.{List, [], _∷_}
@@ -18,8 +18,8 @@ use Rattle.math_rows.proofs.Unique.{list-unique}
 use Rattle.math_rows.specs.Made.{reading}
 use Rattle.basis_record.specs.Record.{part}
 use Rattle.basis_record.proofs.Unique.{part-below}
-use Rattle.walk_chain.specs.Closed.{IsClosedAsks, OnePart}
-use mathlib.Core.Bool.{true, false}
+use Rattle.walk_closed.specs.Closed.{IsClosedAsks, OnePart}
+use mathlib.Core.Bool.{Bool, true, false}
 
 module _ {p : ℕ} (ρ : Reading p) (l : List ℕ) where
   open Reading ρ using (𝓥, cast)
@@ -66,3 +66,9 @@ module _ (p : ℕ) (B : List ℕ) where
 
   pub later-other : IsClosedAsks p B → (k : ℕ) → 103 ≤ k → k < 119 → getD B k 0 ≢ 0 → OnePart p B false
   later-other h k l u f pr e = f (ap (λ m. getD B m 0) (let q : k ≡ 102 + suc (k - 103) = omega arith in q) ∙ sym (at (suc (k - 103)) (omega arith)) ∙ ap (λ l. getD l (suc (k - 103)) 0) (is-unit h pr e) ∙ zeros-at 16 (k - 103))
+
+pub closed-unique : (p : ℕ) (pr : Prime p) (B : List ℕ) (a b : Bool) → OnePart p B a → OnePart p B b → a ≡ b
+closed-unique p pr B true true h k = refl
+closed-unique p pr B true false h k = absurd (k pr (h pr))
+closed-unique p pr B false true h k = absurd (h pr (k pr))
+closed-unique p pr B false false h k = refl

@@ -1,13 +1,13 @@
--- `step_divide::negate` meets its contract: each turn is `over-more`.
+-- `step_coordinates::negate` meets its contract: each turn is `over-more`.
 use Prim.Native.Nat.{_-_, _%_, _<_, _≤_}
 use mathlib.Core.Path.{_≡_, ap, _∙_}
 use native.Mathlib.Omega.{arith}
 use borrow.Author.Needs.{needs}
 use lib.ListN.{getD}
 use Rattle.poly_lent.proofs.Sums.{Over, over-start, over-more}
-use Rattle.step_divide.proofs.Negated.{negated}
-use Rattle.step_divide.proofs.negate.Statement.{statement}
-use Rattle.step_divide.proofs.negate.Tie as tie
+use Rattle.step_coordinates.proofs.Negated.{negated}
+use Rattle.step_coordinates.proofs.negate.Statement.{statement}
+use Rattle.step_coordinates.proofs.negate.Tie as tie
 
 abbrev Inv-loop : tie.InvT-loop
 Inv-loop p x₀ n i₀ x i = (i ≤ n) × Over 32 (λ j. (p - getD x₀ j 0) % p) x₀ x i

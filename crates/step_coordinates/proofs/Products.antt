@@ -32,7 +32,7 @@ use Rattle.basis_record.specs.Record.{setting}
 use Rattle.basis_record.specs.Seven.{Seven, rowAt, rowsOf, Holds}
 use Rattle.basis_lattice.specs.Coordinates.{Quotients, LengthsOfAsks}
 use Rattle.basis_lattice.proofs.Elements.{quot-of, times-g-is, times-h-is, times-gh-is}
-use Rattle.step_divide.specs.Generated.{GeneratorsAsks}
+use Rattle.step_coordinates.specs.Turns.{GeneratorsAsks}
 
 -- how large the i-th row of a good basis can be
 abbrev of : ℕ → ℕ → ℕ → Modulus

@@ -1,11 +1,15 @@
 -- r m and w m in coordinates, from the rows of a good basis.
+--   GeneratorsAsks        the rows hold the field of some G, H and a good basis of it; ie = −lead(GH) is the inverse of the leading coefficient of e;
+--                         cap is past the degree of G H, and so past every row
 --   TurnAsks              the rows of `GeneratorsAsks`, their lengths, and three zero rows to write into
 --   Says σ b v t        the rows t hold every coordinates of v
 --   turned_r, turned_w  TurnedR, TurnedW: the coordinates of r m and w m, with their lengths
 --   negate              Negated: − x, of the same length
+-- In proofs/Once: `turned-r-unique`, `turned-w-unique`, `negated-unique`, one outcome for each input (of `negate` for a prime p).
 use mathlib.Core.Path.{_≡_}
 use mathlib.Core.List.{List}
-use Prim.Native.Nat.{ℕ}
+use Prim.Native.Nat.{ℕ, _+_, _-_, _<_, _≤_}
+use lib.ListN.{getD}
 use Rattle.num_mod.specs.Residue.{IsModulus}
 use Rattle.math_rows.specs.Row.{Row, Size}
 use Rattle.poly_rows.specs.Leaf.{Opposite}
@@ -13,13 +17,27 @@ use Rattle.num_mod.specs.Prepared.{Prepared}
 use Rattle.num_mod.specs.declared.Modulus.{Modulus}
 use Rattle.math_ideals.specs.Element.{O, times-r, times-w}
 use Rattle.math_ideals.specs.Ideal.{Coords}
+use Rattle.math_ideals.specs.Basis.{Good}
 use Rattle.field_open.specs.Refusal.{Accepted}
 use Rattle.basis_record.specs.Record.{setting, polyOf}
-use Rattle.basis_record.specs.Seven.{Seven, rowsOf, Holds, Three, Blank}
+use Rattle.basis_record.specs.Seven.{Seven, AreRows, rowsOf, Holds, Three, Blank}
 use Rattle.basis_lattice.specs.Coordinates.{Found, AreSpans}
 use Rattle.basis_lattice.specs.declared.Spans.{Spans}
 use Rattle.basis_lattice.specs.declared.Lengths.{Lengths}
-use Rattle.step_divide.specs.Generated.{GeneratorsAsks}
+
+pub record GeneratorsAsks (p cap : ℕ) (g h gh : List ℕ) (ie : ℕ) (b : Seven) : Type 0 where
+  pub hg : Row p g
+  pub hh : Row p h
+  pub hgh : Row p gh
+  pub rows : AreRows p b
+  pub inverse : (n : ℕ) → Size gh n → ie ≡ p - getD gh (n - 1) 0
+  pub G : List ℕ
+  pub H : List ℕ
+  pub σ : Accepted p G H
+  pub holds : Holds σ g h gh
+  pub good : Good (setting σ) (rowsOf σ b)
+  pub past : σ .degG + σ .degH < cap
+  pub fits : cap ≤ 32
 
 pub record TurnAsks (q : Modulus) (g h gh : List ℕ) (lk : ℕ) (b : Seven) (l : Lengths) (e : List ℕ) (ie : ℕ) (o : Three) : Type 0 where
   pub cap : ℕ

@@ -1,9 +1,9 @@
--- `step_divide::coordinates_of_rm` meets its contract.
+-- `step_coordinates::coordinates_of_rm` meets its contract.
 use mathlib.Core.Path.{refl}
-use Rattle.step_divide.proofs.Products.{by-h, by-gh, m1-by, m2-by}
-use Rattle.step_divide.proofs.Generate.{x-in, turned-r}
-use Rattle.step_divide.proofs.coordinates_of_rm.Statement.{statement}
-use Rattle.step_divide.proofs.coordinates_of_rm.Tie as tie
+use Rattle.step_coordinates.proofs.Products.{by-h, by-gh, m1-by, m2-by}
+use Rattle.step_coordinates.proofs.Turned.{x-in, turned-r}
+use Rattle.step_coordinates.proofs.coordinates_of_rm.Statement.{statement}
+use Rattle.step_coordinates.proofs.coordinates_of_rm.Tie as tie
 
 times-in-requires : tie.Need-times-in-requires
 times-in-requires c κs =

@@ -4,9 +4,9 @@ use Prim.Native.Nat.{ℕ, _+_, _-_, _≤_, _<_}
 use native.Mathlib.Omega.{arith}
 use native.Mathlib.Decide.{ℕ-discrete}
 use lib.ListN.{getD}
-use Rattle.walk_chain.proofs.One.{part-one, first-other, later-other}
-use Rattle.walk_chain.proofs.is_closed.Statement.{statement}
-use Rattle.walk_chain.proofs.is_closed.Tie as tie
+use Rattle.walk_closed.proofs.One.{part-one, first-other, later-other}
+use Rattle.walk_closed.proofs.is_closed.Statement.{statement}
+use Rattle.walk_closed.proofs.is_closed.Tie as tie
 
 abbrev Inv-loop : tie.InvT-loop
 Inv-loop p b k₀ k = (103 ≤ k) × (k ≤ 119) × (getD b 102 0 ≡ 1) × ((j : ℕ) → 103 ≤ j → j < k → getD b j 0 ≡ 0)

@@ -1,13 +1,13 @@
--- `step_next::parted` meets its contract.
+-- `step_part::parted` meets its contract.
 use mathlib.Core.Path.{refl}
 use native.Mathlib.Omega.{arith}
 use borrow.Author.Needs.{needs}
 use Rattle.basis_record.specs.Seven.{seven}
 use Rattle.basis_record.specs.Store.{Loaded, SevenLoaded}
 use Rattle.basis_record.proofs.Sevens.{each-of-seven}
-use Rattle.step_next.proofs.Made.{lead-low, divided-in, n-small, g-size, h-size, gh-size, dr-low, dw-low, degrees-small, shorter}
-use Rattle.step_next.proofs.parted.Statement.{statement}
-use Rattle.step_next.proofs.parted.Tie as tie
+use Rattle.step_part.proofs.Loaded.{lead-low, divided-in, n-small, g-size, h-size, gh-size, dr-low, dw-low, degrees-small, shorter}
+use Rattle.step_part.proofs.parted.Statement.{statement}
+use Rattle.step_part.proofs.parted.Tie as tie
 
 -- the seven rows
 seven-loaded : (c : tie.After-load7) → SevenLoaded (c .before .before .before .before .before .before .before .args .b .now) (seven

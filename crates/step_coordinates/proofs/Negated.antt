@@ -11,7 +11,7 @@ use Rattle.math_rows.specs.Row.{tab}
 use Rattle.math_rows.proofs.Tab.{at-tab, length-tab}
 use Rattle.poly_rows.proofs.Leaf.{opposite}
 use Rattle.poly_lent.proofs.Sums.{Over}
-use Rattle.step_divide.specs.Turns.{NegateAsks, Negated}
+use Rattle.step_coordinates.specs.Turns.{NegateAsks, Negated}
 
 module _ {p : ℕ} {x : List ℕ} {n : ℕ} (h : NegateAsks p x n) where
   pub negated : {o : List ℕ} (i : ℕ) → i ≡ n → Over 32 (λ j. (p - getD x j 0) % p) x o i → Negated p x o n
