@@ -7,7 +7,7 @@ use lib.ListN.{length, take, drop}
 use Rattle.book_bytes.specs.Bytes.{Bytes}
 use Rattle.base_answers.specs.Said.{passed, refused}
 use Rattle.book_check.specs.Answer.{reasonSays}
-use Rattle.book_check.specs.declared.Reason.{Reason}
+use Rattle.book_judge.specs.declared.Reason.{Reason}
 use Rattle.book_add.specs.Add.{AddTells, book, body, known, short, added}
 use Rattle.book_may.specs.May.{VerdictTells}
 use Rattle.book_put.specs.Code.{newLength, newBytes, Place}

@@ -12,8 +12,8 @@ use Rattle.base_answers.specs.Said.{Said}
 use Rattle.book_body.specs.Body.{Finished}
 use Rattle.book_check.specs.Book.{Accepted}
 use Rattle.book_check.proofs.One.{tells-unique, body-unique, finished-no, reason, reasonOf, reason-unique}
-use Rattle.book_check.specs.declared.Reason.{Reason}
-use Rattle.book_check.specs.declared.Reason.the-variants.{Mark, Contents, BodyRule, Field, Twice}
+use Rattle.book_judge.specs.declared.Reason.{Reason}
+use Rattle.book_judge.specs.declared.Reason.the-variants.{Mark, Contents, BodyRule, Field, Twice}
 use Rattle.book_may.specs.May.{VerdictTells}
 use Rattle.book_add.specs.declared.Added.{Added}
 use Rattle.book_add.specs.declared.Added.the-variants.{Length, LengthOut, Refused, Known, Short}

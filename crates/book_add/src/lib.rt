@@ -1,15 +1,15 @@
 // Adding a finished body to a book of units in a lent slice.
-use book_may::may_add;
 use book_may::Verdict;
-use book_put::put_body;
+use book_may::may_add;
 use book_put::WIDTH;
+use book_put::put_body;
 ghost use Rattle.book_add.specs.Add.{addedSays, AddTells};
 
 // The answer to adding a body: the book's new length; 14; 13 with the reason; 15; 11.
 pub enum Added {
     Length(usize),
     LengthOut,
-    Refused(book_check::Reason),
+    Refused(book_judge::Reason),
     Known,
     Short,
 }

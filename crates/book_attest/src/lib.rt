@@ -5,7 +5,7 @@ ghost use Rattle.book_attest.specs.Attest.{attestSays, AttestTells};
 pub enum Attestation {
     Yes,
     No,
-    Refused(book_check::Reason),
+    Refused(book_judge::Reason),
     NoEntry,
 }
 

@@ -7,14 +7,15 @@ use native.Mathlib.Omega.{arith}
 use Rattle.book_body.specs.Body.{FieldSays, bodyOf, Formed, Finished}
 use Rattle.book_check.specs.Book.{count, Accepted}
 use Rattle.book_check.specs.Answer.{reasonSays, answerSays, BodyFault, Tells}
-use Rattle.book_check.specs.Code.{Earliest, JudgeTells}
+use Rattle.book_first.specs.Earliest.{Earliest}
+use Rattle.book_judge.specs.Reasons.{JudgeTells}
 use Rattle.book_check.proofs.Facts.{judge-bad}
 use Rattle.book_check.proofs.Asking.{refused-of, refused-no}
-use Rattle.book_check.specs.declared.Reason.{Reason}
+use Rattle.book_judge.specs.declared.Reason.{Reason}
 use Rattle.book_check.specs.declared.Answer.{Answer}
 use Rattle.book_check.specs.declared.Answer.the-variants.{Refused}
-use Rattle.book_check.specs.declared.Seen.{Seen}
-use Rattle.book_check.specs.declared.Seen.the-variants.{Bad}
+use Rattle.book_judge.specs.declared.Seen.{Seen}
+use Rattle.book_judge.specs.declared.Seen.the-variants.{Bad}
 use Rattle.book_may.specs.May.{VerdictTells}
 use Rattle.book_may.specs.declared.Verdict.the-variants.{May, No, Has}
 

@@ -4,7 +4,7 @@ ghost use Rattle.book_may.specs.May.{VerdictTells};
 // May the body be added: yes, with the number of bodies in the book; 13 with the reason; 15.
 pub enum Verdict {
     May(usize),
-    No(book_check::Reason),
+    No(book_judge::Reason),
     Has,
 }
 
@@ -16,16 +16,16 @@ pub fn may_add(s: &[u8], b: &[u8]) -> Verdict
     match a {
         book_check::Answer::Yes => {
             let c = book_contents::bodies(s);
-            let own = book_check::judge(b, c);
+            let own = book_judge::judge(b, c);
             match own {
-                book_check::Seen::Good => {
-                    let j = book_check::earlier(s, b, c);
+                book_judge::Seen::Good => {
+                    let j = book_first::earlier(s, b, c);
                     if j < c {
                         return Verdict::Has;
                     }
                     Verdict::May(c)
                 }
-                book_check::Seen::Bad(why) => Verdict::No(why),
+                book_judge::Seen::Bad(why) => Verdict::No(why),
             }
         }
         book_check::Answer::Refused(why) => Verdict::No(why),

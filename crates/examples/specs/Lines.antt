@@ -31,7 +31,7 @@ use Rattle.door_unit.specs.declared.UnitAnswer.{UnitAnswer}
 use Rattle.book_check.specs.Answer.{answerSays, Tells}
 use Rattle.book_check.specs.declared.Answer.{Answer}
 use Rattle.book_check.specs.declared.Answer.the-variants.{Yes, Refused}
-use Rattle.book_check.specs.declared.Reason.the-variants.{Mark}
+use Rattle.book_judge.specs.declared.Reason.the-variants.{Mark}
 use Rattle.examples_tests.specs.Rows.{Rows, stored}
 
 pub record Input : Type 0 where

@@ -1,4 +1,4 @@
--- What the code's own functions promise each other.
+-- The numbers and the lists of a body as bytes: what `put_head` and `put_lists` ask and write.
 --   headBytes p g h a b c t   the numbers of a body: p, the lengths of its lists, the period
 --   Head d p .. t             they fit, and d has room for them
 --   listBytes g h a b c       the five lists of a body, and listLong their length in bytes

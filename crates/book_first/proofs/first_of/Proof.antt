@@ -1,12 +1,12 @@
--- `book_check::first_of` meets its contract.
+-- `book_first::first_of` meets its contract.
 use mathlib.Core.Logic.{⊎-elim}
 use Prim.Native.Nat.{_-_}
 use native.Mathlib.Omega.{arith}
 use borrow.Author.Needs.{needs}
 use Rattle.book_field.specs.Code.{pairOf}
-use Rattle.book_check.proofs.Search.{Search, start, hit, miss, end, sold-here}
-use Rattle.book_check.proofs.first_of.Statement.{statement}
-use Rattle.book_check.proofs.first_of.Tie as tie
+use Rattle.book_first.proofs.Search.{Search, start, hit, miss, end, sold-here}
+use Rattle.book_first.proofs.first_of.Statement.{statement}
+use Rattle.book_first.proofs.first_of.Tie as tie
 
 abbrev Inv-loop : tie.InvT-loop
 Inv-loop s p g h i r₀ j₀ r j = Search s (pairOf p g h) i r j

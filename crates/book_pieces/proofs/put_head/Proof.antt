@@ -1,8 +1,8 @@
--- `book_write::put_head` meets its contract.
-use Rattle.book_write.proofs.Pieces.{head-put}
+-- `book_pieces::put_head` meets its contract.
+use Rattle.book_pieces.proofs.Put.{head-put}
 use borrow.Author.Needs.{needs}
-use Rattle.book_write.proofs.put_head.Statement.{statement}
-use Rattle.book_write.proofs.put_head.Tie as tie
+use Rattle.book_pieces.proofs.put_head.Statement.{statement}
+use Rattle.book_pieces.proofs.put_head.Tie as tie
 
 put-two-requires : tie.Need-put-two-requires
 put-two-requires c κs = search needs

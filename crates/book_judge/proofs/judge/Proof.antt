@@ -1,12 +1,12 @@
--- `book_check::judge` meets its contract.
+-- `book_judge::judge` meets its contract.
 use borrow.Author.Tests.{not-true, not-false}
 use Rattle.book_body.specs.Body.{FieldSays, bodyOf}
-use Rattle.book_check.specs.Answer.{rule, field}
+use Rattle.book_judge.specs.Reasons.{rule, field}
 use Prim.Native.Nat.{ℕ}
 use mathlib.Core.Path.{refl, subst}
 use borrow.Author.Needs.{needs}
-use Rattle.book_check.proofs.judge.Statement.{statement}
-use Rattle.book_check.proofs.judge.Tie as tie
+use Rattle.book_judge.proofs.judge.Statement.{statement}
+use Rattle.book_judge.proofs.judge.Tie as tie
 
 body-rule-requires : tie.Need-body-rule-requires
 body-rule-requires c κs = search needs

@@ -12,8 +12,8 @@ use Rattle.book_bytes.specs.Bytes.{u2}
 use Rattle.book_body.specs.Body.{Body, FieldSays, OneField, listAt, bodyOf}
 use Rattle.book_field.specs.Code.{pairOf, Sold}
 use Rattle.book_field.proofs.Compare.{own-sold, own-field, field-own}
-use Rattle.book_check.specs.Book.{part, entry}
-use Rattle.book_check.specs.Code.{EarlierAsks, FirstOfAsks, Earliest}
+use Rattle.book_contents.specs.Contents.{part}
+use Rattle.book_first.specs.Earliest.{entry, EarlierAsks, FirstOfAsks, Earliest}
 
 pub record Search (s : List ℕ) (b : Body) (i r j : ℕ) : Type 0 where
   pub within : r ≤ i

@@ -1,4 +1,4 @@
--- `book_check::earlier` meets its contract: the body's two lists are at most 13 long, and what is read of them stands for the body.
+-- `book_first::earlier` meets its contract: the body's two lists are at most 13 long, and what is read of them stands for the body.
 use mathlib.Core.Path.{sym}
 use native.Mathlib.Omega.{arith}
 use lib.Seq.{length-take-le}
@@ -6,9 +6,9 @@ use borrow.Author.Needs.{needs}
 use Rattle.base_lists.proofs.Puts.{front-is}
 use Rattle.book_body.specs.Body.{listAt}
 use Rattle.book_field.proofs.Compare.{short-g, short-h}
-use Rattle.book_check.proofs.Search.{search-own, earliest-own}
-use Rattle.book_check.proofs.earlier.Statement.{statement}
-use Rattle.book_check.proofs.earlier.Tie as tie
+use Rattle.book_first.proofs.Search.{search-own, earliest-own}
+use Rattle.book_first.proofs.earlier.Statement.{statement}
+use Rattle.book_first.proofs.earlier.Tie as tie
 
 two-requires : tie.Need-two-requires
 two-requires c κs = search needs

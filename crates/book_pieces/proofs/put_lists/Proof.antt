@@ -1,8 +1,8 @@
--- `book_write::put_lists` meets its contract.
-use Rattle.book_write.proofs.Pieces.{lists-put}
+-- `book_pieces::put_lists` meets its contract.
+use Rattle.book_pieces.proofs.Put.{lists-put}
 use borrow.Author.Needs.{needs}
-use Rattle.book_write.proofs.put_lists.Statement.{statement}
-use Rattle.book_write.proofs.put_lists.Tie as tie
+use Rattle.book_pieces.proofs.put_lists.Statement.{statement}
+use Rattle.book_pieces.proofs.put_lists.Tie as tie
 
 put-list-requires : tie.Need-put-list-requires
 put-list-requires c κs = search needs
