@@ -24,7 +24,7 @@ use Rattle.door_walk.specs.declared.PeriodAnswer.{PeriodAnswer}
 use Rattle.door_walk.specs.Order as walks
 use Rattle.door_unit.specs.declared.UnitAnswer.{UnitAnswer}
 use Rattle.door_unit.specs.Unit as unit
-use Rattle.unit_make.specs.Rows.{six}
+use Rattle.unit_finish.specs.Rows.{six}
 use Rattle.book_check.proofs.Value.{book-back, book-obeys}
 use Rattle.book_check.proofs.Written.{writing-accepted, written-count, reads-back, one-value}
 use Rattle.demands.specs.Meaning.{BackFirst, Demand2}

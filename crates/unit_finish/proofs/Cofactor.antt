@@ -28,9 +28,9 @@ use Rattle.poly_long.specs.Long.{Stored}
 use Rattle.unit_rows.specs.Six.{cut}
 use Rattle.unit_rows.proofs.Multiply.{cut-same}
 use Rattle.unit_inverse.specs.Inverse.{element, InvertAsks, Inverted}
-use Rattle.unit_make.specs.Rows.{six}
-use Rattle.unit_make.specs.Making.{InvertedAsks, Inverses}
-use Rattle.unit_make.proofs.Turning.{storable, row-stored, six-path}
+use Rattle.unit_finish.specs.Rows.{six}
+use Rattle.unit_finish.specs.Finish.{InvertedAsks, Inverses}
+use Rattle.unit_finish.proofs.Stored.{storable, row-stored, six-path}
 
 -- - G H
 pub minus-in : {p : ℕ} {G H g h gh : List ℕ} {dr dw : ℕ} {r w : List ℕ} → Keeps p G H g h gh dr dw r w → Given p gh

@@ -16,7 +16,7 @@ use Rattle.math_chain.proofs.Exists.{order-exists}
 use Rattle.math_chain.proofs.Unit.{unit-unique}
 use Rattle.basis_record.specs.Record.{setting, polyOf}
 use Rattle.unit_rows.specs.Six.{cut}
-use Rattle.unit_make.specs.Rows.{six, Holds}
+use Rattle.unit_finish.specs.Rows.{six, Holds}
 
 -- the numbers of a row
 pub cut-below : {p : ℕ} (at c : ℕ) (l : List ℕ) → ((i : ℕ) → getD l i 0 < p) → (i : ℕ) → getD (cut at c l) i 0 < p

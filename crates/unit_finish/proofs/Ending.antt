@@ -1,6 +1,6 @@
 -- From the product to the unit: E made monic, and its inverse.
 --   closing-fit     the product at a closing, scaled: its norm is a unit, and half its degree bounds the cofactor
---   scaled-six      what `unit_rows::monic` hands out is a constant times the product
+--   scaled-six      what `unit_monic::monic` hands out is a constant times the product
 --   monic-in        what `monic` asks
 --   inverse-in      what `inverted` asks after it
 --   holds           the six rows hold the unit and its inverse
@@ -42,10 +42,10 @@ use Rattle.math_chain.proofs.Unit.{norm-unit, inverse-cof, half, closing-unit, 
 use Rattle.basis_record.specs.Record.{setting, basisOf}
 use Rattle.poly_long.proofs.Low.{scale-law}
 use Rattle.unit_rows.specs.Six.{cut}
-use Rattle.unit_make.specs.Rows.{six}
-use Rattle.unit_make.specs.Making.{Along}
-use Rattle.unit_make.proofs.Turning.{list-top, six-path}
-use Rattle.unit_make.proofs.Rows.{cut-below}
+use Rattle.unit_finish.specs.Rows.{six}
+use Rattle.unit_finish.specs.Finish.{Along}
+use Rattle.unit_finish.proofs.Stored.{list-top, six-path}
+use Rattle.unit_finish.proofs.Rows.{cut-below}
 
 -- ---- at a closing
 module _ (S : Setting) (B₀ : Basis S) (st : Start S B₀) {l n : ℕ} {B : Basis S} (k : Closing S B₀ l n B) (E₁ : O S .El) (h : Product S (k .chain) E₁) where

@@ -3,9 +3,9 @@ use Prim.Native.Nat.{_≤_, _<_, _-_}
 use mathlib.Core.Path.{_∙_, ap, refl}
 use native.Mathlib.Omega.{arith}
 use lib.ListN.{length, length-replicate}
-use Rattle.unit_make.proofs.Finishing.{monic-in, inverse-in, finishes}
-use Rattle.unit_make.proofs.finished.Statement.{statement}
-use Rattle.unit_make.proofs.finished.Tie as tie
+use Rattle.unit_finish.proofs.Finishing.{monic-in, inverse-in, finishes}
+use Rattle.unit_finish.proofs.finished.Statement.{statement}
+use Rattle.unit_finish.proofs.finished.Tie as tie
 
 add-monic : tie.Need-add-monic
 add-monic c =

@@ -3,10 +3,10 @@ use Prim.Native.Nat.{_-_}
 use mathlib.Core.Path.{_∙_, ap}
 use lib.ListN.{length, length-replicate}
 use borrow.Author.Needs.{needs}
-use Rattle.unit_make.proofs.Turning.{stored-g, stored-h, stored-gh}
-use Rattle.unit_make.proofs.Cofactor.{minus-in, stored-minus, invert-in, inverses}
-use Rattle.unit_make.proofs.inverted.Statement.{statement}
-use Rattle.unit_make.proofs.inverted.Tie as tie
+use Rattle.unit_finish.proofs.Stored.{stored-g, stored-h, stored-gh}
+use Rattle.unit_finish.proofs.Cofactor.{minus-in, stored-minus, invert-in, inverses}
+use Rattle.unit_finish.proofs.inverted.Statement.{statement}
+use Rattle.unit_finish.proofs.inverted.Tie as tie
 
 minus-requires : tie.Need-minus-requires
 minus-requires c κs = minus-in (c .before .before .before .before .before .before .before .pre .known .kept)

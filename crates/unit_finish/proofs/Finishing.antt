@@ -1,5 +1,5 @@
 -- What `finished` and the loop ask of their parts and hand out.
---   monic-in      what `unit_rows::monic` asks of the rows that hold the product
+--   monic-in      what `unit_monic::monic` asks of the rows that hold the product
 --   inverse-in    what `inverted` asks after it
 --   finishes      so the six rows hold the unit and its inverse
 use mathlib.Core.Path.{_≡_, sym, ap, _∙_, subst}
@@ -12,12 +12,12 @@ use Rattle.field_open.specs.Refusal.{Accepted}
 use Rattle.math_chain.specs.Unit.{UnitOf}
 use Rattle.math_chain.proofs.Closing.{start-unique}
 use Rattle.basis_record.specs.Record.{setting, basisOf}
-use Rattle.unit_rows.specs.Six.{MonicAsks, MonicMade}
+use Rattle.unit_monic.specs.Monic.{MonicAsks, MonicMade}
 use Rattle.field_series.specs.declared.OpenedField.{OpenedField}
-use Rattle.unit_make.specs.Rows.{six, Holds}
-use Rattle.unit_make.specs.Making.{InvertedAsks, Inverses, FinishedAsks, Finishes}
-use Rattle.unit_make.proofs.Turning.{storable}
-use Rattle.unit_make.proofs.Ending.{top-some, fits-at, unit-at, unit-of}
+use Rattle.unit_finish.specs.Rows.{six, Holds}
+use Rattle.unit_finish.specs.Finish.{InvertedAsks, Inverses, FinishedAsks, Finishes}
+use Rattle.unit_finish.proofs.Stored.{storable}
+use Rattle.unit_finish.proofs.Ending.{top-some, fits-at, unit-at, unit-of}
 
 module _ (f : OpenedField) (c d : ℕ) (rows s : List ℕ) (t : FinishedAsks f c d rows s) where
   abbrev p : ℕ

@@ -1,16 +1,16 @@
--- `unit_rows::monic` meets its contract: proofs/InPlace.antt.
+-- `unit_monic::monic` meets its contract: proofs/InPlace.antt.
 use Prim.Native.Nat.{ℕ, zero, suc, _≤_, _<_, _-_, _*_, _+_, _%_}
 use mathlib.Core.Path.{_≡_, _∙_, sym, ap, ap₂, refl, subst}
 use mathlib.Core.List.{List, [], _∷_, _++_}
 use native.Mathlib.Omega.{arith}
 use native.Mathlib.Numerals.{add-one}
 use lib.ListN.{length, length-set, getD, set, replicate, take, drop}
-use Rattle.unit_rows.proofs.InPlace.{monic-asks, monic-made}
+use Rattle.unit_monic.proofs.InPlace.{monic-asks, monic-made}
 use borrow.Author.Needs.{needs}
-use Rattle.unit_rows.proofs.monic.Statement.{statement}
-use Rattle.unit_rows.proofs.monic.Tie as tie
-use Rattle.unit_rows.proofs.monic.Reads as reads
-use Rattle.unit_rows.proofs.monic.Lts as lts
+use Rattle.unit_monic.proofs.monic.Statement.{statement}
+use Rattle.unit_monic.proofs.monic.Tie as tie
+use Rattle.unit_monic.proofs.monic.Reads as reads
+use Rattle.unit_monic.proofs.monic.Lts as lts
 use Rattle.poly_long.proofs.scale.Reads as scale-reads
 use Rattle.num_mod.proofs.inverse.Reads as inverse-reads
 use Rattle.base_lists.proofs.wide.Reads as wide-reads
