@@ -1,9 +1,9 @@
--- `field_open::both_free` meets its contract.
+-- `field_factors::both_free` meets its contract.
 use borrow.Author.Needs.{needs}
 use borrow.Author.Tests.{not-true, not-false}
-use Rattle.field_open.proofs.Factors.{not-left, by-right}
-use Rattle.field_open.proofs.both_free.Statement.{statement}
-use Rattle.field_open.proofs.both_free.Tie as tie
+use Rattle.field_factors.proofs.Tests.{not-left, by-right}
+use Rattle.field_factors.proofs.both_free.Statement.{statement}
+use Rattle.field_factors.proofs.both_free.Tie as tie
 
 squarefree-requires : tie.Need-squarefree-requires
 squarefree-requires c κs = search needs

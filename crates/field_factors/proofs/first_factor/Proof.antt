@@ -1,8 +1,8 @@
--- `field_open::first_factor` meets its contract.
+-- `field_factors::first_factor` meets its contract.
 use borrow.Author.Tests.{not-true, not-false}
-use Rattle.field_open.proofs.Factors.{is-seven, is-eight, is-none}
-use Rattle.field_open.proofs.first_factor.Statement.{statement}
-use Rattle.field_open.proofs.first_factor.Tie as tie
+use Rattle.field_factors.proofs.Tests.{is-seven, is-eight, is-none}
+use Rattle.field_factors.proofs.first_factor.Statement.{statement}
+use Rattle.field_factors.proofs.first_factor.Tie as tie
 
 returns : tie.Need-returns
 returns c = is-seven (c .before .args .free) (c .before .args .apart) (not-true _ (c .if1 .taken))
