@@ -32,7 +32,7 @@ use Rattle.basis_record.specs.Seven.{Seven, seven, rowAt, AreRows, rowsOf}
 use Rattle.basis_record.specs.Store.{Loaded, SevenLoaded}
 use Rattle.basis_record.proofs.Sevens.{every, each-of-seven}
 use Rattle.basis_record.proofs.Loads.{rows-path, rows-good}
-use Rattle.step_divide.proofs.Products.{Sizes, sizes}
+use Rattle.step_coordinates.proofs.Products.{Sizes, sizes}
 use Rattle.basis_scale.proofs.Start.{meaning}
 use Rattle.basis_field.proofs.Keeps.{rows-hold, g-row, h-row, gh-row, holds-of, r-series, w-series, modulus, dr-is, dw-is, room}
 use Rattle.basis_field.proofs.Ground.{frameOf, frame-is, frame-by, fine}

@@ -15,10 +15,11 @@ use Rattle.book_check.specs.Value.{bookBytes, valueOf, none, at, Obeys}
 use Rattle.book_check.proofs.Value.{length-rows, at-rows, book-obeys}
 use Rattle.book_check.proofs.Written.{writing-accepted, value-back}
 use Rattle.book_check.proofs.Facts.{told-fine, body-thirteen}
-use Rattle.book_add.specs.Add.{Unlisted, newLength, newBook, AddTells, length-out, book, body, known, short, added}
-use Rattle.book_add.specs.Code.{lineEnd, lines}
+use Rattle.book_may.specs.May.{Unlisted}
+use Rattle.book_put.specs.Code.{newLength, lineEnd, lines}
+use Rattle.book_add.specs.Add.{newBook, AddTells, length-out, book, body, known, short, added}
 use Rattle.book_add.proofs.New.{low, new-book}
-use Rattle.book_add.proofs.Put.{bytes-take}
+use Rattle.book_add.proofs.Front.{bytes-take}
 
 lines-long : (s : List ℕ) (at i : ℕ) → length (lines s at i) ≡ 8 * i
 unfolding lines le

@@ -7,12 +7,13 @@ use lib.ListN.{length, take, drop}
 use Rattle.book_bytes.specs.Bytes.{Bytes}
 use Rattle.base_answers.specs.Said.{passed, refused}
 use Rattle.book_check.specs.Answer.{reasonSays}
-use Rattle.book_check.specs.declared.Reason.{Reason}
-use Rattle.book_add.specs.Add.{newLength, AddTells, book, body, known, short, added}
-use Rattle.book_add.specs.Code.{newBytes, Place, VerdictTells}
-use Rattle.book_add.specs.declared.Verdict.{Verdict}
-use Rattle.book_add.specs.declared.Verdict.the-variants.{May, No, Has}
-use Rattle.book_add.proofs.Put.{place-of, new-of}
+use Rattle.book_judge.specs.declared.Reason.{Reason}
+use Rattle.book_add.specs.Add.{AddTells, book, body, known, short, added}
+use Rattle.book_may.specs.May.{VerdictTells}
+use Rattle.book_put.specs.Code.{newLength, newBytes, Place}
+use Rattle.book_may.specs.declared.Verdict.{Verdict}
+use Rattle.book_may.specs.declared.Verdict.the-variants.{May, No, Has}
+use Rattle.book_add.proofs.Front.{place-of, new-of}
 
 module _ (d : List ℕ) (n : ℕ) (b : List ℕ) (v : Verdict) (h : n ≤ length d) (t : VerdictTells (take n d) b v) where
   pub no-of : (why : Reason) → v ≡ No why → AddTells d n b (reasonSays why) d

@@ -1,8 +1,5 @@
-pub mod Sets
-pub mod Lines
-pub mod May
 pub mod New
-pub mod Put
+pub mod Front
 pub mod Adding
 pub mod One
 pub mod Accepted

@@ -15,7 +15,7 @@ use Rattle.book_check.specs.Value.{table, bodies, bookBytes, rows, valueOf}
 use Rattle.book_contents.proofs.Contents.{ends-zero, ends-more, inside}
 use Rattle.book_check.proofs.Value.{length-rows, part-long, bodies-back}
 use Rattle.book_add.specs.Add.{newBook}
-use Rattle.book_add.specs.Code.{lineEnd, lines}
+use Rattle.book_put.specs.Code.{lineEnd, lines}
 
 -- ---- one more body
 rows-snoc : (s : List ℕ) (i k : ℕ) → rows s i (suc k) ≡ rows s i k ++ (entry s (i + k) ∷ [])

@@ -12,14 +12,15 @@ use Rattle.base_answers.specs.Said.{Said}
 use Rattle.book_body.specs.Body.{Finished}
 use Rattle.book_check.specs.Book.{Accepted}
 use Rattle.book_check.proofs.One.{tells-unique, body-unique, finished-no, reason, reasonOf, reason-unique}
-use Rattle.book_check.specs.declared.Reason.{Reason}
-use Rattle.book_check.specs.declared.Reason.the-variants.{Mark, Contents, BodyRule, Field, Twice}
-use Rattle.book_add.specs.Code.{VerdictTells}
+use Rattle.book_judge.specs.declared.Reason.{Reason}
+use Rattle.book_judge.specs.declared.Reason.the-variants.{Mark, Contents, BodyRule, Field, Twice}
+use Rattle.book_may.specs.May.{VerdictTells}
 use Rattle.book_add.specs.declared.Added.{Added}
 use Rattle.book_add.specs.declared.Added.the-variants.{Length, LengthOut, Refused, Known, Short}
-use Rattle.book_add.specs.declared.Verdict.{Verdict}
-use Rattle.book_add.specs.declared.Verdict.the-variants.{May, No, Has}
-use Rattle.book_add.specs.Add.{addedSays, AddTells, newLength, length-out, book, body, known, short, added}
+use Rattle.book_may.specs.declared.Verdict.{Verdict}
+use Rattle.book_may.specs.declared.Verdict.the-variants.{May, No, Has}
+use Rattle.book_put.specs.Code.{newLength}
+use Rattle.book_add.specs.Add.{addedSays, AddTells, length-out, book, body, known, short, added}
 
 -- ---- the code's answer out of the numbers: 0, 11, 13, 14 and 15
 abbrev answer : ℕ → ℕ → Reason → Added

@@ -1,2 +1,1 @@
 pub mod Add
-pub mod Code

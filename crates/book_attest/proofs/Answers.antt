@@ -9,10 +9,11 @@ use Rattle.book_check.specs.Book.{count, part, Accepted}
 use Rattle.book_check.specs.Answer as asking
 use Rattle.book_check.specs.Answer.{reasonSays, requestSays, Tells, AskTells}
 use Rattle.book_check.proofs.Facts.{thirteen, fault-thirteen}
-use Rattle.book_check.specs.declared.Reason.{Reason}
+use Rattle.book_judge.specs.declared.Reason.{Reason}
 use Rattle.book_check.specs.declared.Request.{Request}
 use Rattle.book_check.specs.declared.Request.the-variants as asked
-use Rattle.book_attest.specs.Attest.{Attested, AttestTells, book, no-entry, yes, no}
+use Rattle.book_norm.specs.Attested.{Attested}
+use Rattle.book_attest.specs.Attest.{AttestTells, book, no-entry, yes, no}
 
 number-of : {x y : Said} → x ≡ y → x .number ≡ y .number
 number-of = ap (λ (z : Said). z .number)

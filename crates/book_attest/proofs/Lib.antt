@@ -1,4 +1,2 @@
-pub mod Norms
-pub mod Bodies
 pub mod Answers
 pub mod One

@@ -7,8 +7,8 @@ use Prim.Native.Nat.{ℕ, zero, suc, _-_}
 use native.Mathlib.Omega.{arith}
 use Rattle.base_answers.specs.Said.{Said}
 use Rattle.book_check.proofs.One.{tells-unique, reason, reasonOf}
-use Rattle.book_check.specs.declared.Reason.{Reason}
-use Rattle.book_check.specs.declared.Reason.the-variants.{Mark, Contents, BodyRule, Field, Twice}
+use Rattle.book_judge.specs.declared.Reason.{Reason}
+use Rattle.book_judge.specs.declared.Reason.the-variants.{Mark, Contents, BodyRule, Field, Twice}
 use Rattle.book_attest.specs.Attest.{attestSays, AttestTells, book, no-entry, yes, no}
 use Rattle.book_attest.specs.declared.Attestation.{Attestation}
 use Rattle.book_attest.specs.declared.Attestation.the-variants.{Yes, No, Refused, NoEntry}

@@ -1,2 +1,1 @@
 pub mod Attest
-pub mod Code

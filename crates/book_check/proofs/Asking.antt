@@ -9,7 +9,7 @@ use Rattle.book_check.specs.Answer.{reasonSays, answerSays, requestSays,
 use Rattle.book_contents.specs.Contents.{Ready}
 use Rattle.book_check.proofs.Facts.{told-fine, thirteen}
 use Rattle.book_check.proofs.One.{accepted-fine}
-use Rattle.book_check.specs.declared.Reason.{Reason}
+use Rattle.book_judge.specs.declared.Reason.{Reason}
 use Rattle.book_check.specs.declared.Answer.{Answer}
 use Rattle.book_check.specs.declared.Answer.the-variants.{Yes, Refused}
 use Rattle.book_check.specs.declared.Request.{Request}

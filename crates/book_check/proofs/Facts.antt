@@ -12,11 +12,13 @@ use Rattle.book_body.specs.Body.{FieldSays, OneField, bodyOf, Formed}
 use Rattle.book_check.specs.Book.{mark, Marked, Listed, count, startAt, lengthAt, ends, part, entry, Sound, Accepted}
 use Rattle.book_check.specs.Answer as says
 use Rattle.book_check.specs.Answer.{reasonSays, BodyFault, Fault, Tells}
-use Rattle.book_check.specs.Code.{Earliest, JudgeTells, EntryTells}
-use Rattle.book_check.specs.declared.Reason.{Reason}
-use Rattle.book_check.specs.declared.Reason.the-variants.{Mark, Contents, BodyRule, Field, Twice}
-use Rattle.book_check.specs.declared.Seen.{Seen}
-use Rattle.book_check.specs.declared.Seen.the-variants.{Good, Bad}
+use Rattle.book_first.specs.Earliest.{Earliest}
+use Rattle.book_judge.specs.Reasons.{JudgeTells}
+use Rattle.book_check.specs.Code.{EntryTells}
+use Rattle.book_judge.specs.declared.Reason.{Reason}
+use Rattle.book_judge.specs.declared.Reason.the-variants.{Mark, Contents, BodyRule, Field, Twice}
+use Rattle.book_judge.specs.declared.Seen.{Seen}
+use Rattle.book_judge.specs.declared.Seen.the-variants.{Good, Bad}
 
 -- ---- one entry
 module _ (s b : List ℕ) (i : ℕ) (e : b ≡ part s i) where

@@ -1,5 +1,4 @@
 pub mod Facts
-pub mod Search
 pub mod One
 pub mod Value
 pub mod Written

@@ -13,12 +13,13 @@ use Rattle.field_open.proofs.Stages.{refusal-unique}
 use Rattle.base_answers.specs.Said.{Said, malformed}
 use Rattle.book_body.specs.Body.{Body, FieldSays, bodyOf, Finished}
 use Rattle.book_check.specs.Book.{Sound, Accepted, entry}
-use Rattle.book_check.specs.Code.{Earliest, JudgeTells}
+use Rattle.book_first.specs.Earliest.{Earliest}
+use Rattle.book_judge.specs.Reasons.{JudgeTells}
 use Rattle.book_check.specs.Answer.{reasonSays, answerSays, requestSays, BodyFault, Fault, Tells, AskTells, AskedPart, rule, field, body, twice, mark, contents, at-entry, fine, book, no-entry, there, found, empty}
-use Rattle.book_check.specs.declared.Reason.{Reason}
-use Rattle.book_check.specs.declared.Reason.the-variants.{Mark, Contents, BodyRule, Field, Twice}
-use Rattle.book_check.specs.declared.Seen.{Seen}
-use Rattle.book_check.specs.declared.Seen.the-variants.{Good, Bad}
+use Rattle.book_judge.specs.declared.Reason.{Reason}
+use Rattle.book_judge.specs.declared.Reason.the-variants.{Mark, Contents, BodyRule, Field, Twice}
+use Rattle.book_judge.specs.declared.Seen.{Seen}
+use Rattle.book_judge.specs.declared.Seen.the-variants.{Good, Bad}
 use Rattle.book_check.specs.declared.Answer.{Answer}
 use Rattle.book_check.specs.declared.Answer.the-variants.{Yes, Refused}
 use Rattle.book_check.specs.declared.Request.{Request}

@@ -1,32 +1,22 @@
 -- What is answered of given bytes, in document 01's numbers.
---   reasonSays, answerSays, requestSays    what the code's answers say
---   BodyFault b i x   what is wrong with the bytes b of a body as entry i, the first found: x is the body rule (entry), or the field
---                     refused (entry, its number)
---   Fault s i x       what is wrong with entry i of the book s, the first found: the same, or twice (entry, earlier entry)
+--   answerSays, requestSays    what the code's answers say; of a reason it is `reasonSays` of crate book_judge
+--   Fault s i x       what is wrong with entry i of the book s, the first found: its body (`BodyFault` of crate book_judge), or twice
+--                     (entry, earlier entry)
 --   Tells s x         the check of s says x: mark; contents; the first entry with a fault; or the book is fine
 --   AskTells s i x    asking for entry i of s says x: 13 for the book first, then 14 if the entry is not there
 --   AskedPart s i r   r is the part that is handed out: the one that the entry names, or the empty one
 -- That the bytes settle each of them is in proofs/One.antt: tells-unique, ask-unique, part-unique.
 use mathlib.Core.Path.{_≡_}
-use mathlib.Core.Logic.{_≢_}
 use mathlib.Core.List.{List, []}
 use Prim.Native.Nat.{ℕ, _<_, _≤_}
 use Rattle.base_answers.specs.Said.{Said, passed, refused, malformed}
-use Rattle.book_body.specs.Body.{FieldSays, OneField, bodyOf, Formed}
+use Rattle.book_body.specs.Body.{FieldSays, OneField, Formed}
+pub use Rattle.book_judge.specs.Reasons.{reasonSays, BodyFault, rule, field}
 use Rattle.book_check.specs.Book.{Marked, Listed, count, part, entry, Sound, Accepted}
-use Rattle.book_check.specs.declared.Reason.{Reason}
-use Rattle.book_check.specs.declared.Reason.the-variants.{Mark, Contents, BodyRule, Field, Twice}
 use Rattle.book_check.specs.declared.Answer.{Answer}
 use Rattle.book_check.specs.declared.Answer.the-variants.{Yes, Refused}
 use Rattle.book_check.specs.declared.Request.{Request}
 use Rattle.book_check.specs.declared.Request.the-variants as asked
-
-abbrev pub reasonSays : Reason → Said
-reasonSays Mark = malformed 1 0 0
-reasonSays Contents = malformed 2 0 0
-reasonSays (BodyRule i) = malformed 3 i 0
-reasonSays (Field i n) = malformed 4 i n
-reasonSays (Twice i j) = malformed 5 i j
 
 abbrev pub answerSays : Answer → Said
 answerSays Yes = passed 0
@@ -36,10 +26,6 @@ abbrev pub requestSays : Request → Said
 requestSays asked.There = passed 0
 requestSays (asked.Refused why) = reasonSays why
 requestSays asked.NoEntry = refused 14
-
-pub data BodyFault (b : List ℕ) (i : ℕ) (x : Said) : Type 0 where
-  rule : (Formed b → ⊥) → x ≡ malformed 3 i 0 → BodyFault b i x
-  field : Formed b → (n : ℕ) → n ≢ 0 → FieldSays (bodyOf b) n → x ≡ malformed 4 i n → BodyFault b i x
 
 pub data Fault (s : List ℕ) (i : ℕ) (x : Said) : Type 0 where
   body : BodyFault (part s i) i x → Fault s i x

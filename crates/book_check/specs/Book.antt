@@ -1,16 +1,13 @@
 -- The book of units as bytes.
---   entry s i      the body that the part says which entry i names
 --   Sound s i      entry i is formed, its field is accepted and no earlier entry is of one field with it
 --   Accepted s     mark and contents are right, and every entry is sound
--- Mark, contents and parts are those of crate book_contents.
+-- Mark, contents and parts are those of crate book_contents, `entry s i` is of crate book_first.
 use mathlib.Core.List.{List}
 use Prim.Native.Nat.{ℕ, _<_}
 pub use Rattle.book_contents.specs.Contents.{mark, Marked, count, width, startAt, lengthAt, Listed, part}
 unfoldable pub use Rattle.book_contents.specs.Contents.{ends}
-use Rattle.book_body.specs.Body.{Body, FieldSays, OneField, bodyOf, Formed}
-
-abbrev pub entry : List ℕ → ℕ → Body
-entry s i = bodyOf (part s i)
+pub use Rattle.book_first.specs.Earliest.{entry}
+use Rattle.book_body.specs.Body.{FieldSays, OneField, Formed}
 
 pub record Sound (s : List ℕ) (i : ℕ) : Type 0 where
   pub body : Formed (part s i)

@@ -1,17 +1,10 @@
 // The book of units, PCF1: a check of the whole book, and asking for an entry.
-ghost use Rattle.book_body.specs.Body.{bodyOf};
-ghost use Rattle.book_field.specs.Code.{pairOf};
+use book_first::earlier;
+use book_judge::Reason;
+use book_judge::Seen;
+use book_judge::judge;
 ghost use Rattle.book_check.specs.Answer.{answerSays, requestSays, Tells, AskTells, AskedPart};
-ghost use Rattle.book_check.specs.Code.{EntryOfAsks, EarlierAsks, FirstOfAsks, Earliest, JudgeTells, EntryTells};
-
-// What is wrong with a book: the first found.
-pub enum Reason {
-    Mark,
-    Contents,
-    BodyRule(usize),
-    Field(usize, u32),
-    Twice(usize, usize),
-}
+ghost use Rattle.book_check.specs.Code.{EntryOfAsks, EntryTells};
 
 // A book's answer: yes, or 13 with the reason.
 pub enum Answer {
@@ -19,63 +12,11 @@ pub enum Answer {
     Refused(Reason),
 }
 
-// One entry's answer.
-pub enum Seen {
-    Good,
-    Bad(Reason),
-}
-
 // The answer to asking for an entry: it is there; 13 with the reason; 14.
 pub enum Request {
     There,
     Refused(Reason),
     NoEntry,
-}
-
-// The first of the entries before i that is of the field p, G, H, or i.
-fn first_of(s: &[u8], p: u64, g: &[u64], h: &[u64], i: usize) -> usize
-    requires { ⌜ FirstOfAsks (now s) p (now g) (now h) i ⌝ }
-    ensures { λ r. ⌜ Earliest (now (s .entry)) (pairOf p (now (g .entry)) (now (h .entry))) i r ⌝ }
-{
-    let mut r = i;
-    let mut j: usize = 0;
-    while j < r {
-        let o = book_contents::entry_bytes(s, j);
-        let same = book_field::of_field(p, g, h, o);
-        if same {
-            r = j;
-        }
-        j += 1;
-    }
-    r
-}
-
-// The first of the entries before i that is of one field with the body b, or i. The body's own lists, which are short, are read once.
-pub fn earlier(s: &[u8], b: &[u8], i: usize) -> usize
-    requires { ⌜ EarlierAsks (now s) (now b) i ⌝ }
-    ensures { λ r. ⌜ Earliest (now (s .entry)) (bodyOf (now (b .entry))) i r ⌝ }
-{
-    let p = book_bytes::two(b, 0);
-    let mut g: [u64; 13] = [0; 13];
-    let mut h: [u64; 13] = [0; 13];
-    let n = book_bytes::read_list(b, book_body::HEAD, book_body::LENGTHS, 0, &mut g);
-    let m = book_bytes::read_list(b, book_body::HEAD, book_body::LENGTHS, 1, &mut h);
-    first_of(s, p as u64, &g[..n], &h[..m], i)
-}
-
-// A body by itself, as entry i: the body rule, then the field.
-pub fn judge(b: &[u8], i: usize) -> Seen
-    ensures { λ r. ⌜ JudgeTells (now (b .entry)) i r ⌝ }
-{
-    let ok = book_rule::body_rule(b);
-    if !ok {
-        return Seen::Bad(Reason::BodyRule(i));
-    }
-    let x = book_field::field_refusal(b);
-    if x != 0 {
-        return Seen::Bad(Reason::Field(i, x));
-    }
-    Seen::Good
 }
 
 // One entry of the book, after sound ones.

@@ -9,15 +9,15 @@ ghost use Rattle.book_attest.specs.Attest.{attestSays};
 ghost use Rattle.book_numbers.specs.Numbers.{numbers};
 
 // A reason in numbers.
-pub fn reason_row(why: book_check::Reason) -> [u64; 5]
+pub fn reason_row(why: book_judge::Reason) -> [u64; 5]
     ensures { λ o. ⌜ o ≡ numbers (reasonSays why) ⌝ }
 {
     match why {
-        book_check::Reason::Mark => [13, 1, 0, 0, 0],
-        book_check::Reason::Contents => [13, 2, 0, 0, 0],
-        book_check::Reason::BodyRule(i) => [13, 3, i as u64, 0, 0],
-        book_check::Reason::Field(i, n) => [13, 4, i as u64, n as u64, 0],
-        book_check::Reason::Twice(i, j) => [13, 5, i as u64, j as u64, 0],
+        book_judge::Reason::Mark => [13, 1, 0, 0, 0],
+        book_judge::Reason::Contents => [13, 2, 0, 0, 0],
+        book_judge::Reason::BodyRule(i) => [13, 3, i as u64, 0, 0],
+        book_judge::Reason::Field(i, n) => [13, 4, i as u64, n as u64, 0],
+        book_judge::Reason::Twice(i, j) => [13, 5, i as u64, j as u64, 0],
     }
 }
 

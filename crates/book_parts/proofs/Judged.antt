@@ -6,10 +6,10 @@ use Rattle.book_body.specs.Code.{gotSays, ListTells}
 use Rattle.book_body.specs.declared.Got.{Got}
 use Rattle.base_answers.specs.Said.{passed}
 use Rattle.book_check.specs.Answer.{reasonSays}
-use Rattle.book_check.specs.Code.{JudgeTells}
-use Rattle.book_check.specs.declared.Reason.{Reason}
-use Rattle.book_check.specs.declared.Seen.{Seen}
-use Rattle.book_check.specs.declared.Seen.the-variants.{Good, Bad}
+use Rattle.book_judge.specs.Reasons.{JudgeTells}
+use Rattle.book_judge.specs.declared.Reason.{Reason}
+use Rattle.book_judge.specs.declared.Seen.{Seen}
+use Rattle.book_judge.specs.declared.Seen.the-variants.{Good, Bad}
 use Rattle.book_check.proofs.Facts.{judge-good, judge-bad}
 use Rattle.book_numbers.specs.Numbers.{numbers}
 use Rattle.book_parts.specs.Parts.{fault, told, NumberTells, faulty, listed, ListSays}

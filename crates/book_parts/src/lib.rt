@@ -5,13 +5,13 @@ ghost use Rattle.book_parts.specs.Parts.{PrimeSays, PeriodSays, ListSays
 pub fn prime(s: &[u8]) -> [u64; 5]
     ensures { λ o. ⌜ PrimeSays (now (s .entry)) o ⌝ }
 {
-    let own = book_check::judge(s, 0);
+    let own = book_judge::judge(s, 0);
     match own {
-        book_check::Seen::Good => {
+        book_judge::Seen::Good => {
             let p = book_body::prime_of(s);
             [0, 0, 0, 0, p]
         }
-        book_check::Seen::Bad(why) => book_numbers::reason_row(why),
+        book_judge::Seen::Bad(why) => book_numbers::reason_row(why),
     }
 }
 
@@ -19,13 +19,13 @@ pub fn prime(s: &[u8]) -> [u64; 5]
 pub fn period(s: &[u8]) -> [u64; 5]
     ensures { λ o. ⌜ PeriodSays (now (s .entry)) o ⌝ }
 {
-    let own = book_check::judge(s, 0);
+    let own = book_judge::judge(s, 0);
     match own {
-        book_check::Seen::Good => {
+        book_judge::Seen::Good => {
             let t = book_body::period_of(s);
             [0, 0, 0, 0, t.0]
         }
-        book_check::Seen::Bad(why) => book_numbers::reason_row(why),
+        book_judge::Seen::Bad(why) => book_numbers::reason_row(why),
     }
 }
 
@@ -33,12 +33,12 @@ pub fn period(s: &[u8]) -> [u64; 5]
 pub fn list(s: &[u8], k: usize, out: &mut [u64]) -> [u64; 5]
     ensures { λ o. ⌜ ListSays (now (s .entry)) k (now (out .entry)) (now (out .exit)) o ⌝ }
 {
-    let own = book_check::judge(s, 0);
+    let own = book_judge::judge(s, 0);
     match own {
-        book_check::Seen::Good => {
+        book_judge::Seen::Good => {
             let a = book_body::list_of(s, k, out);
             book_numbers::got_row(a)
         }
-        book_check::Seen::Bad(why) => book_numbers::reason_row(why),
+        book_judge::Seen::Bad(why) => book_numbers::reason_row(why),
     }
 }

@@ -24,7 +24,7 @@ use Rattle.door_walk.specs.Order as walks
 use Rattle.door_unit.specs.declared.UnitAnswer.{UnitAnswer}
 use Rattle.door_unit.specs.Unit as unit
 use Rattle.door_unit.proofs.Once.{refused-number}
-use Rattle.unit_make.specs.Rows.{six}
+use Rattle.unit_finish.specs.Rows.{six}
 
 -- ---- the walk
 module _ (p n : ℕ) (G H B : List ℕ) (w : WalkAnswer) (h : walk.Walks p G H n B w) where

@@ -34,7 +34,7 @@ use Rattle.door_walk.specs.declared.PeriodAnswer.{PeriodAnswer}
 use Rattle.door_walk.specs.Order.{FromOrder}
 use Rattle.door_unit.specs.declared.UnitAnswer.{UnitAnswer}
 use Rattle.door_unit.specs.Unit.{Lent, Makes}
-use Rattle.unit_make.specs.Rows.{six}
+use Rattle.unit_finish.specs.Rows.{six}
 use Rattle.book_bytes.specs.Bytes.{Bytes}
 use Rattle.book_body.specs.Body.{Body}
 use Rattle.book_check.specs.Book as book

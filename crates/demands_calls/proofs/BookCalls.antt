@@ -25,7 +25,7 @@ use Rattle.book_check.proofs.Value.{length-rows, at-rows, part-back, book-back}
 use Rattle.book_check.proofs.Facts.{told-fine, body-thirteen}
 use Rattle.book_add.specs.Add as add
 use Rattle.book_add.proofs.Accepted.{new-length, added-accepted}
-use Rattle.book_add.proofs.Put.{bytes-take}
+use Rattle.book_add.proofs.Front.{bytes-take}
 use Rattle.book_attest.specs.Attest.{AttestTells}
 use Rattle.demands_calls.specs.BookCalls.{listOf, Wrote, Grown, Returns, unitBody, BookCalls}
 use Rattle.demands_calls.proofs.Kept.{number-of}

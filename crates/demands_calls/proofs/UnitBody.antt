@@ -50,7 +50,7 @@ use Rattle.basis_record.specs.Record.{setting}
 use Rattle.door_unit.specs.declared.UnitAnswer.{UnitAnswer}
 use Rattle.door_unit.specs.Unit as unit
 use Rattle.door_unit.proofs.Once.{refused-number}
-use Rattle.unit_make.specs.Rows.{six, Holds}
+use Rattle.unit_finish.specs.Rows.{six, Holds}
 use Rattle.book_body.specs.Body.{Body, UnitList, Rule, bodyBytes}
 use Rattle.book_write.specs.Write as write
 use Rattle.book_check.specs.Book as book

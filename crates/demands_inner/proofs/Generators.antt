@@ -24,7 +24,8 @@ use Rattle.math_chain.specs.Parts.{Parts, Cut, x0, x2, y0, y2, base}
 use Rattle.math_chain.proofs.Parts.{parts-unique, cut-greatest}
 use Rattle.basis_record.specs.Record.{setting}
 use Rattle.basis_record.specs.Seven.{Seven, rowsOf}
-use Rattle.step_divide.specs.Generated.{Generators, GeneratorsAsks, AreGenerators, Divided}
+use Rattle.step_coordinates.specs.Turns.{GeneratorsAsks}
+use Rattle.step_divide.specs.Generated.{Generators, AreGenerators, Divided}
 use Rattle.step_divide.specs.declared.Cuts.{Cuts}
 use Rattle.demands_inner.specs.UpTo.{Alike}
 use Rattle.demands_inner.proofs.Rows.{by-row}

@@ -8,7 +8,8 @@ use Rattle.basis_record.specs.Record.{IsRecord}
 use Rattle.field_series.specs.declared.OpenedField.{OpenedField}
 use Rattle.field_series.specs.Keeps.{Known}
 use Rattle.basis_field.specs.First.{First}
-use Rattle.step_next.specs.Steps.{StepOnRowsAsks, Advanced}
+use Rattle.step_part.specs.Parting.{StepOnRowsAsks}
+use Rattle.step_next.specs.Steps.{Advanced}
 use Rattle.step_next.specs.declared.StepTaken.{StepTaken}
 use Rattle.step_next.proofs.Once.{steps-unique}
 use Rattle.step_next.specs.InField.{StepInFieldAsks, StepInFieldGives}

@@ -8,7 +8,7 @@ use Rattle.field_roots.proofs.Only.{series-of-unique}
 use Rattle.field_series.specs.declared.OpenedField.{OpenedField}
 use Rattle.field_fill.specs.Fill.{Room, Grown}
 use Rattle.unit_make.specs.Making.{MakeAsks, Making}
-use Rattle.unit_make.proofs.Rows.{rows-unique}
+use Rattle.unit_finish.proofs.Rows.{rows-unique}
 
 pub grow-unique : {p : ℕ} {G H r w : List ℕ} (r₁ w₁ r₂ w₂ : List ℕ) → Room p G H r w → Grown p G H r r₁ w₁ → Grown p G H r r₂ w₂ → (r₁ ≡ r₂) × (w₁ ≡ w₂)
 grow-unique r₁ w₁ r₂ w₂ t a b = series-of-unique r₁ w₁ r₂ w₂ (t .accepted) (a .series) (b .series) (a .size ∙ sym (b .size))

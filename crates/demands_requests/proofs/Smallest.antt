@@ -21,7 +21,7 @@ use Rattle.door_walk.specs.Order as walks
 use Rattle.basis_field.proofs.First.{first-unique}
 use Rattle.door_unit.specs.declared.UnitAnswer.{UnitAnswer}
 use Rattle.door_unit.specs.Unit.{Makes, Success}
-use Rattle.unit_make.specs.Rows.{six}
+use Rattle.unit_finish.specs.Rows.{six}
 use Rattle.demands_requests.specs.Smallest.{SmallestRows, SmallestUnit}
 use Rattle.demands.proofs.Cases.{walk-closed, walk-spent, told-closed, told-spent, told-accepted, unit-made, unit-spent, unit-narrow, unit-accepted, success-unit}
 

@@ -30,7 +30,7 @@ use Rattle.door_walk.specs.declared.PeriodAnswer.{PeriodAnswer}
 use Rattle.door_walk.specs.Order.{FromOrder}
 use Rattle.door_unit.specs.declared.UnitAnswer.{UnitAnswer}
 use Rattle.door_unit.specs.Unit.{Makes}
-use Rattle.unit_make.specs.Rows.{six}
+use Rattle.unit_finish.specs.Rows.{six}
 
 pub record SmallestRows (p : ℕ) (G H : List ℕ) (m : UnitAnswer) (rows : List ℕ) : Type 0 where
   -- six rows of c numbers: E0, E1, E2, F0, F1, F2

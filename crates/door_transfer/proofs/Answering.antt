@@ -17,7 +17,8 @@ use Rattle.pair_agree.specs.declared.Pairing.the-variants.{Straight, Swapped, A
 use Rattle.pair_agree.proofs.Outcomes.{apart-none}
 use Rattle.door_compare.proofs.Doors.{doors-goes, both-of}
 use Rattle.door_transfer.specs.Transfer.{Lent, Transfers, unfit, carried}
-use Rattle.door_transfer.specs.Code.{CarryAsks, Carried, CarriedSwapped, Unfit}
+use Rattle.pair_carry.specs.Code.{CarryAsks, Carried, CarriedSwapped}
+use Rattle.door_transfer.specs.Code.{Unfit}
 
 module _ {p : ℕ} {G H G′ H′ : List ℕ} (rows : List ℕ) {n : ℕ} (e : n ≡ 0) (r : Refusals p G H G′ H′ n) where
   both : Both p G H G′ H′

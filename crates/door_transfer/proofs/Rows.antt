@@ -39,10 +39,10 @@ times-unique : (p c k k′ : ℕ) (l l′ l″ : List ℕ) (a b : ℕ) → k ≡
 times-unique p c k k′ l l′ l″ a b e s t i u = s i u ∙ ap (λ z. (z * getD l (a + i) 0) % p) e ∙ sym (t i u)
 
 module _ (p c x y x′ y′ : ℕ) (l l′ l″ : List ℕ) (at : ℕ) (e : (x ≡ x′) × (y ≡ y′)) where
-  straight-unique : Straight p c x y l at l′ → Straight p c x′ y′ l at l″ → Three c l″ at l′
+  pub straight-unique : Straight p c x y l at l′ → Straight p c x′ y′ l at l″ → Three c l″ at l′
   straight-unique s t = (λ i u. s .A i u ∙ sym (t .A i u), times-unique p c x x′ l l′ l″ _ _ (e .0) (s .B) (t .B), times-unique p c y y′ l l′ l″ _ _ (e .1) (s .C) (t .C))
 
-  crossed-unique : Crossed p c x y l at l′ → Crossed p c x′ y′ l at l″ → Three c l″ at l′
+  pub crossed-unique : Crossed p c x y l at l′ → Crossed p c x′ y′ l at l″ → Three c l″ at l′
   crossed-unique s t = (λ i u. s .A i u ∙ sym (t .A i u), times-unique p c x x′ l l′ l″ _ _ (e .0) (s .B) (t .B), times-unique p c y y′ l l′ l″ _ _ (e .1) (s .C) (t .C))
 
 module _ {p : ℕ} {G H G′ H′ : List ℕ} (t : Both p G H G′ H′) where

@@ -25,7 +25,7 @@ use Rattle.walk_chain.specs.declared.WalkAnswer.{WalkAnswer}
 use Rattle.walk_chain.specs.Walk.{Closes, StaysOpen, Closed, Spent}
 use Rattle.walk_chain.specs.InField.{WalkInFieldAsks, WalkInFieldGives}
 use Rattle.walk_chain.proofs.Even.{sum-even}
-use Rattle.unit_make.specs.Rows.{Holds}
+use Rattle.unit_finish.specs.Rows.{Holds}
 use Rattle.unit_make.specs.Making.{MakeAsks, Making}
 use Rattle.door_unit.specs.declared.UnitAnswer.{UnitAnswer}
 use Rattle.door_unit.specs.Unit.{refusal, Lent, Finds, Misses, Refused, Goes, bad, spent, narrow, made, Makes}

@@ -11,8 +11,8 @@ use Rattle.field_open.proofs.Door.{door-unique}
 use Rattle.math_chain.proofs.Walk.{closing-unique}
 use Rattle.math_chain.proofs.Exists.{order-exists}
 use Rattle.basis_record.specs.Record.{setting}
-use Rattle.unit_make.specs.Rows.{Holds}
-use Rattle.unit_make.proofs.Rows.{rows-unique}
+use Rattle.unit_finish.specs.Rows.{Holds}
+use Rattle.unit_finish.proofs.Rows.{rows-unique}
 use Rattle.door_unit.specs.declared.UnitAnswer.{UnitAnswer}
 use Rattle.door_unit.specs.Unit.{Lent, Finds, Misses, Refused, Success, Goes, bad, spent, narrow, made, Makes}
 

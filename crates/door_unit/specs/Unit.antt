@@ -3,7 +3,7 @@
 --   Lent c rows scratch n   lengths and budget within their rule: two slices of 6 c numbers, c at most 4,096, the budget at most 1,000,000
 --   Finds p G H l d         from the order the chain closes after l steps with degree sum d
 --   Makes p G H n rows scratch m rows′ scratch′   the whole answer, and both slices after it
--- What the first slice holds after success is `Holds` of crate unit_make. `makes-unique` in proofs/Once.antt: two outcomes that meet it are equal.
+-- What the first slice holds after success is `Holds` of crate unit_finish. `makes-unique` in proofs/Once.antt: two outcomes that meet it are equal.
 use mathlib.Core.Path.{_≡_}
 use mathlib.Core.List.{List}
 use Prim.Native.Nat.{ℕ, _+_, _*_, _<_, _≤_}
@@ -15,7 +15,7 @@ use Rattle.math_ideals.specs.Ideal.{Basis}
 use Rattle.math_ideals.specs.Next.{Start}
 use Rattle.math_chain.specs.Chain.{Closing, Open}
 use Rattle.basis_record.specs.Record.{setting}
-use Rattle.unit_make.specs.Rows.{Holds}
+use Rattle.unit_finish.specs.Rows.{Holds}
 use Rattle.door_unit.specs.declared.UnitAnswer.{UnitAnswer}
 
 -- the answer beside a refusal

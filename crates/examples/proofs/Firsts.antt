@@ -24,7 +24,7 @@ use Rattle.book_check.specs.Book as book
 use Rattle.book_check.specs.Answer.{answerSays, Tells, mark, fine}
 use Rattle.book_check.specs.declared.Answer.{Answer}
 use Rattle.book_check.specs.declared.Answer.the-variants.{Yes, Refused}
-use Rattle.book_check.specs.declared.Reason.the-variants.{Mark}
+use Rattle.book_judge.specs.declared.Reason.the-variants.{Mark}
 use Rattle.book_check.proofs.One as one
 use Rattle.examples_tests.specs.Tests.{every, begins}
 use Rattle.examples_tests.proofs.Fields.{every-at, accepted-of, series-of}

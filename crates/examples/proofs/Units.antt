@@ -24,8 +24,8 @@ use Rattle.base_answers.specs.Limits.{most}
 use Rattle.field_open.proofs.Door.{door-goes}
 use Rattle.door_unit.specs.Unit as unitAnswer
 use Rattle.door_unit.specs.Unit.{Lent, Finds, Makes, Goes}
-use Rattle.unit_make.specs.Rows as unitRows
-use Rattle.unit_make.specs.Rows.{six}
+use Rattle.unit_finish.specs.Rows as unitRows
+use Rattle.unit_finish.specs.Rows.{six}
 use Rattle.door_unit.specs.declared.UnitAnswer.{UnitAnswer}
 use Rattle.door_unit.proofs.Once.{Same, makes-unique}
 use Rattle.examples_lists.specs.Lists.{lists, alike}

@@ -30,12 +30,12 @@ use Rattle.base_answers.specs.Limits.{most}
 use Rattle.door_walk.specs.Order as told
 use Rattle.door_walk.specs.Order.{FromOrder}
 use Rattle.door_unit.specs.Unit.{refusal, Makes}
-use Rattle.unit_make.specs.Rows.{six}
+use Rattle.unit_finish.specs.Rows.{six}
 use Rattle.door_unit.specs.declared.UnitAnswer.{UnitAnswer}
 use Rattle.book_check.specs.Answer.{answerSays, Tells}
 use Rattle.book_check.specs.declared.Answer.{Answer}
 use Rattle.book_check.specs.declared.Answer.the-variants.{Yes, Refused}
-use Rattle.book_check.specs.declared.Reason.the-variants.{Mark}
+use Rattle.book_judge.specs.declared.Reason.the-variants.{Mark}
 use Rattle.examples_tests.specs.Rows.{Rows, stored}
 
 pub record Input : Type 0 where

@@ -1,11 +1,9 @@
 -- Rows 7 and 8, by the tests on the rows of the two lists.
---   not-left, by-right             the answers of the test for squares
---   is-seven, is-eight, is-none    the three numbers
 --   over-both                      the tests may be asked
 --   by-number                      the number that the tests give is that of rows 7 and 8
 use mathlib.Core.Path.{_≡_, refl, sym, ap₂, subst}
 use mathlib.Core.Logic.{_⊎_, inl, inr}
-use mathlib.Core.Bool.{Bool, true, false, true≢false}
+use mathlib.Core.Bool.{Bool, true, false}
 use mathlib.Core.List.{List}
 use Prim.Native.Nat.{ℕ, _≤_}
 use native.Mathlib.Omega.{arith}
@@ -19,39 +17,15 @@ use Rattle.math_rows.specs.Made.{reading}
 use Rattle.num_prime.specs.Table.{largest}
 use Rattle.poly_rows.specs.Leaf.{Listed}
 use Rattle.poly_rows.specs.Polynomial.{polynomial}
-use Rattle.poly_factors.specs.Factors.{OverBoth, SquareTest, CoprimeTest}
+use Rattle.poly_factors.specs.Factors.{OverBoth, CoprimeTest}
 use Rattle.field_open.specs.Refusal.{Fault7, Fault8, Rows78}
-use Rattle.field_open.specs.Parts.{Shaped, FreeTest, factorNumber}
+use Rattle.field_factors.specs.Factors.{FreeTest, factorNumber}
+use Rattle.field_open.specs.Parts.{Shaped}
 use Rattle.field_open.proofs.Rows.{row-of}
 
 -- the polynomial of a list is that of its row
 same : {p : ℕ} {l x : List ℕ} (pr : Prime p) → Listed l x → polynomial p pr x ≡ polynomial p pr l
 same {p} pr k = P-path (reading p pr .𝓥) (k .law p pr)
-
--- ---- `both_free`
-pub not-left : (p : ℕ) (x y : List ℕ) (a : Bool) → SquareTest p x a → a ≡ false → FreeTest p x y false
-not-left p x y true t e = absurd (true≢false e)
-not-left p x y false t e = λ pr. inl (t pr)
-
-pub by-right : (p : ℕ) (x y : List ℕ) (a b : Bool) → SquareTest p x a → a ≡ true → SquareTest p y b → FreeTest p x y b
-by-right p x y true true t e w = λ pr. (t pr, w pr)
-by-right p x y true false t e w = λ pr. inr (w pr)
-by-right p x y false b t e w = absurd (true≢false (sym e))
-
--- ---- `first_factor`
-pub is-seven : (free apart : Bool) → free ≡ false → 7 ≡ factorNumber free apart
-is-seven false apart e = refl
-is-seven true apart e = absurd (true≢false e)
-
-pub is-eight : (free apart : Bool) → free ≡ true → apart ≡ false → 8 ≡ factorNumber free apart
-is-eight true false e f = refl
-is-eight true true e f = absurd (true≢false f)
-is-eight false apart e f = absurd (true≢false (sym e))
-
-pub is-none : (free apart : Bool) → free ≡ true → apart ≡ true → 0 ≡ factorNumber free apart
-is-none true true e f = refl
-is-none true false e f = absurd (true≢false (sym f))
-is-none false apart e f = absurd (true≢false (sym e))
 
 -- ---- the rows
 module _ {p : ℕ} {G H x y : List ℕ} (s : Shaped p G H) (u : Listed G x) (v : Listed H y) where

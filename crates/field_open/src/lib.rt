@@ -3,8 +3,7 @@
 ghost use mathlib.Core.Path.{_≡_};
 ghost use Rattle.base_answers.specs.Stage.{End};
 ghost use Rattle.field_open.specs.Refusal.{Rows12, Rows36, Rows78, Refusal, Accepted};
-ghost use Rattle.field_open.specs.Parts.{ListLength, Shaped, FreeTest, factorNumber};
-ghost use Rattle.poly_factors.specs.Factors.{OverBoth};
+ghost use Rattle.field_open.specs.Parts.{ListLength, Shaped};
 ghost use Rattle.field_open.specs.Opening.{Held, nothing, Opens};
 
 const LONGEST: usize = 13;
@@ -77,31 +76,6 @@ fn check_lists(p: u64, g: &[u64], h: &[u64]) -> u32
     0
 }
 
-// Whether neither row has a square factor.
-fn both_free(p: u64, x: &[u64; 32], y: &[u64; 32]) -> bool
-    requires { ⌜ OverBoth p (now x) (now y) ⌝ }
-    ensures { λ r. ⌜ FreeTest p (now (x .entry)) (now (y .entry)) r ⌝ }
-{
-    let left = poly_factors::squarefree(p, x);
-    if !left {
-        return false;
-    }
-    poly_factors::squarefree(p, y)
-}
-
-// 7 comes before 8.
-fn first_factor(free: bool, apart: bool) -> u32
-    ensures { λ n. ⌜ n ≡ factorNumber free apart ⌝ }
-{
-    if !free {
-        return 7;
-    }
-    if !apart {
-        return 8;
-    }
-    0
-}
-
 // 7 and 8.
 fn check_factors(p: u64, g: &[u64], h: &[u64]) -> u32
     requires { ⌜ Shaped p (now g) (now h) ⌝ }
@@ -109,9 +83,9 @@ fn check_factors(p: u64, g: &[u64], h: &[u64]) -> u32
 {
     let x = poly_rows::from_list(g);
     let y = poly_rows::from_list(h);
-    let free = both_free(p, &x, &y);
+    let free = field_factors::both_free(p, &x, &y);
     let apart = poly_factors::coprime(p, &x, &y);
-    first_factor(free, apart)
+    field_factors::first_factor(free, apart)
 }
 
 // The number of the first refusal of p, G, H, or 0.

@@ -10,7 +10,7 @@ use Rattle.field_open.specs.Refusal.{Accepted}
 use Rattle.field_open.proofs.Door.{door-out}
 use Rattle.door_unit.specs.declared.UnitAnswer.{UnitAnswer}
 use Rattle.door_unit.specs.Unit.{Makes}
-use Rattle.unit_make.specs.Rows.{Holds}
+use Rattle.unit_finish.specs.Rows.{Holds}
 use Rattle.pair_agree.specs.OneField.{OneField, Coefficients}
 use Rattle.pair_agree.specs.Rows.{RowsCarry}
 use Rattle.pair_agree.specs.Answer.{Both}

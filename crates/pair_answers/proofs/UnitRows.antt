@@ -15,7 +15,7 @@ use Rattle.math_chain.specs.Unit.{UnitOf}
 use Rattle.math_chain.proofs.Exists.{order-exists}
 use Rattle.basis_record.specs.Record.{setting}
 use Rattle.door_unit.specs.Unit.{Finds, Misses}
-use Rattle.unit_make.specs.Rows.{six, Holds}
+use Rattle.unit_finish.specs.Rows.{six, Holds}
 use Rattle.pair_agree.specs.Rows.{RowsCarry, straight, crossed}
 use Rattle.door_transfer.proofs.Rows.{carried-each}
 use Rattle.pair_theory.proofs.Same as theory

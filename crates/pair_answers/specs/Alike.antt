@@ -23,7 +23,7 @@ use Rattle.door_walk.specs.declared.PeriodAnswer.{PeriodAnswer}
 use Rattle.door_walk.specs.Order.{FromOrder}
 use Rattle.door_unit.specs.declared.UnitAnswer.{UnitAnswer}
 use Rattle.door_unit.specs.Unit.{Makes}
-use Rattle.unit_make.specs.Rows.{Holds}
+use Rattle.unit_finish.specs.Rows.{Holds}
 use Rattle.pair_agree.specs.OneField.{OneField, Coefficients}
 use Rattle.pair_agree.specs.Rows.{RowsCarry, RecordCarries}
 use Rattle.door_transfer.specs.Transfer.{Transfers}

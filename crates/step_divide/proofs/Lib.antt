@@ -1,4 +1,1 @@
-pub mod Coordinates
-pub mod Negated
-pub mod Products
 pub mod Generate

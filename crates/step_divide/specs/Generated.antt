@@ -1,23 +1,22 @@
 -- The generators of the next ideal: from the seven rows of a good basis, x1, y1, the pairs (−y2, x2)/g, (y0, −x0)/g and
 -- their denominator d/g.
 --   Generators       seven rows: x1, y1, the two pairs, their denominator; and the degree of what was taken off
---   GeneratorsAsks     the rows hold the field of some G, H and a good basis of it; ie = −lead(GH) is the inverse of the leading coefficient of e;
---                    cap is past the degree of G H, and so past every row
 --   Generated σ b o  o holds the parts of r m and w m and the pairs without their common factor (crate math_chain)
 --   divided          NextGeneratorsAsks, Divided: with seven zero rows to write into, and the lengths of x1, y1 and of the denominator
 use mathlib.Core.Path.{_≡_}
 use mathlib.Core.List.{List}
-use Prim.Native.Nat.{ℕ, _+_, _-_, _<_, _≤_}
-use lib.ListN.{getD, replicate}
+use Prim.Native.Nat.{ℕ}
+use lib.ListN.{replicate}
 use Rattle.math_valued.specs.Degree.{Has}
-use Rattle.math_rows.specs.Row.{Row, Size, row}
+use Rattle.math_rows.specs.Row.{Row, Size}
 use Rattle.num_mod.specs.Prepared.{Prepared}
 use Rattle.num_mod.specs.declared.Modulus.{Modulus}
 use Rattle.math_ideals.specs.Basis.{Good}
 use Rattle.math_chain.specs.Parts.{Parts, Cut, x1, y1, base}
 use Rattle.field_open.specs.Refusal.{Accepted}
 use Rattle.basis_record.specs.Record.{setting, polyOf}
-use Rattle.basis_record.specs.Seven.{Seven, AreRows, rowsOf, Holds, Three, Blank}
+use Rattle.basis_record.specs.Seven.{Seven, rowsOf, Holds, Three, Blank}
+use Rattle.step_coordinates.specs.Turns.{GeneratorsAsks}
 use Rattle.step_divide.specs.declared.Cuts.{Cuts}
 
 pub record Generators : Type 0 where
@@ -32,20 +31,6 @@ pub record Generators : Type 0 where
 
 abbrev pub generators : List ℕ → List ℕ → List ℕ → List ℕ → List ℕ → List ℕ → List ℕ → ℕ → Generators
 generators x y mb mc nb nc u cut = record { x = x; y = y; mb = mb; mc = mc; nb = nb; nc = nc; u = u; cut = cut }
-
-pub record GeneratorsAsks (p cap : ℕ) (g h gh : List ℕ) (ie : ℕ) (b : Seven) : Type 0 where
-  pub hg : Row p g
-  pub hh : Row p h
-  pub hgh : Row p gh
-  pub rows : AreRows p b
-  pub inverse : (n : ℕ) → Size gh n → ie ≡ p - getD gh (n - 1) 0
-  pub G : List ℕ
-  pub H : List ℕ
-  pub σ : Accepted p G H
-  pub holds : Holds σ g h gh
-  pub good : Good (setting σ) (rowsOf σ b)
-  pub past : σ .degG + σ .degH < cap
-  pub fits : cap ≤ 32
 
 module _ {p : ℕ} {G H : List ℕ} (σ : Accepted p G H) where
   pub record Generated (b : Seven) (o : Generators) : Type 0 where

@@ -27,8 +27,8 @@ use Rattle.math_chain.proofs.Room.{Room, room}
 use Rattle.basis_record.specs.Record.{setting}
 use Rattle.basis_record.specs.Seven.{Seven, rowsOf}
 use Rattle.step_divide.specs.Generated.{Generators, Generated}
-use Rattle.step_divide.proofs.Coordinates.{r-narrow, w-narrow}
-use Rattle.step_divide.proofs.Products.{sizes}
+use Rattle.step_coordinates.proofs.Coordinates.{r-narrow, w-narrow}
+use Rattle.step_coordinates.proofs.Products.{sizes}
 use Rattle.basis_parts.specs.Frame.{frame, Meaning, Short}
 use Rattle.basis_reduce.specs.Clear.{Pair, pair, ClearYAsks}
 use Rattle.basis_scale.specs.Based.{BasisAsks}

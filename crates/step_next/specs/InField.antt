@@ -4,7 +4,8 @@
 use mathlib.Core.List.{List}
 use Prim.Native.Nat.{ℕ}
 use Rattle.field_series.specs.declared.OpenedField.{OpenedField}
-use Rattle.step_next.specs.Steps.{StepOnRowsAsks, Advanced}
+use Rattle.step_part.specs.Parting.{StepOnRowsAsks}
+use Rattle.step_next.specs.Steps.{Advanced}
 use Rattle.step_next.specs.declared.StepTaken.{StepTaken}
 
 abbrev pub StepInFieldAsks : OpenedField → List ℕ → Type 0

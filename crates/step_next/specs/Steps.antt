@@ -1,7 +1,6 @@
 -- One step of the chain, on records.
 --   Steps p G H B o   o is the step from the record B: the record of the ideal divided by m, and the degree of m
---   StepOnRowsAsks         what `step_on_rows` asks: an opened field (`Keeps` of crate field_series) and a record of it
---   Advanced          what it hands out, whatever accepted G, H the field is opened from
+--   Advanced          what `step_on_rows` hands out, whatever accepted G, H the field is opened from
 -- The step is settled: `steps-unique` in proofs/Once.antt.
 use mathlib.Core.List.{List}
 use Prim.Native.Nat.{ℕ}
@@ -11,12 +10,6 @@ use Rattle.math_chain.specs.Chain.{Degree}
 use Rattle.basis_record.specs.Record.{setting, basisOf, IsRecord}
 use Rattle.field_series.specs.Keeps.{Keeps}
 use Rattle.step_next.specs.declared.StepTaken.{StepTaken}
-
-pub record StepOnRowsAsks (p : ℕ) (g h gh : List ℕ) (dr dw : ℕ) (r w B : List ℕ) : Type 0 where
-  pub G : List ℕ
-  pub H : List ℕ
-  pub keeps : Keeps p G H g h gh dr dw r w
-  pub is-record : IsRecord p G H B
 
 -- "From a reduced ideal with basis 1, m, n to that ideal divided by m, in its scaled reduced basis; also the degree of m"
 pub record Steps (p : ℕ) (G H B : List ℕ) (o : StepTaken) : Type 0 where

@@ -32,13 +32,13 @@ use Rattle.basis_record.specs.Record.{setting, basisOf}
 use Rattle.basis_record.proofs.Unique.{basis-unique}
 use Rattle.basis_field.specs.First.{IsFirst}
 use Rattle.walk_chain.specs.Walk.{Closes}
-use Rattle.walk_chain.proofs.One.{one-of}
+use Rattle.walk_closed.proofs.One.{one-of}
 use Rattle.step_next.specs.Steps.{Steps}
 use Rattle.step_next.specs.declared.StepTaken.{StepTaken}
 use Rattle.unit_rows.specs.Six.{cut}
-use Rattle.unit_make.specs.Rows.{six}
-use Rattle.unit_make.specs.Making.{Along}
-use Rattle.unit_make.proofs.Turning.{six-path}
+use Rattle.unit_finish.specs.Rows.{six}
+use Rattle.unit_finish.specs.Finish.{Along}
+use Rattle.unit_finish.proofs.Stored.{six-path}
 
 -- ---- of any chain
 module _ (S : Setting) (B₀ : Basis S) (st : Start S B₀) where

@@ -12,7 +12,8 @@ use Rattle.field_series.specs.declared.OpenedField.{OpenedField}
 use Rattle.step_next.specs.Steps.{Steps}
 use Rattle.step_next.specs.declared.StepTaken.{StepTaken}
 use Rattle.step_next.specs.InField.{StepInFieldAsks, StepInFieldGives}
-use Rattle.unit_make.specs.Making.{Blank, Along, MultipliedAsks, Multiplies, StepAndMultiplyAsks, Further, ProductAsks, ProductOf}
+use Rattle.unit_finish.specs.Finish.{Along}
+use Rattle.unit_make.specs.Making.{Blank, MultipliedAsks, Multiplies, StepAndMultiplyAsks, Further, ProductAsks, ProductOf}
 use Rattle.unit_make.proofs.Passing.{stays-below, step-below, along-more, along-end}
 
 -- zeros as long as another list

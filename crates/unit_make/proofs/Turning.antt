@@ -1,10 +1,8 @@
 -- One multiplication: the opened field meets what `unit_rows::multiply_by_m` asks, and what it hands out is the exact division of E M by U.
---   stored           its rows of G, H, G H fit 16 bits
 --   monic-part       the row U of a record ends in 1
 --   turn-in          what `turn` asks
 --   multiplies       what it hands out
 use mathlib.Core.Path.{_≡_, sym, ap, ap₂, _∙_}
-use mathlib.Core.Logic.{_≢_}
 use mathlib.Core.List.{List}
 use Prim.Native.Nat.{ℕ, zero, suc, _+_, _*_, _-_, _<_, _≤_}
 use native.Mathlib.Omega.{arith}
@@ -14,54 +12,30 @@ use Rattle.math_valued.proofs.Degree.{has-not-zero, has-eq}
 use Rattle.math_valued.proofs.Compare.{leads-unique}
 use Rattle.math_rows.specs.Reading.{Reading}
 use Rattle.math_rows.specs.Made.{reading}
-use Rattle.math_rows.specs.Row.{Row, Size, row}
+use Rattle.math_rows.specs.Row.{Size, row}
 use Rattle.math_rows.proofs.Tab.{zeros-at}
 use Rattle.math_rows.proofs.Rows.{size-lead}
 use Rattle.math_rows.proofs.Floors.{zero-row}
 use Rattle.math_rows.proofs.Unique.{cast-inj}
 use Rattle.field_open.specs.Refusal.{Accepted}
-use Rattle.math_ideals.specs.Element.{O}
-use Rattle.math_ideals.proofs.Sizes.{O-path, sc-a, sc-b, sc-c}
-use Rattle.math_valued.proofs.Polynomial.{P-path}
+use Rattle.math_ideals.proofs.Sizes.{sc-a, sc-b, sc-c}
 use Rattle.basis_record.specs.Record.{setting, basisOf, IsRecord}
-use Rattle.field_series.specs.Keeps.{Keeps}
 use Rattle.field_series.specs.declared.OpenedField.{OpenedField}
 use Rattle.basis_field.proofs.Keeps.{g-row, h-row, gh-row, holds-of}
-use Rattle.poly_long.specs.Long.{Storable, Stored}
 use Rattle.unit_rows.specs.Six.{cut, Monic, MultiplyByMAsks, Turn}
-use Rattle.unit_make.specs.Rows.{six}
+use Rattle.unit_finish.proofs.Rows.{cut-below}
+use Rattle.unit_finish.proofs.Stored.{storable, list-top, six-path}
 use Rattle.unit_make.specs.Making.{Blank, MultipliedAsks, Multiplies}
-use Rattle.unit_make.proofs.Rows.{cut-below}
-
-pub storable : {p : ℕ} {G H : List ℕ} → Accepted p G H → Storable p
-storable {p} A = let u : p ≤ 65535 = A .high in record { prime = A .prime; small = omega arith }
-
-pub row-stored : {p : ℕ} {x : List ℕ} → Storable p → Row p x → Stored x
-row-stored {p} {x} s h = record { size = h .size; each = λ i. let l : getD x i 0 < p = h .each i in let u : p < 65536 = s .small in omega arith }
-
--- the rows that an opened field keeps
-module _ {p : ℕ} {G H g h gh : List ℕ} {dr dw : ℕ} {r w : List ℕ} (k : Keeps p G H g h gh dr dw r w) where
-  pub stored-g : Stored g
-  stored-g = row-stored (storable (k .accepted)) (g-row k)
-
-  pub stored-h : Stored h
-  stored-h = row-stored (storable (k .accepted)) (h-row k)
-
-  pub stored-gh : Stored gh
-  stored-gh = row-stored (storable (k .accepted)) (gh-row k)
 
 -- ---- leading coefficients of lists
 module _ {p : ℕ} (ρ : Reading p) (l : List ℕ) (each : (i : ℕ) → getD l i 0 < p) where
-  open Reading ρ using (𝓥, cast)
-
-  pub list-top : (m : ℕ) → Size l (suc m) → cast (getD l m 0) ≢ 𝓥 .K .ops .𝟎
-  list-top m s e = s .top (omega arith) (ap (λ k. getD l k 0) (let o : suc m - 1 ≡ m = omega arith in o) ∙ ρ .cast-small (getD l m 0) (each m) e)
+  open Reading ρ using (𝓥)
 
   pub list-monic : 1 < p → Leads 𝓥 (row ρ l) (𝓥 .K .ops .𝟏) → Monic l
   list-monic big h zero s = absurd (has-not-zero 𝓥 (has-eq 𝓥 (𝓥 .K .ops .𝟏, h .2, h .3) (zero-row ρ l s)))
   list-monic big h (suc m) s = (
     omega arith,
-    ap (λ k. getD l k 0) (let o : suc m - 1 ≡ m = omega arith in o) ∙ cast-inj ρ (getD l m 0) 1 (each m) big (leads-unique 𝓥 (m, 0, list-top m s, size-lead ρ s) h ∙ sym (ρ .cast-one)),
+    ap (λ k. getD l k 0) (let o : suc m - 1 ≡ m = omega arith in o) ∙ cast-inj ρ (getD l m 0) 1 (each m) big (leads-unique 𝓥 (m, 0, list-top ρ l each m s, size-lead ρ s) h ∙ sym (ρ .cast-one)),
   )
 
 pub monic-part : {p : ℕ} {G H : List ℕ} (A : Accepted p G H) (b : List ℕ) → IsRecord p G H b → Monic (cut 102 17 b)
@@ -69,11 +43,6 @@ monic-part {p} A b h = list-monic (reading p (A .prime)) (cut 102 17 b) (cut-bel
 
 pub blank-at : (s : List ℕ) → Blank s → (i : ℕ) → getD s i 0 ≡ 0
 blank-at s e i = ap (λ l. getD l i 0) e ∙ zeros-at (length s) i
-
--- an element of the order, by its three rows
-module _ {p : ℕ} {G H : List ℕ} (A : Accepted p G H) where
-  pub six-path : (c at : ℕ) (l : List ℕ) (v : O (setting A) .El) → let ρ = reading p (A .prime) in row ρ (cut at c l) ≡ v .a .0 → row ρ (cut (at + c) c l) ≡ v .b .0 → row ρ (cut (at + c + c) c l) ≡ v .c .0 → six A c at l ≡ v
-  six-path c at l v x y z = O-path (setting A) (P-path (setting A .𝓥) x) (P-path (setting A .𝓥) y) (P-path (setting A .𝓥) z)
 
 module _ (f : OpenedField) (c n : ℕ) (b rows s g h gh : List ℕ) (eg : g ≡ f .field .g) (eh : h ≡ f .field .h) (egh : gh ≡ f .field .gh) where
   pub turn-in : MultipliedAsks f c n b rows s → MultiplyByMAsks (f .field .p) c n g h gh b rows s

@@ -1,13 +1,16 @@
 -- `make`, from its three parts.
 --   make-start, make-product, make-finish   what the parts ask
 --   making                                  what they hand out together
+--   finished-unique                         one outcome of `finished` for each input
 use mathlib.Core.Path.{_≡_, sym, ap, _∙_}
 use mathlib.Core.List.{List}
 use Prim.Native.Nat.{ℕ, _*_, _-_, _<_, _≤_}
 use native.Mathlib.Omega.{arith}
 use lib.ListN.{length, replicate, length-set, length-replicate}
 use Rattle.field_series.specs.declared.OpenedField.{OpenedField}
-use Rattle.unit_make.specs.Making.{Along, StartedAsks, Starts, ProductAsks, ProductOf, FinishedAsks, Finishes, MakeAsks, Making}
+use Rattle.unit_finish.specs.Finish.{Along, FinishedAsks, Finishes}
+use Rattle.unit_finish.proofs.Rows.{rows-unique}
+use Rattle.unit_make.specs.Making.{StartedAsks, Starts, ProductAsks, ProductOf, MakeAsks, Making}
 use Rattle.unit_make.proofs.Passing.{begun, along-start}
 use Rattle.unit_make.proofs.Stepping.{blank-as}
 
@@ -40,3 +43,7 @@ module _ (f : OpenedField) (B : List ℕ) (l d c : ℕ) (rows s : List ℕ) wher
         blank = e .blank ∙ ap (λ k. replicate k 0) (blank-as s₁ s₂ (b .blank) .1 ∙ blank-as s s₁ (a .blank) .1);
         goes = λ t. e .goes (make-finish t);
       }
+
+pub finished-unique : {f : OpenedField} {c d : ℕ} {rows s : List ℕ} (r₁ s₁ r₂ s₂ : List ℕ) → FinishedAsks f c d rows s
+    → Finishes f c d rows s r₁ s₁ → Finishes f c d rows s r₂ s₂ → (r₁ ≡ r₂) × (s₁ ≡ s₂)
+finished-unique {c = c} r₁ s₁ r₂ s₂ t a b = (rows-unique (t .task .known .kept .accepted) c r₁ r₂ (a .goes t) (b .goes t), a .blank ∙ sym (b .blank))

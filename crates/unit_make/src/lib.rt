@@ -5,7 +5,8 @@ use poly_long::clear;
 use poly_long::to_stored;
 use step_next::StepTaken;
 use step_next::step_in_field;
-ghost use Rattle.unit_make.specs.Making.{MultipliedAsks, Multiplies, StartedAsks, Starts, StepAndMultiplyAsks, Further, ProductAsks, ProductOf, InvertedAsks, Inverses, FinishedAsks, Finishes, MakeAsks, Making};
+use unit_finish::finished;
+ghost use Rattle.unit_make.specs.Making.{MultipliedAsks, Multiplies, StartedAsks, Starts, StepAndMultiplyAsks, Further, ProductAsks, ProductOf, MakeAsks, Making};
 
 // E times m in place, n coefficients of each row; b is the record of m.
 fn multiplied(f: OpenedField, c: usize, n: usize, b: [u16; 119], rows: &mut [u16], s: &mut [u16])
@@ -66,33 +67,6 @@ fn started(rows: &mut [u16], s: &mut [u16])
     clear(rows);
     clear(s);
     rows[0] = 1;
-}
-
-// The inverse after E, from the k low coefficients of the cofactor.
-fn inverted(f: OpenedField, c: usize, k: usize, rows: &mut [u16], s: &mut [u16])
-    requires { ⌜ InvertedAsks f c k (now rows) (now s) ⌝ }
-    ensures { λ _. ⌜ Inverses f c (now (rows .entry)) (now (s .entry)) (now (rows .exit)) (now (s .exit)) ⌝ }
-{
-    let q = f.field;
-    let x = q.g;
-    let y = q.h;
-    let z = q.gh;
-    let m = poly_rows::minus(q.p, &z);
-    let g = to_stored(&x);
-    let h = to_stored(&y);
-    let gh = to_stored(&z);
-    let ngh = to_stored(&m);
-    unit_inverse::invert(q.p, c, k, &g, &h, &gh, &ngh, rows, s);
-}
-
-// E made monic, and its inverse; E has degree d.
-fn finished(f: OpenedField, c: usize, d: usize, rows: &mut [u16], s: &mut [u16])
-    requires { ⌜ FinishedAsks f c d (now rows) (now s) ⌝ }
-    ensures { λ _. ⌜ Finishes f c d (now (rows .entry)) (now (s .entry)) (now (rows .exit)) (now (s .exit)) ⌝ }
-{
-    let q = f.field;
-    unit_rows::monic(q.p, c, d + 1, rows);
-    inverted(f, c, d / 2 + 1, rows, s);
 }
 
 // The unit of degree d that closes after `steps` steps from the order's record b, and its inverse.

@@ -1,7 +1,7 @@
 -- The rows of an element in one list: `cut at n l` of crate base_lists is the row of n numbers from place `at` on.
 use mathlib.Core.Path.{_≡_}
 use mathlib.Core.List.{List}
-use Prim.Native.Nat.{ℕ, _+_, _*_, _-_, _%_, _<_, _≤_}
+use Prim.Native.Nat.{ℕ, _+_, _-_, _<_, _≤_}
 use lib.ListN.{length, getD, replicate}
 use Rattle.math_fp.specs.Fp.{Prime}
 use Rattle.math_valued.specs.Degree.{Lt}
@@ -89,22 +89,3 @@ pub record Turn (p c n : ℕ) (g h gh b rows s rows′ s′ : List ℕ) : Type 0
       → o .mul U z ≡ o .add (o .add (o .mul E0 M2) (o .mul E2 M0)) (o .mul (o .mul E1 M1) (row ρ h))
       → (row ρ (cut 0 c rows′) ≡ x) × (row ρ (cut c c rows′) ≡ y) × (row ρ (cut (c + c) c rows′) ≡ z)
   pub blank : s′ ≡ replicate (length s) 0
-
--- the first three rows, times the inverse of the coefficient n − 1 of the first
-pub record MonicAsks (p c n : ℕ) (rows : List ℕ) : Type 0 where
-  pub modulus : Storable p
-  pub some : 0 < n
-  pub upto : n ≤ c
-  pub room : c + c + c ≤ length rows
-  pub most : c ≤ 4096
-  pub top : 0 < getD rows (n - 1) 0
-  pub top-below : getD rows (n - 1) 0 < p
-
-pub record MonicMade (p c n : ℕ) (rows rows′ : List ℕ) : Type 0 where
-  pub size : length rows′ ≡ length rows
-  pub each : (i : ℕ) → i < c + c + c → getD rows′ i 0 < p
-  pub rest : (i : ℕ) → c + c + c ≤ i → getD rows′ i 0 ≡ getD rows i 0
-  pub by : ℕ
-  pub by-below : by < p
-  pub one : (getD rows (n - 1) 0 * by) % p ≡ 1
-  pub at : (i : ℕ) → i < c + c + c → getD rows′ i 0 ≡ (getD rows i 0 * by) % p

@@ -1,13 +1,10 @@
 // The six rows of a unit and its inverse, in one lent slice: E0, E1, E2, F0, F1, F2 of c coefficients each. Here the rows of E.
-use base_lists::wide;
-use num_mod::inverse;
 use poly_long::clear;
 use poly_long::copy;
 use poly_long::quotient;
-use poly_long::scale;
 use poly_long::size;
 ghost use mathlib.Core.Path.{_≡_};
-ghost use Rattle.unit_rows.specs.Six.{ByAsks, By, CoordinateAsks, Coordinate, TimesAsks, Times, MultiplyByMAsks, Turn, MonicAsks, MonicMade};
+ghost use Rattle.unit_rows.specs.Six.{ByAsks, By, CoordinateAsks, Coordinate, TimesAsks, Times, MultiplyByMAsks, Turn};
 ghost use lib.ListN.{length, replicate};
 
 // x y, for two short ones
@@ -111,15 +108,4 @@ pub fn multiply_by_m(
     let to = c + c + c;
     copy(&s[z..to], &mut rows[z..to]);
     clear(s);
-}
-
-// E scaled so that E0, of n coefficients, is monic.
-pub fn monic(p: u64, c: usize, n: usize, rows: &mut [u16])
-    requires { ⌜ MonicAsks p c n (now rows) ⌝ }
-    ensures { λ _. ⌜ MonicMade p c n (now (rows .entry)) (now (rows .exit)) ⌝ }
-{
-    let q = inverse(p, wide(rows[n - 1]));
-    let z: usize = 0;
-    let to = c + c + c;
-    scale(p, q, &mut rows[z..to]);
 }

@@ -16,7 +16,7 @@ use Rattle.field_series.specs.Keeps.{Keeps}
 use Rattle.step_next.specs.Steps.{Steps, Advanced}
 use Rattle.step_next.specs.declared.StepTaken.{StepTaken}
 use Rattle.walk_chain.specs.declared.WalkAnswer.{WalkAnswer}
-use Rattle.walk_chain.specs.Closed.{IsClosedAsks, OnePart}
+use Rattle.walk_closed.specs.Closed.{IsClosedAsks, OnePart}
 use Rattle.walk_chain.specs.Walk.{Reaches, Closes, StaysOpen, Closed, Spent}
 use Rattle.base_answers.specs.Limits.{most}
 use Rattle.walk_chain.specs.Going.{WalkOnRowsAsks, Gone, Going}

@@ -1,5 +1,4 @@
 pub mod Walk
 pub mod TakenUp
-pub mod One
 pub mod Going
 pub mod Even

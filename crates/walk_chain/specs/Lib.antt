@@ -1,4 +1,3 @@
 pub mod Walk
-pub mod Closed
 pub mod Going
 pub mod InField

@@ -1,6 +1,6 @@
 // The walk along the chain of minima, from a record; it asks for an accepted field. The doors are in crate door_walk.
 use step_next::step_on_rows;
-ghost use Rattle.walk_chain.specs.Closed.{IsClosedAsks, OnePart};
+use walk_closed::is_closed;
 ghost use Rattle.walk_chain.specs.Going.{WalkOnRowsAsks, Gone};
 ghost use Rattle.walk_chain.specs.InField.{WalkInFieldAsks, WalkInFieldGives};
 
@@ -10,24 +10,6 @@ pub struct WalkAnswer {
     pub steps: u64,
     pub sum: u64,
     pub basis: [u16; 119],
-}
-
-// Whether U = 1: the ideal is the whole order. U is the last row, from place 102 on.
-fn is_closed(p: u64, b: &[u16; 119]) -> bool
-    requires { ⌜ IsClosedAsks p (now b) ⌝ }
-    ensures { λ r. ⌜ OnePart p (now (b .entry)) r ⌝ }
-{
-    if b[102] != 1 {
-        return false;
-    }
-    let mut k: usize = 103;
-    while k < 119 {
-        if b[k] != 0 {
-            return false;
-        }
-        k += 1;
-    }
-    true
 }
 
 // At most `budget` steps from a record; what a field keeps from step to step is lent.

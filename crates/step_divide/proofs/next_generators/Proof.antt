@@ -1,6 +1,6 @@
 -- `step_divide::next_generators` meets its contract.
 use mathlib.Core.Path.{refl}
-use Rattle.step_divide.proofs.Products.{modulus, lengths-in}
+use Rattle.step_coordinates.proofs.Products.{modulus, lengths-in}
 use Rattle.step_divide.proofs.Generate.{turn-in, take-in, divided}
 use Rattle.step_divide.proofs.next_generators.Statement.{statement}
 use Rattle.step_divide.proofs.next_generators.Tie as tie

@@ -1,6 +1,7 @@
 -- `step_next::step_in` meets its contract.
 use native.Mathlib.Omega.{arith}
-use Rattle.step_next.proofs.Made.{n-small, cut-fits, basis-by, based-by, reduced-in, advanced-of}
+use Rattle.step_part.proofs.Loaded.{n-small}
+use Rattle.step_next.proofs.Made.{cut-fits, basis-by, based-by, reduced-in, advanced-of}
 use Rattle.step_next.proofs.step_in.Statement.{statement}
 use Rattle.step_next.proofs.step_in.Tie as tie
 

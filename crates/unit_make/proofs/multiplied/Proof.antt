@@ -3,7 +3,8 @@ use Prim.Native.Nat.{_-_}
 use mathlib.Core.Path.{_∙_, ap}
 use lib.ListN.{length, length-replicate}
 use borrow.Author.Needs.{needs}
-use Rattle.unit_make.proofs.Turning.{stored-g, stored-h, stored-gh, turn-in, multiplies}
+use Rattle.unit_finish.proofs.Stored.{stored-g, stored-h, stored-gh}
+use Rattle.unit_make.proofs.Turning.{turn-in, multiplies}
 use Rattle.unit_make.proofs.multiplied.Statement.{statement}
 use Rattle.unit_make.proofs.multiplied.Tie as tie
 

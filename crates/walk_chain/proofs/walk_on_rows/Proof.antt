@@ -6,7 +6,7 @@ use native.Mathlib.Omega.{arith}
 use native.Mathlib.Numerals.{add-one}
 use borrow.Author.Needs.{needs}
 use Rattle.base_answers.specs.Limits.{most}
-use Rattle.walk_chain.specs.Closed.{OnePart}
+use Rattle.walk_closed.specs.Closed.{OnePart}
 use Rattle.walk_chain.specs.Going.{Going}
 use Rattle.walk_chain.proofs.Going.{going-start, record-at, gone-spent, degree-at, closed-at, gone-closed, going-more}
 use Rattle.walk_chain.proofs.walk_on_rows.Statement.{statement}

@@ -1,0 +1,5 @@
+pub mod Coordinates
+pub mod Negated
+pub mod Products
+pub mod Turned
+pub mod Once

@@ -1,0 +1,2 @@
+pub mod Norms
+pub mod Constant
