@@ -1,11 +1,11 @@
--- `basis_scale::factors_of` meets its contract: `scaling`.
+-- `basis_store::factors_of` meets its contract: `scaling`.
 use Prim.Native.Nat.{ℕ, _*_, _%_, _<_}
 use native.Mathlib.Nat.{mod-lt}
 use native.Mathlib.Omega.{arith}
-use Rattle.basis_scale.proofs.Scales.{product-fits, scales-in, scaling}
+use Rattle.basis_store.proofs.Scales.{product-fits, scales-in, scaling}
 use borrow.Author.Needs.{needs}
-use Rattle.basis_scale.proofs.factors_of.Statement.{statement}
-use Rattle.basis_scale.proofs.factors_of.Tie as tie
+use Rattle.basis_store.proofs.factors_of.Statement.{statement}
+use Rattle.basis_store.proofs.factors_of.Tie as tie
 
 mul-ab : tie.Need-mul-ab
 mul-ab c = let k : c .args .a * c .args .b < 4611686018427387904 = product-fits (c .args .a) (c .args .b) (c .pre .modulus) (c .pre .a-low) (c .pre .b-low) in record { fits = omega arith }

@@ -1,7 +1,7 @@
--- `basis_scale::filled` meets its contract: each part finds the record 0 from its row on.
-use Rattle.basis_scale.proofs.Place.{fill-m, fill-n, fill-u}
-use Rattle.basis_scale.proofs.filled.Statement.{statement}
-use Rattle.basis_scale.proofs.filled.Tie as tie
+-- `basis_store::filled` meets its contract: each part finds the record 0 from its row on.
+use Rattle.basis_store.proofs.Place.{fill-m, fill-n, fill-u}
+use Rattle.basis_store.proofs.filled.Statement.{statement}
+use Rattle.basis_store.proofs.filled.Tie as tie
 
 store-element-requires : tie.Need-store-element-requires
 store-element-requires c κs = fill-m (c .before .before .before .before .pre)

@@ -24,8 +24,8 @@ use Rattle.poly_rows.specs.Division.{DivisionAsks, Quotient}
 use Rattle.poly_rows.proofs.Leaf.{size-unique}
 use Rattle.poly_lent.specs.Sized.{Mixed}
 use Rattle.basis_parts.specs.Frame.{Short}
-use Rattle.basis_scale.specs.Levels.{RowZeroAsks, Leveled, Monic}
-use Rattle.basis_scale.proofs.Two.{half}
+use Rattle.basis_store.specs.Levels.{RowZeroAsks, Leveled, Monic}
+use Rattle.basis_store.proofs.Two.{half}
 use Rattle.poly_rows.proofs.Lengths.{row-short}
 
 module _ {M : Modulus} {u : List ℕ} {lu : ℕ} {k : List ℕ} {n : ℕ} {x : List ℕ} {top : ℕ} (i : RowZeroAsks M u lu k n x top) where

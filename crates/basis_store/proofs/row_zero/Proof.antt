@@ -1,10 +1,10 @@
--- `basis_scale::row_zero` meets its contract: `leveled`.
+-- `basis_store::row_zero` meets its contract: `leveled`.
 use mathlib.Core.Path.{refl}
 use Prim.Native.Nat.{_<_}
 use native.Mathlib.Omega.{arith}
-use Rattle.basis_scale.proofs.Levels.{level-divide, level-half, leveled}
-use Rattle.basis_scale.proofs.row_zero.Statement.{statement}
-use Rattle.basis_scale.proofs.row_zero.Tie as tie
+use Rattle.basis_store.proofs.Levels.{level-divide, level-half, leveled}
+use Rattle.basis_store.proofs.row_zero.Statement.{statement}
+use Rattle.basis_store.proofs.row_zero.Tie as tie
 
 quotient-in-requires : tie.Need-quotient-in-requires
 quotient-in-requires c κs =

@@ -24,9 +24,9 @@ use Rattle.num_mod.specs.declared.Modulus.{Modulus}
 use Rattle.basis_record.specs.Record.{part}
 use Rattle.basis_parts.specs.Frame.{Short}
 use Rattle.basis_reduce.specs.Clear.{Pair}
-use Rattle.basis_scale.specs.Levels.{Monic}
+use Rattle.basis_store.specs.Levels.{Monic}
 use Rattle.basis_record.specs.Store.{Stored}
-use Rattle.basis_scale.specs.declared.Factors.{Factors}
+use Rattle.basis_store.specs.declared.Factors.{Factors}
 
 -- a + b x + c y
 abbrev pub off : {A : Type 0} → Ops A → A → A → A → A → A → A

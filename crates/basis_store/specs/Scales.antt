@@ -8,7 +8,7 @@ use Rattle.math_valued.specs.Val.{Valued}
 use Rattle.num_mod.specs.Residue.{IsModulus}
 use Rattle.math_rows.specs.Reading.{Reading}
 use Rattle.math_rows.specs.Made.{reading}
-use Rattle.basis_scale.specs.declared.Factors.{Factors}
+use Rattle.basis_store.specs.declared.Factors.{Factors}
 
 pub record FactorsOfAsks (p a b c : ℕ) : Type 0 where
   pub modulus : IsModulus p

@@ -27,9 +27,9 @@ use Rattle.basis_record.specs.Record.{part}
 use Rattle.basis_parts.specs.Frame.{Short}
 use Rattle.basis_parts.proofs.Laid.{zeros-at}
 use Rattle.basis_record.specs.Store.{StoredAsks, Stored}
-use Rattle.basis_scale.specs.Levels.{RowZeroAsks, Leveled}
-use Rattle.basis_scale.specs.Place.{StoreElementAsks, padded, Placed, FilledAsks}
-use Rattle.basis_scale.specs.declared.Factors.{Factors}
+use Rattle.basis_store.specs.Levels.{RowZeroAsks, Leveled}
+use Rattle.basis_store.specs.Place.{StoreElementAsks, padded, Placed, FilledAsks}
+use Rattle.basis_store.specs.declared.Factors.{Factors}
 use Rattle.basis_record.proofs.Store.{stored-part, stored-other, stored-blank, stored-each}
 
 -- a row that was stored is the record's, padded

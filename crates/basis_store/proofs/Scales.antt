@@ -13,9 +13,9 @@ use Rattle.num_mod.specs.Residue.{IsModulus, Nonzero, Inverse}
 use Rattle.math_rows.specs.Made.{reading}
 use Rattle.math_rows.proofs.Numbers.{cast-product, product-some}
 use Rattle.basis_parts.proofs.Leaves.{less-square}
-use Rattle.basis_scale.specs.Scales.{FactorsOfAsks, Scaling}
-use Rattle.basis_scale.proofs.Two.{cast-two}
-use Rattle.basis_scale.specs.declared.Factors.{Factors}
+use Rattle.basis_store.specs.Scales.{FactorsOfAsks, Scaling}
+use Rattle.basis_store.proofs.Two.{cast-two}
+use Rattle.basis_store.specs.declared.Factors.{Factors}
 
 module _ {p a b c : ℕ} (g : FactorsOfAsks p a b c) where
   pos : 0 < p

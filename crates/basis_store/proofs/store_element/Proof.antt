@@ -1,9 +1,9 @@
--- `basis_scale::store_element` meets its contract: the lemmas of Place.
+-- `basis_store::store_element` meets its contract: the lemmas of Place.
 use Prim.Native.Nat.{ℕ, _+_, _<_}
 use native.Mathlib.Omega.{arith}
-use Rattle.basis_scale.proofs.Place.{place-scale, place-cut, place-both, place-level, place-0, place-1, place-2, placed}
-use Rattle.basis_scale.proofs.store_element.Statement.{statement}
-use Rattle.basis_scale.proofs.store_element.Tie as tie
+use Rattle.basis_store.proofs.Place.{place-scale, place-cut, place-both, place-level, place-0, place-1, place-2, placed}
+use Rattle.basis_store.proofs.store_element.Statement.{statement}
+use Rattle.basis_store.proofs.store_element.Tie as tie
 
 scale-in-requires : tie.Need-scale-in-requires
 scale-in-requires c κs = place-scale (c .before .pre) (c .before .pre .inp .hb) (c .before .pre .inp .low-b)
