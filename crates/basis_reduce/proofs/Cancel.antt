@@ -21,7 +21,7 @@ use Rattle.math_rows.proofs.Turn.{comb-drop}
 use Rattle.math_rows.proofs.Floors.{sized}
 use Rattle.math_turns.specs.Points.{Pt, Turned}
 use Rattle.math_turns.proofs.Turn.{turned-side, b-lt, c-lt}
-use Rattle.poly_rows.specs.Leaf.{CrossInAsks, CrossInGives}
+use Rattle.poly_cross.specs.Cross.{CrossInAsks, CrossInGives}
 use Rattle.basis_parts.specs.Frame.{Frame, Fine, Meaning, Short, rd, Ser, pt, X, Y, side, Ltμ, shift, rowμ}
 use Rattle.basis_parts.specs.Leaves.{PartAsks, TopOfAsks, Topped}
 use Rattle.basis_reduce.specs.Clear.{Rows, Room, RoomAt, CanceledAsks, CanceledGives}

@@ -6,7 +6,7 @@ use basis_parts::Top;
 use basis_parts::floor_in;
 use basis_parts::top_of;
 use num_mod::Modulus;
-use poly_rows::cross_in;
+use poly_cross::cross_in;
 use poly_rows::size_from;
 ghost use Rattle.basis_parts.specs.Given.{given};
 ghost use Rattle.basis_reduce.specs.Clear.{CanceledAsks, CanceledGives, ClearYAsks, Cleared, ClearXAsks, Sheared, ReducedAsks, Reduced, pair, ends, swapIf, endsIf};

@@ -24,7 +24,7 @@ use Rattle.math_rows.proofs.Unique.{cast-inj}
 use Rattle.num_mod.specs.Prepared.{Prepared}
 use Rattle.num_mod.specs.declared.Modulus.{Modulus}
 use Rattle.num_mod.proofs.Prepared.{bare}
-use Rattle.poly_rows.specs.Leaf.{Scaled, ScaleInAsks, ScaleInGives}
+use Rattle.poly_cross.specs.Cross.{Scaled, ScaleInAsks, ScaleInGives}
 use Rattle.poly_rows.proofs.Leaf.{size-unique}
 use Rattle.poly_lent.proofs.Mixing.{size-cut}
 use Rattle.basis_record.specs.Record.{part}

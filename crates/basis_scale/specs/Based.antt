@@ -20,7 +20,7 @@ use Rattle.math_triple.specs.Sizes.{sizeZ}
 use Rattle.math_valued.specs.Val.{Valued}
 use Rattle.math_rows.specs.Reading.{Reading}
 use Rattle.math_rows.specs.Row.{Size}
-use Rattle.poly_rows.specs.Leaf.{Scaled}
+use Rattle.poly_cross.specs.Cross.{Scaled}
 use Rattle.math_ideals.specs.Tests.{InNumbers}
 use Rattle.math_turns.specs.Points.{Pt, Moved}
 use Rattle.basis_record.specs.Record.{part}

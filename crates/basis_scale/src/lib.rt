@@ -4,7 +4,7 @@ use basis_parts::lead_of;
 use basis_reduce::reduced;
 use basis_store::factors_of;
 use basis_store::filled;
-use poly_rows::scale_in;
+use poly_cross::scale_in;
 ghost use Prim.Native.Nat.{_+_, _*_, _-_, _%_, _<_, _≤_};
 ghost use Rattle.basis_parts.specs.Given.{given};
 ghost use Rattle.basis_reduce.specs.Clear.{pair, ends};

@@ -19,7 +19,7 @@ use Rattle.math_rows.specs.Reading.{Reading}
 use Rattle.math_rows.specs.Made.{reading}
 use Rattle.math_rows.specs.Row.{row, shiftAt, tpow}
 use Rattle.math_rows.proofs.Rows.{row-poly, size-has-at}
-use Rattle.poly_rows.specs.Leaf.{CrossInAsks, CrossInGives}
+use Rattle.poly_cross.specs.Cross.{CrossInAsks, CrossInGives}
 use Rattle.poly_rows.specs.Division.{DivisionAsks, Quotient}
 use Rattle.poly_rows.proofs.Leaf.{size-unique}
 use Rattle.poly_lent.specs.Sized.{Mixed}

@@ -19,7 +19,8 @@ use Rattle.math_rows.specs.Reading.{Reading}
 use Rattle.math_rows.specs.Made.{reading}
 use Rattle.math_rows.specs.Row.{Size, row}
 use Rattle.math_rows.proofs.Tab.{length-tab, at-tab}
-use Rattle.poly_rows.specs.Leaf.{Cut, ScaleInAsks, ScaleInGives}
+use Rattle.poly_rows.specs.Leaf.{Cut}
+use Rattle.poly_cross.specs.Cross.{ScaleInAsks, ScaleInGives}
 use Rattle.poly_rows.proofs.Lengths.{size-below, short-up, short-cut, scaled-short}
 use Rattle.poly_lent.specs.Sized.{BothInAsks, BothInGives}
 use Rattle.poly_lent.proofs.Mixing.{size-cut}

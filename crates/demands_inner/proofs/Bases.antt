@@ -33,7 +33,7 @@ use Rattle.basis_parts.specs.Frame.{Frame, Meaning, rd, rowμ, X, Y, Ltμ}
 use Rattle.basis_reduce.specs.Clear.{Pair, pair, swapIf}
 use Rattle.basis_record.specs.Store.{Stored, Loaded}
 use Rattle.basis_scale.specs.First.{nothing, unit, units, OrderAsks}
-use Rattle.poly_rows.specs.Leaf as leaf
+use Rattle.poly_cross.specs.Cross as cross
 use Rattle.basis_store.specs.Place.{padded}
 use Rattle.basis_scale.specs.Based.{ReducedBasisAsks, ReducedBasisGives, BasedAt, Based, Z, at, Mpt, Npt}
 use Rattle.demands_inner.proofs.Rows.{by-row}
@@ -211,7 +211,7 @@ pub reduced-basis-unique : {F : Frame} {q : Pair} {top : ℕ} {d : List ℕ} {lu
 reduced-basis-unique {F} g h k =
     let μ = g .inp .clear .some in
     let e = based-unique μ (h .based) (k .based) in
-    let same : {x s t : List ℕ} → leaf.Scaled (F .m .p) 2 x s → leaf.Scaled (F .m .p) 2 x t → s ≡ t = λ {x} {s} {t} a b. by-row (rd μ) (a .is-row) (b .is-row) (a .law (μ .prime)) (b .law (μ .prime)) in (
+    let same : {x s t : List ℕ} → cross.Scaled (F .m .p) 2 x s → cross.Scaled (F .m .p) 2 x t → s ≡ t = λ {x} {s} {t} a b. by-row (rd μ) (a .is-row) (b .is-row) (a .law (μ .prime)) (b .law (μ .prime)) in (
       e,
       h .left .rows ∙ ap (λ B. pair (padded 1 B) (padded 2 B) (padded 4 B) (padded 5 B)) e ∙ sym (k .left .rows),
       h .left .u ∙ ap (padded 6) e ∙ sym (k .left .u),

@@ -22,7 +22,8 @@ use Rattle.math_rows.proofs.Floors.{sized}
 use Rattle.math_rows.proofs.Quotient.{division-unique}
 use Rattle.math_rows.proofs.Unique.{row-unique}
 use Rattle.num_prime.specs.Table.{PrimeTest}
-use Rattle.poly_rows.specs.Leaf.{Given, Opposite, ScaleInAsks, ScaleInGives, CrossInAsks, CrossInGives, MulAsks, Product, Listed}
+use Rattle.poly_rows.specs.Leaf.{Given, Opposite, MulAsks, Product, Listed}
+use Rattle.poly_cross.specs.Cross.{ScaleInAsks, ScaleInGives, CrossInAsks, CrossInGives}
 use Rattle.num_mod.specs.Prepared.{Added}
 use Rattle.num_mod.specs.declared.Modulus.{Modulus}
 use Rattle.poly_rows.specs.Division.{DivisionAsks, Quotient}

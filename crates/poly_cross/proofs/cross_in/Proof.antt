@@ -1,12 +1,12 @@
--- `poly_rows::cross_in` meets its contract: a row turned in place up to n, then `crossed`.
+-- `poly_cross::cross_in` meets its contract: a row turned in place up to n, then `crossed`.
 use mathlib.Core.Path.{ap₂, _∙_}
 use Prim.Native.Nat.{_≤_, _-_, _*_, _+_, _%_}
 use native.Mathlib.Omega.{arith}
 use Rattle.math_rows.proofs.Tab.{crossAt}
-use Rattle.poly_rows.proofs.Leaf.{Swept, swept-start, swept-more, cross-low, crossed}
+use Rattle.poly_cross.proofs.Cross.{Swept, swept-start, swept-more, cross-low, crossed}
 use borrow.Author.Needs.{needs}
-use Rattle.poly_rows.proofs.cross_in.Statement.{statement}
-use Rattle.poly_rows.proofs.cross_in.Tie as tie
+use Rattle.poly_cross.proofs.cross_in.Statement.{statement}
+use Rattle.poly_cross.proofs.cross_in.Tie as tie
 
 abbrev Inv-loop : tie.InvT-loop
 Inv-loop q s x₀ c k y n d i₀ x i = (i ≤ n) × Swept 32 (crossAt (q .p) s x₀ c k y) x₀ x i

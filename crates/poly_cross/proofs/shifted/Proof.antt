@@ -1,10 +1,10 @@
--- `poly_rows::shifted` meets its contract.
+-- `poly_cross::shifted` meets its contract.
 use mathlib.Core.Path.{sym}
 use native.Mathlib.Omega.{arith}
 use Rattle.math_rows.proofs.Tab.{shift-low, shift-high}
 use borrow.Author.Needs.{needs}
-use Rattle.poly_rows.proofs.shifted.Statement.{statement}
-use Rattle.poly_rows.proofs.shifted.Tie as tie
+use Rattle.poly_cross.proofs.shifted.Statement.{statement}
+use Rattle.poly_cross.proofs.shifted.Tie as tie
 
 mul-result : tie.Need-mul-result
 mul-result c = search needs

@@ -1,13 +1,13 @@
--- `poly_rows::scale_in` meets its contract: a row turned in place up to n, then `scaled`.
+-- `poly_cross::scale_in` meets its contract: a row turned in place up to n, then `scaled`.
 use mathlib.Core.Path.{ap, _∙_, subst, sym}
 use Prim.Native.Nat.{_≤_, _<_, _-_, _*_, _%_}
 use native.Mathlib.Omega.{arith}
 use lib.ListN.{getD}
-use Rattle.poly_rows.proofs.Leaf.{Swept, swept-start, swept-more, scaled}
+use Rattle.poly_cross.proofs.Cross.{Swept, swept-start, swept-more, scaled}
 use Rattle.num_mod.proofs.Quick.{small-mul}
 use borrow.Author.Needs.{needs}
-use Rattle.poly_rows.proofs.scale_in.Statement.{statement}
-use Rattle.poly_rows.proofs.scale_in.Tie as tie
+use Rattle.poly_cross.proofs.scale_in.Statement.{statement}
+use Rattle.poly_cross.proofs.scale_in.Tie as tie
 
 abbrev Inv-loop : tie.InvT-loop
 Inv-loop q c x₀ n i₀ x i = (i ≤ n) × Swept 32 (λ k. (c * getD x₀ k 0) % q .p) x₀ x i
