@@ -4,10 +4,10 @@
 // and for a product the sum of its factors' lengths: 12,327 for the norm.
 use book_body::HEAD;
 use book_body::LENGTHS;
-use poly_long::mix;
+use poly_products::mix;
 use poly_long::scale;
 use poly_long::size;
-use poly_long::times;
+use poly_products::times;
 ghost use mathlib.Core.Path.{_≡_};
 ghost use Prim.Native.Nat.{_<_};
 ghost use Rattle.base_answers.specs.Decides.{Decides};

@@ -16,7 +16,8 @@ use Rattle.math_rows.specs.Made.{reading}
 use Rattle.math_rows.specs.Row.{row}
 use Rattle.math_rows.proofs.Tab.{length-tab, at-tab, past-tab}
 use Rattle.math_rows.proofs.Unique.{list-unique}
-use Rattle.poly_long.specs.Long.{QuotientAsks, Quotient, MixAsks, Mixed, TimesAsks, Times, Scaled}
+use Rattle.poly_long.specs.Long.{Scaled}
+use Rattle.poly_products.specs.Products.{QuotientAsks, Quotient, MixAsks, Mixed, TimesAsks, Times}
 use Rattle.unit_rows.specs.Six.{cut, Turn, MonicAsks, MonicMade}
 use Rattle.unit_inverse.specs.Inverse.{element, InvertAsks, Inverted}
 use Rattle.demands_inner.specs.Turnable.{at, Turnable}

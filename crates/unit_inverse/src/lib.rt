@@ -2,7 +2,7 @@
 use base_lists::wide;
 use num_mod::inverse;
 use poly_long::clear;
-use poly_long::mix;
+use poly_products::mix;
 use poly_long::scale;
 ghost use Rattle.unit_inverse.specs.Inverse.{PairAsks, Pair, CofactorAsks, Cofactor, NormAsks, Norm, InvertAsks, Inverted};
 

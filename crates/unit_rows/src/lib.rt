@@ -3,7 +3,7 @@ use base_lists::wide;
 use num_mod::inverse;
 use poly_long::clear;
 use poly_long::copy;
-use poly_long::quotient;
+use poly_products::quotient;
 use poly_long::scale;
 use poly_long::size;
 ghost use mathlib.Core.Path.{_≡_};
@@ -16,7 +16,7 @@ fn by(p: u64, x: &[u16], y: &[u16]) -> [u16; 50]
     ensures { λ r. ⌜ By p (now (x .entry)) (now (y .entry)) r ⌝ }
 {
     let mut d: [u16; 50] = [0; 50];
-    poly_long::times(p, x, y, &mut d);
+    poly_products::times(p, x, y, &mut d);
     d
 }
 

@@ -4,7 +4,7 @@ use mathlib.Core.Path.{_≡_, refl, sym, ap, ap₂, _∙_}
 use mathlib.Core.Logic.{_⊎_, inl, inr}
 use mathlib.Core.List.{List}
 use Prim.Native.Nat.{ℕ, zero, suc, _+_, _*_, _-_, _<_, _≤_}
-use native.Mathlib.Nat.{mul-zero, zero-mul, mul-le-mul}
+use native.Mathlib.Nat.{mul-zero, zero-mul}
 use native.Mathlib.Numerals.{add-one}
 use native.Mathlib.Omega.{arith}
 use native.Mathlib.Decide.{decLe, decLt}
@@ -13,11 +13,8 @@ use Rattle.math_rows.specs.Row.{shiftAt, Size}
 use Rattle.math_rows.specs.Sum.{sumTo, termAt}
 use Rattle.math_rows.proofs.Tab.{shift-low, shift-high}
 use Rattle.math_rows.proofs.Product.{sum-more, sum-none, sum-skip}
-use Rattle.poly_long.specs.Long.{SumAt}
-
--- two stored coefficients
-pub product-small : (a b : ℕ) → a < 65536 → b < 65536 → a * b ≤ 4294836225
-product-small a b ha hb = let e : a * b ≤ 65535 * 65535 = mul-le-mul {n₁ = a} {m₁ = b} {n₂ = 65535} {m₂ = 65535} (omega arith) (omega arith) in e
+use Rattle.poly_long.proofs.Loops.{product-small}
+use Rattle.poly_products.specs.Products.{SumAt}
 
 -- terms where y has no coefficient
 pub term-low : (x y : List ℕ) (k i : ℕ) → k < i → termAt x y k i ≡ 0

@@ -1,8 +1,8 @@
--- `poly_long::times` meets its contract.
-use Rattle.poly_long.proofs.Low.{timed}
+-- `poly_products::times` meets its contract.
+use Rattle.poly_products.proofs.Mixing.{timed}
 use borrow.Author.Needs.{needs}
-use Rattle.poly_long.proofs.times.Statement.{statement}
-use Rattle.poly_long.proofs.times.Tie as tie
+use Rattle.poly_products.proofs.times.Statement.{statement}
+use Rattle.poly_products.proofs.times.Tie as tie
 
 slice-aggregate-mix : tie.Need-slice-aggregate-mix
 slice-aggregate-mix c = search needs

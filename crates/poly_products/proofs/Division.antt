@@ -20,8 +20,8 @@ use Rattle.math_rows.proofs.Tab.{shift-high}
 use Rattle.math_rows.proofs.Rows.{cast-sub}
 use Rattle.math_rows.proofs.Unique.{psum-unique, cast-inj}
 use Rattle.math_rows.proofs.Product.{sum-more, sum-ext}
-use Rattle.poly_long.specs.Long.{termsAt, Digit, QuotientAsks, Quotient}
+use Rattle.poly_products.specs.Products.{termsAt, Digit, QuotientAsks, Quotient}
 use Rattle.poly_long.proofs.Low.{product-whole, sum₃}
 
 -- u l = a x + b y + c z, with l of n numbers below p
 pub record Fits {p : ℕ} (ρ : Reading p) (a x b y c z u : List ℕ) (n : ℕ) (l : List ℕ) : Type 0 where
