@@ -4,7 +4,7 @@ use num_mod::Modulus;
 use num_mod::inverse;
 use poly_lent::both_in;
 use poly_lent::mix_in;
-use poly_lent::quotient_in;
+use poly_divide::quotient_in;
 use poly_cross::cross_in;
 use poly_cross::scale_in;
 use poly_rows::size_from;

@@ -1,6 +1,6 @@
--- `poly_lent::less_in` meets its contract: `mix_in` and the length.
-use Rattle.poly_lent.proofs.less_in.Statement.{statement}
-use Rattle.poly_lent.proofs.less_in.Tie as tie
+-- `poly_divide::less_in` meets its contract: `mix_in` and the length.
+use Rattle.poly_divide.proofs.less_in.Statement.{statement}
+use Rattle.poly_divide.proofs.less_in.Tie as tie
 
 mix-in-requires : tie.Need-mix-in-requires
 mix-in-requires c κs = c .before .pre

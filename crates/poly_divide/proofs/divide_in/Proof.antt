@@ -1,7 +1,7 @@
--- `poly_lent::divide_in` meets its contract: what is left where the quotient times b is taken off.
+-- `poly_divide::divide_in` meets its contract: what is left where the quotient times b is taken off.
 use Rattle.poly_rows.proofs.Division.{divided}
-use Rattle.poly_lent.proofs.divide_in.Statement.{statement}
-use Rattle.poly_lent.proofs.divide_in.Tie as tie
+use Rattle.poly_divide.proofs.divide_in.Statement.{statement}
+use Rattle.poly_divide.proofs.divide_in.Tie as tie
 
 quotient-in-requires : tie.Need-quotient-in-requires
 quotient-in-requires c κs = c .before .before .pre

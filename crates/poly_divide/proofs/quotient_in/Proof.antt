@@ -1,4 +1,4 @@
--- `poly_lent::quotient_in` meets its contract: each turn is `dividing-turn`.
+-- `poly_divide::quotient_in` meets its contract: each turn is `dividing-turn`.
 use mathlib.Core.Path.{_≡_, ap, subst, sym, _∙_}
 use Prim.Native.Nat.{_+_, _-_, _*_, _%_, _≤_, _<_}
 use native.Mathlib.Omega.{arith}
@@ -6,8 +6,8 @@ use borrow.Author.Needs.{needs}
 use mathlib.Core.Logic.{⊎-elim}
 use lib.ListN.{length}
 use Rattle.poly_rows.proofs.Division.{Dividing, dividing-start, dividing-digit, dividing-turn, dividing-end, exact-made}
-use Rattle.poly_lent.proofs.quotient_in.Statement.{statement}
-use Rattle.poly_lent.proofs.quotient_in.Tie as tie
+use Rattle.poly_divide.proofs.quotient_in.Statement.{statement}
+use Rattle.poly_divide.proofs.quotient_in.Tie as tie
 
 abbrev Inv-loop : tie.InvT-loop
 Inv-loop q a n b m il r₀ top k₀ r k = Dividing (q .p) a b il m top r k
