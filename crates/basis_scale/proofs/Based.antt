@@ -30,10 +30,11 @@ use Rattle.poly_lent.proofs.Mixing.{size-cut}
 use Rattle.basis_record.specs.Record.{part}
 use Rattle.basis_parts.specs.Frame.{Frame, Meaning, Short, Held, point, rd, Ser, rowμ, pt, X, Y, Ltμ}
 use Rattle.basis_parts.specs.Leaves.{LeadOfAsks, Led}
-use Rattle.basis_reduce.specs.Clear.{Pair, Ends, ClearYAsks, Reduced}
+use Rattle.basis_clear.specs.Clear.{Pair, ClearYAsks}
+use Rattle.basis_reduce.specs.Reduction.{Ends, Reduced}
 use Rattle.basis_store.specs.declared.Factors.{Factors}
 use Rattle.basis_parts.proofs.Laid.{zeros-at}
-use Rattle.basis_reduce.proofs.Clearing.{part-in, rows-of}
+use Rattle.basis_clear.proofs.Clearing.{part-in, rows-of}
 use Rattle.basis_store.specs.Levels.{Monic}
 use Rattle.basis_store.specs.Place.{off, ElementAsks, PlacedAt, FilledAsks, Filled}
 use Rattle.basis_store.specs.Scales.{FactorsOfAsks, Scaling}

@@ -25,7 +25,8 @@ use Rattle.math_ideals.specs.Tests.{InNumbers}
 use Rattle.math_turns.specs.Points.{Pt, Moved}
 use Rattle.basis_record.specs.Record.{part}
 use Rattle.basis_parts.specs.Frame.{Frame, Meaning, Short, rd, Ser, rowμ, pt}
-use Rattle.basis_reduce.specs.Clear.{Pair, pair, swapIf, Ends, ClearYAsks, Reduced}
+use Rattle.basis_clear.specs.Clear.{Pair, pair, swapIf, ClearYAsks}
+use Rattle.basis_reduce.specs.Reduction.{Ends, Reduced}
 use Rattle.basis_store.specs.Place.{off, padded}
 
 pub record BasisAsks (F : Frame) (q : Pair) (top : ℕ) (d x1 y1 : List ℕ) : Type 0 where

@@ -7,7 +7,8 @@ use basis_store::filled;
 use poly_cross::scale_in;
 ghost use Prim.Native.Nat.{_+_, _*_, _-_, _%_, _<_, _≤_};
 ghost use Rattle.basis_parts.specs.Given.{given};
-ghost use Rattle.basis_reduce.specs.Clear.{pair, ends};
+ghost use Rattle.basis_clear.specs.Clear.{pair};
+ghost use Rattle.basis_reduce.specs.Reduction.{ends};
 ghost use Rattle.basis_scale.specs.Based.{ReducedBasisAsks, ReducedBasisGives, BasisInAsks, Based, FinishedAsks, Finished};
 ghost use Rattle.basis_scale.specs.First.{OrderAsks, units, unit, nothing};
 

@@ -23,7 +23,7 @@ use Rattle.num_mod.specs.Prepared.{Prepared}
 use Rattle.num_mod.specs.declared.Modulus.{Modulus}
 use Rattle.basis_record.specs.Record.{part}
 use Rattle.basis_parts.specs.Frame.{Short}
-use Rattle.basis_reduce.specs.Clear.{Pair}
+use Rattle.basis_clear.specs.Clear.{Pair}
 use Rattle.basis_store.specs.Levels.{Monic}
 use Rattle.basis_record.specs.Store.{Stored}
 use Rattle.basis_store.specs.declared.Factors.{Factors}

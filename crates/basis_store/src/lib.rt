@@ -9,7 +9,7 @@ use poly_cross::cross_in;
 use poly_cross::scale_in;
 use poly_rows::size_from;
 ghost use Prim.Native.Nat.{_+_, _*_, _-_, _%_, _<_, _≤_};
-ghost use Rattle.basis_reduce.specs.Clear.{pair};
+ghost use Rattle.basis_clear.specs.Clear.{pair};
 ghost use Rattle.basis_store.specs.Levels.{RowZeroAsks, Leveled};
 ghost use Rattle.basis_store.specs.Place.{StoreElementAsks, Placed, FilledAsks, Filled};
 ghost use Rattle.basis_store.specs.Scales.{FactorsOfAsks, Scaling};

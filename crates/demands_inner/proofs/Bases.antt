@@ -30,7 +30,7 @@ use Rattle.math_turns.proofs.Turn.{moved-back, moved-then}
 use Rattle.basis_record.specs.Record.{part}
 use Rattle.basis_record.proofs.Unique.{part-below}
 use Rattle.basis_parts.specs.Frame.{Frame, Meaning, rd, rowμ, X, Y, Ltμ}
-use Rattle.basis_reduce.specs.Clear.{Pair, pair, swapIf}
+use Rattle.basis_clear.specs.Clear.{Pair, pair, swapIf}
 use Rattle.basis_record.specs.Store.{Stored, Loaded}
 use Rattle.basis_scale.specs.First.{nothing, unit, units, OrderAsks}
 use Rattle.poly_cross.specs.Cross as cross

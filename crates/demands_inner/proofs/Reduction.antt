@@ -17,7 +17,8 @@ use Rattle.basis_parts.specs.Frame.{Frame, Meaning, rd, pt, X, Hasμ}
 use Rattle.basis_parts.specs.Leaves.{PartAsks, Parted, TopOfAsks, Topped, LeadOfAsks, Led}
 use Rattle.basis_parts.specs.declared.Top.{Top}
 use Rattle.basis_parts.proofs.Tops.{topped-most, topped-not, topped-has}
-use Rattle.basis_reduce.specs.Clear.{Pair, Ends, ClearYAsks, Reduced}
+use Rattle.basis_clear.specs.Clear.{Pair, ClearYAsks}
+use Rattle.basis_reduce.specs.Reduction.{Ends, Reduced}
 use Rattle.demands_inner.proofs.Rows.{floor-unique}
 use Rattle.demands_inner.specs.UpTo.{Scaled}
 use Rattle.demands_inner.proofs.Pairs.{times-X, pairs-unique}

@@ -1,22 +1,17 @@
--- The reduction: contracts of a turn, of the two loops, and of the whole.
---   Pair, Ends             two elements, and the same with the polynomial parts of X and the length of m's
+-- The first half of the reduction: contracts of a turn, and of the loop that cancels leading terms of Y.
+--   Pair                   two elements
 --   CanceledAsks, CanceledGives    s a − c t^k b cancels the leading term of a size of a, where the sizes before and after lie below top
 --   ClearYAsks F q top lu     two elements whose sizes X, Y lie below top = S′ + 1, X(m) + Y(n) and X(n) + Y(m) at most S′ + u′ and the
 --                          determinant of degree S′ + u′; lu = u′ + 1. All numbers are lengths: degrees + 1, and 0 below degree 0
---   Clearing               the state of the first loop
+--   Clearing               the state of the loop
 --   Cleared                its end: Y(m) below u′, Y(n) not, and X(m), Y(n) make up all of the determinant
---   ShearAsks, Shearing, Sheared    the same of the second loop, which keeps m and the degree of Y(n)
---   Reduced F q top lu o   THE REDUCTION: o is a pair with the span of q (by a matrix of polynomials whose determinant is a
---                          constant that is not 0), deg X(n) < deg X(m), deg Y(m) < u′ ≤ deg Y(n), and the rows mx, nx of o are the
---                          polynomial parts of X(m), X(n)
--- The lemmas of the turns are in proofs/: Cancel, Clearing, Shearing.
+-- The lemmas of the turns are in proofs/: Cancel, Clearing.
 use mathlib.Core.Path.{_≡_}
 use mathlib.Core.Bool.{Bool, true, false}
 use mathlib.Core.List.{List}
 use Prim.Native.Nat.{ℕ, suc, _+_, _-_, _<_, _≤_}
-use Rattle.math_rows.specs.Row.{Size}
 use Rattle.math_turns.specs.Points.{Turned, Moved}
-use Rattle.basis_parts.specs.Frame.{Frame, Fine, Meaning, point, Short, Held, rd, pt, X, Y, D, Ltμ, Hasμ, shift}
+use Rattle.basis_parts.specs.Frame.{Frame, Fine, Meaning, Short, rd, pt, X, Y, D, Ltμ, Hasμ, shift}
 use Rattle.basis_parts.specs.Leaves.{Topped}
 use Rattle.basis_parts.specs.declared.Top.{Top}
 
@@ -30,27 +25,10 @@ pub record Pair : Type 0 where
 abbrev pub pair : List ℕ → List ℕ → List ℕ → List ℕ → Pair
 pair mb mc nb nc = record { mb = mb; mc = mc; nb = nb; nc = nc }
 
--- two elements with the polynomial parts of X, and the length of m's
-pub record Ends : Type 0 where
-  pub mb : List ℕ
-  pub mc : List ℕ
-  pub mx : List ℕ
-  pub nb : List ℕ
-  pub nc : List ℕ
-  pub nx : List ℕ
-  pub lx : ℕ
-
-abbrev pub ends : List ℕ → List ℕ → List ℕ → List ℕ → List ℕ → List ℕ → ℕ → Ends
-ends mb mc mx nb nc nx lx = record { mb = mb; mc = mc; mx = mx; nb = nb; nc = nc; nx = nx; lx = lx }
-
 -- m and n change places where the answer is yes
 abbrev pub swapIf : Bool → Pair → Pair
 swapIf true q = pair (q .nb) (q .nc) (q .mb) (q .mc)
 swapIf false q = q
-
-abbrev pub endsIf : Bool → Ends → Ends
-endsIf true o = ends (o .nb) (o .nc) (o .nx) (o .mb) (o .mc) (o .mx) (o .lx)
-endsIf false o = o
 
 -- the rows of an element below top
 pub record Rows (F : Frame) (top : ℕ) (b c : List ℕ) : Type 0 where
@@ -148,78 +126,3 @@ pub record Cleared (F : Frame) (q : Pair) (top lu : ℕ) (o : Pair) : Type 0 whe
   pub low : y1 .n < lu
   pub high : lu ≤ y2 .n
   pub all : state .x1 + y2 .n ≡ state .s + state .u + 2
-
--- ---- the second loop: X(m) has the degree x, Y(n) the length y2, Y(m) at most y1
-pub record ShearAsks (F : Frame) (q : Pair) (top : ℕ) : Type 0 where
-  pub room : Room F top
-  pub hm : Rows F top (q .mb) (q .mc)
-  pub hn : Rows F top (q .nb) (q .nc)
-  pub x : ℕ
-  pub y1 : ℕ
-  pub y2 : ℕ
-  pub by2 : y2 ≤ top
-  pub gap : y1 + top < suc x + y2
-  pub ym : (μ : Meaning F) → Ltμ μ (Y μ (pt μ (q .mb) (q .mc))) y1
-  pub yn : (μ : Meaning F) → Hasμ μ (Y μ (pt μ (q .nb) (q .nc))) (y2 - 1)
-  pub some : Meaning F
-  pub xm : Hasμ some (X some (pt some (q .mb) (q .mc))) x
-  pub bm : x < top
-  pub xn : Ltμ some (X some (pt some (q .nb) (q .nc))) top
-
--- the same with the rows that X(m), X(n) go into
-pub record ClearXAsks (F : Frame) (q : Pair) (top : ℕ) (mx nx : List ℕ) : Type 0 where
-  pub inp : ShearAsks F q top
-  pub hmx : Short (F .m .p) mx top
-  pub hnx : Short (F .m .p) nx top
-
--- x1 is the top of X(m), and x2 that of X(n) from there on
-pub record Shearing (F : Frame) (q : Pair) (top : ℕ) (nb nc : List ℕ) (x1 x2 : Top) : Type 0 where
-  pub room : Room F top
-  pub hm : Rows F top (q .mb) (q .mc)
-  pub hn : Rows F top nb nc
-  pub tx1 : Topped F false (q .mb) (q .mc) (x1 .n - 1) top x1
-  pub tx2 : Topped F false nb nc (x1 .n - 1) top x2
-  pub y1 : ℕ
-  pub y2 : ℕ
-  pub by2 : y2 ≤ top
-  pub gap : y1 + top < x1 .n + y2
-  pub ym : (μ : Meaning F) → Ltμ μ (Y μ (pt μ (q .mb) (q .mc))) y1
-  pub yn : (μ : Meaning F) → Hasμ μ (Y μ (pt μ nb nc)) (y2 - 1)
-  pub was : (μ : Meaning F) → Hasμ μ (Y μ (pt μ (q .nb) (q .nc))) (y2 - 1)
-  pub some : Meaning F
-  pub moved : (μ : Meaning F) → Movedμ μ q (q .mb) (q .mc) nb nc
-
-pub record Sheared (F : Frame) (q : Pair) (top : ℕ) (o : Ends) : Type 0 where
-  pub same-b : o .mb ≡ q .mb
-  pub same-c : o .mc ≡ q .mc
-  pub hm : Held F false top (point (o .mb) (o .mc) (o .mx))
-  pub hn : Held F false top (point (o .nb) (o .nc) (o .nx))
-  pub x2 : ℕ
-  pub sx1 : Size (o .mx) (o .lx)
-  pub sx2 : Size (o .nx) x2
-  pub less : x2 < o .lx
-  pub kept : (μ : Meaning F) (d : ℕ) → Hasμ μ (Y μ (pt μ (q .nb) (q .nc))) d → Hasμ μ (Y μ (pt μ (o .nb) (o .nc))) d
-  pub moved : (μ : Meaning F) → Movedμ μ q (o .mb) (o .mc) (o .nb) (o .nc)
-
--- ---- both
-pub record ReducedAsks (F : Frame) (q : Pair) (top lu : ℕ) (mx nx : List ℕ) : Type 0 where
-  pub inp : ClearYAsks F q top lu
-  pub hmx : Short (F .m .p) mx top
-  pub hnx : Short (F .m .p) nx top
-
-pub record Reduced (F : Frame) (q : Pair) (top lu : ℕ) (o : Ends) : Type 0 where
-  pub hm : Held F false top (point (o .mb) (o .mc) (o .mx))
-  pub hn : Held F false top (point (o .nb) (o .nc) (o .nx))
-  -- deg X(n) < deg X(m)
-  pub x2 : ℕ
-  pub sx1 : Size (o .mx) (o .lx)
-  pub sx2 : Size (o .nx) x2
-  pub x-less : x2 < o .lx
-  -- deg Y(m) < u′ ≤ deg Y(n), and deg X(m) + deg Y(n) = S′ + u′
-  pub y : ℕ
-  pub y-low : (μ : Meaning F) → Ltμ μ (Y μ (pt μ (o .mb) (o .mc))) (lu - 1)
-  pub y-has : (μ : Meaning F) → Hasμ μ (Y μ (pt μ (o .nb) (o .nc))) y
-  pub y-high : lu ≤ suc y
-  pub y-fits : y < top
-  pub all : o .lx + suc y ≡ top + lu
-  pub moved : (μ : Meaning F) → Movedμ μ q (o .mb) (o .mc) (o .nb) (o .nc)

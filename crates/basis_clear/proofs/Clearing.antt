@@ -16,7 +16,7 @@ use Rattle.math_turns.proofs.Turn.{turned-X, moved-start, moved-swap, moved-tur
 use Rattle.poly_rows.specs.Leaf.{Cut}
 use Rattle.basis_parts.specs.Frame.{Frame, Fine, Meaning, Point, point, Short, Held, rd, pt, X, Y, Ltμ, shift}
 use Rattle.basis_parts.specs.Leaves.{PartAsks, Parted, TopOfAsks, Topped}
-use Rattle.basis_reduce.specs.Clear.{Pair, Rows, Room, CanceledAsks, CanceledGives, ClearYAsks, Clearing, Cleared, pair, swapIf}
+use Rattle.basis_clear.specs.Clear.{Pair, Rows, Room, CanceledAsks, CanceledGives, ClearYAsks, Clearing, Cleared, pair, swapIf}
 use Rattle.basis_parts.specs.declared.Top.{Top}
 use Rattle.basis_parts.proofs.Laid.{zeros-row, zeros-at}
 use Rattle.basis_parts.proofs.Tops.{part-lt, topped-up, topped-not, topped-most}

@@ -1,12 +1,12 @@
--- `basis_reduce::clear_y` meets its contract: each turn is `clear-turn` (of the swapped state where n is turned); the lengths of both Y fall.
+-- `basis_clear::clear_y` meets its contract: each turn is `clear-turn` (of the swapped state where n is turned); the lengths of both Y fall.
 use mathlib.Core.Path.{_≡_}
 use Prim.Native.Nat.{suc, _+_, _<_}
 use native.Mathlib.Omega.{arith}
 use Rattle.basis_parts.specs.Given.{given}
-use Rattle.basis_reduce.specs.Clear.{Clearing, pair}
-use Rattle.basis_reduce.proofs.Clearing.{clear-top, clear-start, clear-swap, clear-in, clear-less, clear-turn, clear-end}
-use Rattle.basis_reduce.proofs.clear_y.Statement.{statement}
-use Rattle.basis_reduce.proofs.clear_y.Tie as tie
+use Rattle.basis_clear.specs.Clear.{Clearing, pair}
+use Rattle.basis_clear.proofs.Clearing.{clear-top, clear-start, clear-swap, clear-in, clear-less, clear-turn, clear-end}
+use Rattle.basis_clear.proofs.clear_y.Statement.{statement}
+use Rattle.basis_clear.proofs.clear_y.Tie as tie
 
 abbrev Inv-loop : tie.InvT-loop
 Inv-loop f r w mb₀ mc₀ nb₀ nc₀ lu top low y1₀ y2₀ mb mc nb nc y1 y2 = Clearing (given f r w) (pair mb₀ mc₀ nb₀ nc₀) (f .top) lu (pair mb mc nb nc) y1 y2

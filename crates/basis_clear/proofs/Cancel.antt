@@ -24,7 +24,7 @@ use Rattle.math_turns.proofs.Turn.{turned-side, b-lt, c-lt}
 use Rattle.poly_cross.specs.Cross.{CrossInAsks, CrossInGives}
 use Rattle.basis_parts.specs.Frame.{Frame, Fine, Meaning, Short, rd, Ser, pt, X, Y, side, Ltμ, shift, rowμ}
 use Rattle.basis_parts.specs.Leaves.{PartAsks, TopOfAsks, Topped}
-use Rattle.basis_reduce.specs.Clear.{Rows, Room, RoomAt, CanceledAsks, CanceledGives}
+use Rattle.basis_clear.specs.Clear.{Rows, Room, RoomAt, CanceledAsks, CanceledGives}
 use Rattle.basis_parts.specs.declared.Top.{Top}
 
 module _ {p : ℕ} (ρ : Reading p) where

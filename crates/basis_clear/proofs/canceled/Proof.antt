@@ -1,9 +1,9 @@
--- `basis_reduce::canceled` meets its contract: the lemmas of Cancel.
+-- `basis_clear::canceled` meets its contract: the lemmas of Cancel.
 use Prim.Native.Nat.{_≤_, _<_}
 use native.Mathlib.Omega.{arith}
-use Rattle.basis_reduce.proofs.Cancel.{cancel-b, cancel-c, cancel-top, cancel-made}
-use Rattle.basis_reduce.proofs.canceled.Statement.{statement}
-use Rattle.basis_reduce.proofs.canceled.Tie as tie
+use Rattle.basis_clear.proofs.Cancel.{cancel-b, cancel-c, cancel-top, cancel-made}
+use Rattle.basis_clear.proofs.canceled.Statement.{statement}
+use Rattle.basis_clear.proofs.canceled.Tie as tie
 
 sub-k : tie.Need-sub-k
 sub-k c = c .before .before .before .pre .over
