@@ -1,4 +1,4 @@
--- Crates basis_record and basis_scale.
+-- Crates basis_record, basis_store and basis_scale.
 --   load-unique, stored-unique           a row taken out of the record, and put into it
 --   reduced-basis-unique, order-unique   the whole record of a reduction; the first also what the lent rows hold
 use mathlib.Core.Path.{_≡_, refl, sym, ap, ap₂, _∙_, subst}

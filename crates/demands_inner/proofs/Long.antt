@@ -1,4 +1,4 @@
--- Crates poly_long, unit_rows and unit_inverse: the final contents of the lent slices. `size` of poly_long: `size-unique` in Poly.
+-- Crates poly_long, poly_products, unit_rows and unit_inverse: the final contents of the lent slices. `size` of poly_long: `size-unique` in Poly.
 --   cut-unique   the numbers of a row inside a slice are settled by its polynomial
 use mathlib.Core.Path.{_≡_, sym, ap, _∙_, subst}
 use mathlib.Core.List.{List}

@@ -1,4 +1,4 @@
--- Crates num_mod, num_prime, poly_rows and poly_factors. `size-unique` is also for poly_long.
+-- Crates num_mod, num_prime, poly_rows, poly_cross and poly_factors. `size-unique` is also for poly_long.
 use mathlib.Core.Path.{_≡_, refl, sym, ap, _∙_}
 use mathlib.Core.Logic.{_⊎_, inl, inr}
 use mathlib.Core.Bool.{Bool, true, false}

@@ -1,4 +1,4 @@
--- Crates basis_parts and basis_reduce.
+-- Crates basis_parts, basis_clear and basis_reduce.
 --   part-unique, top-of-unique, lead-of-unique   a polynomial part, its top, its leading coefficient
 --   reduced-unique             two reductions have elements that differ by a constant each, and one length: more the contract does not settle
 use mathlib.Core.Path.{_≡_, sym, _∙_}

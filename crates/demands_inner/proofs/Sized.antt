@@ -1,4 +1,4 @@
--- Crate poly_lent: what is in the lent rows, and its length. `det-at`, at a prime, is also for basis_lattice.
+-- Crates poly_lent and poly_divide: what is in the lent rows, and its length. `det-at`, at a prime, is also for basis_lattice.
 use mathlib.Core.Path.{_≡_, subst}
 use mathlib.Core.Bool.{Bool}
 use mathlib.Core.List.{List}
