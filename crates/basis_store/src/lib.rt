@@ -2,11 +2,11 @@
 use basis_record::stored;
 use num_mod::Modulus;
 use num_mod::inverse;
-use poly_lent::both_in;
-use poly_lent::mix_in;
-use poly_divide::quotient_in;
 use poly_cross::cross_in;
 use poly_cross::scale_in;
+use poly_divide::quotient_in;
+use poly_lent::both_in;
+use poly_lent::mix_in;
 use poly_rows::size_from;
 ghost use Prim.Native.Nat.{_+_, _*_, _-_, _%_, _<_, _≤_};
 ghost use Rattle.basis_clear.specs.Clear.{pair};

@@ -4,9 +4,9 @@
 // and for a product the sum of its factors' lengths: 12,327 for the norm.
 use book_body::HEAD;
 use book_body::LENGTHS;
-use poly_products::mix;
 use poly_long::scale;
 use poly_long::size;
+use poly_products::mix;
 use poly_products::times;
 ghost use mathlib.Core.Path.{_≡_};
 ghost use Prim.Native.Nat.{_<_};
