@@ -21,8 +21,8 @@ use Rattle.math_rows.specs.Row.{Row, Size, row, tpow, Floor}
 use Rattle.math_rows.proofs.Rows.{size-lead-at}
 use Rattle.math_rows.proofs.Floors.{sized, floor-lt, floor-top, floor-has, floor-le, floor-lead}
 use Rattle.math_rows.proofs.Unique.{cast-inj}
-use Rattle.poly_rows.specs.Leaf.{CrossInAsks, Crossed}
-use Rattle.poly_rows.proofs.Leaf.{cross-by}
+use Rattle.poly_cross.specs.Cross.{CrossInAsks, Crossed}
+use Rattle.poly_cross.proofs.Cross.{cross-by}
 use Rattle.base_answers.specs.Decides.{Decides}
 use Rattle.basis_record.specs.Seven.{Seven}
 use Rattle.basis_parts.specs.Frame.{Frame, Meaning, Short, rd, Ser, rowμ, pt, X, Y, Ltμ, Hasμ}

@@ -26,7 +26,8 @@ use Rattle.poly_rows.specs.Leaf.{Short}
 use Rattle.poly_rows.specs.Division.{Inverts, Divided}
 use Rattle.poly_rows.proofs.Division.{divided}
 use Rattle.poly_rows.proofs.Lengths.{size-below, size-of, inverts-has}
-use Rattle.poly_lent.specs.Sized.{BothInAsks, BothInGives, LessInGives, DivideInGives}
+use Rattle.poly_lent.specs.Sized.{BothInAsks, BothInGives}
+use Rattle.poly_divide.specs.Divide.{LessInGives, DivideInGives}
 use Rattle.poly_lent.proofs.Mixing.{size-cut}
 use Rattle.base_answers.specs.Decides.{Decides}
 use Rattle.basis_record.specs.Seven.{Seven}

@@ -17,7 +17,8 @@ use Rattle.math_rows.specs.Made.{reading}
 use Rattle.math_rows.specs.Row.{Row, Size, row}
 use Rattle.math_rows.proofs.Rows.{size-le}
 use Rattle.poly_rows.proofs.Lengths.{by-inverse}
-use Rattle.poly_lent.specs.Sized.{BothInAsks, BothInGives, DetInAsks, QuotientAsks, QuotientInGives}
+use Rattle.poly_lent.specs.Sized.{BothInAsks, BothInGives, DetInAsks}
+use Rattle.poly_divide.specs.Divide.{QuotientAsks, QuotientInGives}
 use Rattle.poly_lent.proofs.Mixing.{size-cut}
 use Rattle.basis_record.specs.Seven.{Seven, Three, three}
 use Rattle.basis_lattice.specs.Coordinates.{Quotients, AreLengths, ElementAsks, OuterGives, CoordinatesAsks, Coordinates}

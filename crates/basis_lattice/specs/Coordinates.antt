@@ -22,7 +22,8 @@ use Rattle.poly_rows.specs.Leaf.{Cut, Fits}
 use Rattle.num_mod.specs.Prepared.{Prepared}
 use Rattle.num_mod.specs.declared.Modulus.{Modulus}
 use Rattle.poly_rows.specs.Division.{Inverts}
-use Rattle.poly_lent.specs.Sized.{DetInGives, QuotientInGives}
+use Rattle.poly_lent.specs.Sized.{DetInGives}
+use Rattle.poly_divide.specs.Divide.{QuotientInGives}
 use Rattle.basis_record.specs.Seven.{Seven, seven, rowAt, AreRows, Three, Blank}
 use Rattle.basis_lattice.specs.declared.Lengths.{Lengths}
 use Rattle.basis_lattice.specs.declared.OuterSpans.{OuterSpans}

@@ -1,10 +1,10 @@
 // The lattice of a basis: the coordinates of an element as quotients, and whether it lies in the lattice. Rows are lent, their lengths known.
 use num_mod::Modulus;
+use poly_divide::divide_in;
+use poly_divide::less_in;
+use poly_divide::quotient_in;
 use poly_lent::both_in;
 use poly_lent::det_in;
-use poly_lent::divide_in;
-use poly_lent::less_in;
-use poly_lent::quotient_in;
 use poly_rows::size_from;
 ghost use mathlib.Core.Path.{_≡_};
 ghost use Rattle.basis_record.specs.Seven.{seven, three};

@@ -1,3 +1,1 @@
-pub mod Cancel
-pub mod Clearing
 pub mod Shearing

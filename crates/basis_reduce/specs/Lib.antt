@@ -1,1 +1,1 @@
-pub mod Clear
+pub mod Reduction

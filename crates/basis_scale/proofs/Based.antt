@@ -24,24 +24,25 @@ use Rattle.math_rows.proofs.Unique.{cast-inj}
 use Rattle.num_mod.specs.Prepared.{Prepared}
 use Rattle.num_mod.specs.declared.Modulus.{Modulus}
 use Rattle.num_mod.proofs.Prepared.{bare}
-use Rattle.poly_rows.specs.Leaf.{Scaled, ScaleInAsks, ScaleInGives}
+use Rattle.poly_cross.specs.Cross.{Scaled, ScaleInAsks, ScaleInGives}
 use Rattle.poly_rows.proofs.Leaf.{size-unique}
 use Rattle.poly_lent.proofs.Mixing.{size-cut}
 use Rattle.basis_record.specs.Record.{part}
 use Rattle.basis_parts.specs.Frame.{Frame, Meaning, Short, Held, point, rd, Ser, rowμ, pt, X, Y, Ltμ}
 use Rattle.basis_parts.specs.Leaves.{LeadOfAsks, Led}
-use Rattle.basis_reduce.specs.Clear.{Pair, Ends, ClearYAsks, Reduced}
-use Rattle.basis_scale.specs.declared.Factors.{Factors}
+use Rattle.basis_clear.specs.Clear.{Pair, ClearYAsks}
+use Rattle.basis_reduce.specs.Reduction.{Ends, Reduced}
+use Rattle.basis_store.specs.declared.Factors.{Factors}
 use Rattle.basis_parts.proofs.Laid.{zeros-at}
-use Rattle.basis_reduce.proofs.Clearing.{part-in, rows-of}
-use Rattle.basis_scale.specs.Levels.{Monic}
-use Rattle.basis_scale.specs.Place.{off, ElementAsks, PlacedAt, FilledAsks, Filled}
-use Rattle.basis_scale.specs.Scales.{FactorsOfAsks, Scaling}
+use Rattle.basis_clear.proofs.Clearing.{part-in, rows-of}
+use Rattle.basis_store.specs.Levels.{Monic}
+use Rattle.basis_store.specs.Place.{off, ElementAsks, PlacedAt, FilledAsks, Filled}
+use Rattle.basis_store.specs.Scales.{FactorsOfAsks, Scaling}
 use Rattle.basis_scale.specs.Based.{BasisAsks, BasedAt, Based, Left, Z, at, Mpt, Npt}
 use Rattle.basis_record.proofs.Store.{stored-part, stored-other, stored-each, part-same}
 use Rattle.poly_rows.proofs.Lengths.{size-below, scaled-size}
-use Rattle.basis_scale.proofs.Place.{stored-padded}
-use Rattle.basis_scale.proofs.Two.{const-two, half}
+use Rattle.basis_store.proofs.Place.{stored-padded}
+use Rattle.basis_store.proofs.Two.{const-two, half}
 
 positive : (v : ℕ) → v ≢ 0 → 0 < v
 positive zero h = absurd (h refl)

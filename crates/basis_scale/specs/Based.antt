@@ -20,13 +20,14 @@ use Rattle.math_triple.specs.Sizes.{sizeZ}
 use Rattle.math_valued.specs.Val.{Valued}
 use Rattle.math_rows.specs.Reading.{Reading}
 use Rattle.math_rows.specs.Row.{Size}
-use Rattle.poly_rows.specs.Leaf.{Scaled}
+use Rattle.poly_cross.specs.Cross.{Scaled}
 use Rattle.math_ideals.specs.Tests.{InNumbers}
 use Rattle.math_turns.specs.Points.{Pt, Moved}
 use Rattle.basis_record.specs.Record.{part}
 use Rattle.basis_parts.specs.Frame.{Frame, Meaning, Short, rd, Ser, rowμ, pt}
-use Rattle.basis_reduce.specs.Clear.{Pair, pair, swapIf, Ends, ClearYAsks, Reduced}
-use Rattle.basis_scale.specs.Place.{off, padded}
+use Rattle.basis_clear.specs.Clear.{Pair, pair, swapIf, ClearYAsks}
+use Rattle.basis_reduce.specs.Reduction.{Ends, Reduced}
+use Rattle.basis_store.specs.Place.{off, padded}
 
 pub record BasisAsks (F : Frame) (q : Pair) (top : ℕ) (d x1 y1 : List ℕ) : Type 0 where
   pub small : F .m .p ≤ 65535

@@ -8,7 +8,7 @@ use mathlib.Core.List.{List}
 use Prim.Native.Nat.{ℕ, suc, _+_, _%_, _≤_}
 use lib.ListN.{set, replicate}
 use Rattle.basis_parts.specs.Frame.{Frame, Fine, Meaning}
-use Rattle.basis_reduce.specs.Clear.{Pair, pair}
+use Rattle.basis_clear.specs.Clear.{Pair, pair}
 
 abbrev pub nothing : List ℕ
 nothing = replicate 32 0

@@ -1,4 +1,4 @@
--- Crates basis_record and basis_scale.
+-- Crates basis_record, basis_store and basis_scale.
 --   load-unique, stored-unique           a row taken out of the record, and put into it
 --   reduced-basis-unique, order-unique   the whole record of a reduction; the first also what the lent rows hold
 use mathlib.Core.Path.{_≡_, refl, sym, ap, ap₂, _∙_, subst}
@@ -30,10 +30,10 @@ use Rattle.math_turns.proofs.Turn.{moved-back, moved-then}
 use Rattle.basis_record.specs.Record.{part}
 use Rattle.basis_record.proofs.Unique.{part-below}
 use Rattle.basis_parts.specs.Frame.{Frame, Meaning, rd, rowμ, X, Y, Ltμ}
-use Rattle.basis_reduce.specs.Clear.{Pair, pair, swapIf}
+use Rattle.basis_clear.specs.Clear.{Pair, pair, swapIf}
 use Rattle.basis_record.specs.Store.{Stored, Loaded}
 use Rattle.basis_scale.specs.First.{nothing, unit, units, OrderAsks}
-use Rattle.basis_scale.specs.Place.{padded}
+use Rattle.basis_store.specs.Place.{padded}
 use Rattle.basis_scale.specs.Based.{ReducedBasisAsks, ReducedBasisGives, BasedAt, Based, Z, at, Mpt, Npt}
 use Rattle.demands_inner.proofs.Rows.{by-row}
 use Rattle.demands_inner.proofs.Poly.{scaled-at}

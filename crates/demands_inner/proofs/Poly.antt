@@ -1,4 +1,4 @@
--- Crates num_mod, num_prime, poly_rows and poly_factors. `size-unique` is also for poly_long.
+-- Crates num_mod, num_prime, poly_rows, poly_cross and poly_factors. `size-unique` is also for poly_long.
 use mathlib.Core.Path.{_≡_, refl, sym, ap, _∙_}
 use mathlib.Core.Logic.{_⊎_, inl, inr}
 use mathlib.Core.Bool.{Bool, true, false}
@@ -22,7 +22,8 @@ use Rattle.math_rows.proofs.Floors.{sized}
 use Rattle.math_rows.proofs.Quotient.{division-unique}
 use Rattle.math_rows.proofs.Unique.{row-unique}
 use Rattle.num_prime.specs.Table.{PrimeTest}
-use Rattle.poly_rows.specs.Leaf.{Given, Opposite, Scaled, ScaleInAsks, ScaleInGives, CrossInAsks, CrossInGives, MulAsks, Product, Listed}
+use Rattle.poly_rows.specs.Leaf.{Given, Opposite, MulAsks, Product, Listed}
+use Rattle.poly_cross.specs.Cross.{Scaled, ScaleInAsks, ScaleInGives, CrossInAsks, CrossInGives}
 use Rattle.num_mod.specs.Prepared.{Added}
 use Rattle.num_mod.specs.declared.Modulus.{Modulus}
 use Rattle.poly_rows.specs.Division.{DivisionAsks, Quotient}

@@ -1,4 +1,4 @@
--- Crate poly_lent: what is in the lent rows, and its length. `det-at`, at a prime, is also for basis_lattice.
+-- Crates poly_lent and poly_divide: what is in the lent rows, and its length. `det-at`, at a prime, is also for basis_lattice.
 use mathlib.Core.Path.{_≡_, subst}
 use mathlib.Core.Bool.{Bool}
 use mathlib.Core.List.{List}
@@ -8,7 +8,8 @@ use Rattle.math_fp.specs.Fp.{Prime}
 use Rattle.math_rows.specs.Made.{reading}
 use Rattle.math_rows.specs.Row.{Size}
 use Rattle.poly_rows.proofs.Division.{divided-unique}
-use Rattle.poly_lent.specs.Sized.{MixAsks, Mixed, BothInAsks, BothInGives, TimesInAsks, TimesInGives, DetInAsks, DetInGives, QuotientAsks, QuotientInGives, LessInGives, DivideInGives}
+use Rattle.poly_lent.specs.Sized.{MixAsks, Mixed, BothInAsks, BothInGives, TimesInAsks, TimesInGives, DetInAsks, DetInGives}
+use Rattle.poly_divide.specs.Divide.{QuotientAsks, QuotientInGives, LessInGives, DivideInGives}
 use Rattle.demands_inner.proofs.Rows.{by-row}
 use Rattle.demands_inner.proofs.Poly.{size-unique, quotient-unique}
 

@@ -3,14 +3,14 @@
 --   num_mod        inverse, cube_root: inverse-unique, cube-root-unique (num_mod/proofs/Unique); add_product, mod p: add-product-unique (Poly)
 --   num_prime      is_prime: is-prime-unique (Poly)
 --   base_lists     list_length: list-unique (base_lists/proofs/Coefs)
---   poly_rows      size_from, size: size-unique; from_list: from-list-unique; minus, mul: minus-unique, mul-unique; scale_in, cross_in:
---                  scale-in-unique, cross-in-unique (Poly)
+--   poly_rows      size_from, size: size-unique; from_list: from-list-unique; minus, mul: minus-unique, mul-unique (Poly)
+--   poly_cross     scale_in, cross_in: scale-in-unique, cross-in-unique (Poly)
 --   poly_factors   squarefree, coprime: squarefree-unique, coprime-unique; gcd, up to a constant: gcd-unique (Poly)
---   poly_lent      mix_in, both_in, times_in, det_in, quotient_in, less_in, divide_in: mix-in-unique, both-in-unique,
---                  times-in-unique, det-in-unique, quotient-in-unique, less-in-unique, divide-in-unique (Sized)
+--   poly_lent      mix_in, both_in, times_in, det_in: mix-in-unique, both-in-unique, times-in-unique, det-in-unique (Sized)
+--   poly_divide    quotient_in, less_in, divide_in: quotient-in-unique, less-in-unique, divide-in-unique (Sized)
 --   poly_content   without_content, up to a constant: taken-off-unique (Lattice)
---   poly_long      size: size-unique (Poly); mix, times: mix-unique, times-unique; scale: scale-unique; quotient, where there is one
---                  that fits: quotient-unique (Long)
+--   poly_long      size: size-unique (Poly); scale: scale-unique (Long)
+--   poly_products  mix, times: mix-unique, times-unique; quotient, where there is one that fits: quotient-unique (Long)
 --   field_open     list_length: list-unique (base_lists/proofs/Coefs); refusal: refusal-unique (field_open/proofs/Stages); open:
 --                  opens-unique (field_open/proofs/Opening)
 --   field_fill     grow: grow-unique (Steps)
@@ -18,7 +18,9 @@
 --   pair_agree     one_field: decides-unique (base_answers/proofs/Tests); paired: pairs-unique (pair_agree/proofs/Once)
 --   basis_record   load, stored: load-unique, stored-unique (Bases)
 --   basis_parts    floor, floor_in: part-unique; top_of: top-of-unique; lead_of: lead-of-unique (Reduction)
+--   basis_clear    canceled, clear_y serve `reduced` alone: reduced-unique is of the whole
 --   basis_reduce   reduced, up to constants and the order of its elements: reduced-unique (Reduction)
+--   basis_store    factors_of, filled serve `reduced_basis` alone: reduced-basis-unique is of the whole
 --   basis_scale    reduced_basis, up to the order of two lent elements: reduced-basis-unique; order: order-unique (Bases)
 --   basis_lattice  lengths_of, coordinates, member: lengths-of-unique, coordinates-unique, member-unique (Lattice)
 --   basis_shape    below, rows_fit, shape: decides-unique (base_answers/proofs/Tests)

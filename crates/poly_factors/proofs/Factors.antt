@@ -25,10 +25,11 @@ use Rattle.math_rows.proofs.Floors.{zero-row, top-not, sized}
 use Rattle.math_rows.proofs.Derivative.{derivative-law}
 use Rattle.math_rows.proofs.Square.{∂, squarefree-unit, square-factor}
 use Rattle.math_turns.proofs.Euclid.{Span, span-start, span-swap, span-turn, span-gcd}
-use Rattle.poly_rows.specs.Leaf.{Cut, Given, CrossInAsks, Crossed}
+use Rattle.poly_rows.specs.Leaf.{Cut, Given}
+use Rattle.poly_cross.specs.Cross.{CrossInAsks, Crossed}
 use Rattle.poly_rows.specs.Polynomial.{polynomial}
 use Rattle.poly_factors.specs.Factors.{Derived, GcdAsks, Common, SquareTest, CoprimeTest}
-use Rattle.poly_rows.proofs.Leaf.{cross-by}
+use Rattle.poly_cross.proofs.Cross.{cross-by}
 
 -- ---- the derivative
 pub derived : (p : ℕ) (x : List ℕ) (n i : ℕ) (r : List ℕ) → Given p x → Size x n → n ≤ i + 1 → Begun 32 (λ j. ((j + 1) * getD x (j + 1) 0) % p) r i → Derived p x r

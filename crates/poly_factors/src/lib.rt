@@ -1,7 +1,7 @@
 // Greatest common divisors of rows of 32 coefficients by Euclid, and the tests that they decide: squarefree, coprime. p is prime.
 use num_mod::Modulus;
 use num_mod::prepare;
-use poly_rows::cross_in;
+use poly_cross::cross_in;
 use poly_rows::size;
 use poly_rows::size_from;
 ghost use Rattle.poly_rows.specs.Leaf.{Given};

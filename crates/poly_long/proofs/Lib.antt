@@ -1,4 +1,2 @@
 pub mod Loops
-pub mod Sums
 pub mod Low
-pub mod Division

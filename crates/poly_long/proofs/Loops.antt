@@ -1,14 +1,20 @@
 -- Loops over a slice, on lists.
+--   product-small   the product of two stored coefficients
 --   filled-same     a list filled with the entries of another is the other
 --   filled-zeros    a list filled with zeros
 --   Changing        the invariant of a loop that changes a list in place, entry by entry
 use mathlib.Core.Path.{_≡_, refl, sym, ap, _∙_}
 use mathlib.Core.List.{List}
-use Prim.Native.Nat.{ℕ, _+_, _<_, _≤_}
+use Prim.Native.Nat.{ℕ, _+_, _*_, _<_, _≤_}
+use native.Mathlib.Nat.{mul-le-mul}
 use native.Mathlib.Omega.{arith}
 use lib.ListN.{length, getD, set, replicate, length-replicate}
 use lib.Seq.{ext-getD, getD-set-other}
 use Rattle.math_rows.proofs.Tab.{Filled, filled-start, filled-more, zeros-at}
+
+-- two stored coefficients
+pub product-small : (a b : ℕ) → a < 65536 → b < 65536 → a * b ≤ 4294836225
+product-small a b ha hb = let e : a * b ≤ 65535 * 65535 = mul-le-mul {n₁ = a} {m₁ = b} {n₂ = 65535} {m₂ = 65535} (omega arith) (omega arith) in e
 
 pub filled-same : (n : ℕ) (s d : List ℕ) (i : ℕ) → Filled n (λ k. getD s k 0) d i → n ≤ i → length s ≡ n → d ≡ s
 filled-same n s d i h l e = ext-getD 0 d s (h .size ∙ sym e) (λ k u. let z : length d ≡ n = h .size in h .done k (omega arith))

@@ -2,7 +2,7 @@
 --   low-unique   a polynomial of degree below n is its n low coefficients
 --   low-mix      of g x + h y only the low coefficients of x and y are asked for
 --   mix-law      the sums of terms are the low coefficients of g x + h y; scale-law: of s d
---   whole        where there is room, all of g x + h y
+--   whole-law    where there is room, all of g x + h y; times-law: of x y
 --   alone        x y + 0 0
 use mathlib.Core.Path.{_≡_, refl, sym, ap, ap₂, _∙_, subst}
 use mathlib.Core.List.{List, [], _∷_}
@@ -26,7 +26,7 @@ use Rattle.math_rows.specs.Sum.{sumTo, termAt}
 use Rattle.math_rows.proofs.Tab.{Filled, filled-end, length-tab, at-tab, past-tab}
 use Rattle.math_rows.proofs.Rows.{psum-ext, psum-scale, psum-plus, psum-poly, psum-lt, psum-cut, tpow-add, tpow-lead, row-tab, row-upto}
 use Rattle.math_rows.proofs.Product.{product-law}
-use Rattle.poly_long.specs.Long.{Low, ScaleAsks, Scaled, MixAsks, Mixed, TimesAsks, Times}
+use Rattle.poly_long.specs.Long.{Low, ScaleAsks, Scaled}
 
 module _ {p : ℕ} (ρ : Reading p) where
   open Reading ρ using (𝓥, cast)
@@ -126,11 +126,11 @@ module _ {p : ℕ} (ρ : Reading p) where
   product-lt : (n : ℕ) (x y : List ℕ) → N._+_ (length x) (length y) ≤ n → Lt 𝓥 (row ρ x * row ρ y) n
   product-lt n x y l = lt-up 𝓥 n (lt-mul 𝓥 (row-lt x) (row-lt y)) l
 
-  whole-law : {n : ℕ} (g x h y : List ℕ) {d : List ℕ} → N._+_ (length g) (length x) ≤ n → N._+_ (length h) (length y) ≤ n
+  pub whole-law : {n : ℕ} (g x h y : List ℕ) {d : List ℕ} → N._+_ (length g) (length x) ≤ n → N._+_ (length h) (length y) ≤ n
       → Low ρ n (row ρ g * row ρ x + row ρ h * row ρ y) d → row ρ d ≡ row ρ g * row ρ x + row ρ h * row ρ y
   whole-law {n} g x h y a b w = low-unique w (lt-add 𝓥 (product-lt n g x a) (product-lt n h y b))
 
-  times-law : {n : ℕ} (x y : List ℕ) {d : List ℕ} → N._+_ (length x) (length y) ≤ n → Low ρ n (row ρ x * row ρ y + row ρ (0 ∷ []) * row ρ (0 ∷ [])) d → row ρ d ≡ row ρ x * row ρ y
+  pub times-law : {n : ℕ} (x y : List ℕ) {d : List ℕ} → N._+_ (length x) (length y) ≤ n → Low ρ n (row ρ x * row ρ y + row ρ (0 ∷ []) * row ρ (0 ∷ [])) d → row ρ d ≡ row ρ x * row ρ y
   times-law {n} x y l w = let e = alone (row ρ x) (row ρ y) in low-unique w (lt-eq 𝓥 (product-lt n x y l) (sym e)) ∙ e
 
   pub scale-law : (s : ℕ) (d : List ℕ) → row ρ (tab (length d) (λ i. N._*_ (getD d i 0) s % p)) ≡ const (cast s) * row ρ d
@@ -141,7 +141,7 @@ module _ {p : ℕ} (ρ : Reading p) where
       (λ i u. ρ .cast-mod (N._*_ (getD d i 0) s) ∙ ρ .cast-mul (getD d i 0) s ∙ K .laws .mul-comm (cast (getD d i 0)) (cast s))
       ∙ psum-scale ρ (length d) (cast s) (coefs ρ d)
 
--- what the loops of `scale` and `mix` end with
+-- what the loop of `scale` ends with
 pub below : (p n : ℕ) (f : ℕ → ℕ) (d : List ℕ) → 0 < p → ((i : ℕ) → f i < p) → d ≡ tab n f → (i : ℕ) → getD d i 0 < p
 below p n f d pos h e i = subst (λ l. getD l i 0 < p) (sym e) (elim (decLt i n) [
   | yes l ↦ subst (λ v. v < p) (sym (at-tab n f i l)) (h i)
@@ -158,21 +158,3 @@ scaled p s d₀ d i g h l =
       each = below p (length d₀) f d pos (λ k. mod-lt (N._*_ (getD d₀ k 0) s) pos) e;
       law = λ pr. ap (row (reading p pr)) e ∙ scale-law (reading p pr) s d₀;
     }
-
-pub mixed : (p : ℕ) (g x h y d₀ d : List ℕ) (i : ℕ) → MixAsks p g h d₀ → Filled (length d₀) (λ k. N._+_ (sumTo (termAt g x k) (length g)) (sumTo (termAt h y k) (length h)) % p) d i → length d₀ ≤ i → Mixed p g x h y d₀ d
-mixed p g x h y d₀ d i m w l =
-    let f : ℕ → ℕ = (λ k. N._+_ (sumTo (termAt g x k) (length g)) (sumTo (termAt h y k) (length h)) % p) in
-    let e : d ≡ tab (length d₀) f = filled-end (length d₀) f d i w l in
-    let pos : 0 < p = let b : 1 < p = m .modulus .prime .big in omega arith in record {
-      size = w .size;
-      each = below p (length d₀) f d pos (λ k. mod-lt (N._+_ (sumTo (termAt g x k) (length g)) (sumTo (termAt h y k) (length h))) pos) e;
-      law = λ pr. let ρ = reading p pr in let o = ρ .𝓥 .L .ops in
-          subst (λ r. Low ρ (length d₀) (o .add (o .mul (row ρ g) (row ρ x)) (o .mul (row ρ h) (row ρ y))) r) (sym e) (mix-law ρ (length d₀) g x h y);
-    }
-
-pub whole : {p : ℕ} {g x h y d r : List ℕ} → N._+_ (length g) (length x) ≤ length d → N._+_ (length h) (length y) ≤ length d → Mixed p g x h y d r
-    → (pr : Prime p) → let ρ = reading p pr in let o = ρ .𝓥 .L .ops in row ρ r ≡ o .add (o .mul (row ρ g) (row ρ x)) (o .mul (row ρ h) (row ρ y))
-whole {p} {g} {x} {h} {y} a b m pr = whole-law (reading p pr) g x h y a b (m .law pr)
-
-pub timed : (p : ℕ) (x y d r : List ℕ) → TimesAsks p x y d → Mixed p x y (0 ∷ []) (0 ∷ []) d r → Times p x y d r
-timed p x y d r t m = record { size = m .size; each = m .each; law = λ pr. times-law (reading p pr) x y (t .room) (m .law pr) }

@@ -1,4 +1,4 @@
-// Polynomials mod p as rows of 32 coefficients, lowest first, each below p, zeros above the degree; lent, turned in place or handed out.
+// Polynomials mod p as rows of 32 coefficients, lowest first, each below p, zeros above the degree; lent or handed out.
 // Every contract speaks of the polynomial that a row stands for (`row` of crate math_rows). Loops stop at true lengths. Sums are taken in 64
 // bits with one remainder for each coefficient, for every p below 2^31, by the prepared modulus of crate num_mod.
 use num_mod::Modulus;
@@ -9,9 +9,8 @@ use num_mod::reduce_once;
 ghost use mathlib.Core.Path.{_≡_};
 ghost use Prim.Native.Nat.{_+_, _*_, _-_, _%_, _<_, _≤_};
 ghost use lib.ListN.{length};
-ghost use Rattle.math_rows.specs.Row.{Size, shiftAt};
-ghost use Rattle.poly_rows.specs.Leaf.{Cut, Given, Opposite, ScaleInAsks, ScaleInGives};
-ghost use Rattle.poly_rows.specs.Leaf.{CrossInAsks, CrossInGives, MulAsks, Product, Listed};
+ghost use Rattle.math_rows.specs.Row.{Size};
+ghost use Rattle.poly_rows.specs.Leaf.{Cut, Given, Opposite, MulAsks, Product, Listed};
 ghost use Rattle.poly_rows.specs.Coefficients.{PartAsks, Part, ProductCoefficientAsks};
 ghost use Rattle.poly_rows.specs.Division.{QuotientCoefficientAsks, Digit};
 ghost use Rattle.math_rows.specs.Sum.{sumTo, termAt};
@@ -53,42 +52,6 @@ pub fn minus(p: u64, x: &Row) -> Row
         i += 1;
     }
     r
-}
-
-// c x in place of x, which ends before n.
-pub fn scale_in(q: Modulus, c: u64, x: &mut Row, n: usize)
-    requires { ⌜ ScaleInAsks q c (now x) n ⌝ }
-    ensures { λ _. ⌜ ScaleInGives (q .p) c (now (x .entry)) n (now (x .exit)) ⌝ }
-{
-    let mut i: usize = 0;
-    while i < n {
-        let v = reduce(q, c * x[i]);
-        x[i] = v;
-        i += 1;
-    }
-}
-
-// The coefficient of t^k y at i.
-fn shifted(y: &Row, k: usize, i: usize) -> u64
-    requires { ⌜ i < 32 ⌝ }
-    ensures { λ r. ⌜ r ≡ shiftAt (now (y .entry)) k i ⌝ }
-{
-    if i < k { 0 } else { y[i - k] }
-}
-
-// s x - c t^k y, of n terms, in place of x.
-pub fn cross_in(q: Modulus, s: u64, x: &mut Row, c: u64, k: usize, y: &Row, n: usize)
-    requires { ⌜ CrossInAsks q s (now x) c k (now y) n ⌝ }
-    ensures { λ _. ⌜ CrossInGives (q .p) s (now (x .entry)) c k (now (y .entry)) n (now (x .exit)) ⌝ }
-{
-    let d = q.p - c;
-    let mut i: usize = 0;
-    while i < n {
-        let z = shifted(y, k, i);
-        let a = reduce(q, s * x[i] + d * z);
-        x[i] = a;
-        i += 1;
-    }
 }
 
 // The terms from .. to - 1 of coefficient k of x y, up to a multiple of p.

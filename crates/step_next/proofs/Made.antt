@@ -21,7 +21,7 @@ use Rattle.basis_record.specs.Record.{setting, polyOf, basisOf}
 use Rattle.basis_record.specs.Seven.{Seven, rowsOf}
 use Rattle.step_divide.specs.Generated.{Generators, Generated, AreGenerators}
 use Rattle.basis_parts.specs.Frame.{frame}
-use Rattle.basis_reduce.specs.Clear as reduced
+use Rattle.basis_clear.specs.Clear as reduced
 use Rattle.basis_record.specs.Store.{SevenLoaded}
 use Rattle.basis_scale.specs.Based.{BasisAsks, BasedAt, Based}
 use Rattle.basis_record.proofs.Loads.{rows-are, rows-path, rows-good}

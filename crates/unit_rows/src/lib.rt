@@ -1,8 +1,8 @@
 // The six rows of a unit and its inverse, in one lent slice: E0, E1, E2, F0, F1, F2 of c coefficients each. Here the rows of E.
 use poly_long::clear;
 use poly_long::copy;
-use poly_long::quotient;
 use poly_long::size;
+use poly_products::quotient;
 ghost use mathlib.Core.Path.{_≡_};
 ghost use Rattle.unit_rows.specs.Six.{ByAsks, By, CoordinateAsks, Coordinate, TimesAsks, Times, MultiplyByMAsks, Turn};
 ghost use lib.ListN.{length, replicate};
@@ -13,7 +13,7 @@ fn by(p: u64, x: &[u16], y: &[u16]) -> [u16; 50]
     ensures { λ r. ⌜ By p (now (x .entry)) (now (y .entry)) r ⌝ }
 {
     let mut d: [u16; 50] = [0; 50];
-    poly_long::times(p, x, y, &mut d);
+    poly_products::times(p, x, y, &mut d);
     d
 }
 

@@ -2,8 +2,9 @@
 use Prim.Native.Nat.{_-_, _<_}
 use native.Mathlib.Omega.{arith}
 use Rattle.basis_parts.specs.Given.{given}
-use Rattle.basis_reduce.specs.Clear.{Shearing, pair}
-use Rattle.basis_reduce.proofs.Clearing.{part-in, part-below}
+use Rattle.basis_clear.specs.Clear.{pair}
+use Rattle.basis_reduce.specs.Reduction.{Shearing}
+use Rattle.basis_clear.proofs.Clearing.{part-in, part-below}
 use Rattle.basis_reduce.proofs.Shearing.{shear-pos, shear-low, shear-top, shear-start, shear-turn-in, shear-less, shear-turn, shear-end}
 use Rattle.basis_reduce.proofs.clear_x.Statement.{statement}
 use Rattle.basis_reduce.proofs.clear_x.Tie as tie

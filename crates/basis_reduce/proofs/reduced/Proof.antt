@@ -4,7 +4,7 @@ use mathlib.Core.Bool.{Bool, true, false}
 use mathlib.Core.List.{List}
 use Prim.Native.Nat.{ℕ}
 use Rattle.basis_parts.specs.Frame.{Frame}
-use Rattle.basis_reduce.specs.Clear.{Pair, Cleared, pair, swapIf}
+use Rattle.basis_clear.specs.Clear.{Pair, Cleared, pair, swapIf}
 use Rattle.basis_reduce.proofs.Shearing.{shear-in, reduced-end}
 use Rattle.basis_reduce.proofs.reduced.Statement.{statement}
 use Rattle.basis_reduce.proofs.reduced.Tie as tie

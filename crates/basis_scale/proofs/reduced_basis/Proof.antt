@@ -1,5 +1,5 @@
 -- `basis_scale::reduced_basis` meets its contract: `basis_in`, on rows of zeros.
-use Rattle.basis_reduce.proofs.Clearing.{blank}
+use Rattle.basis_clear.proofs.Clearing.{blank}
 use Rattle.basis_scale.proofs.reduced_basis.Statement.{statement}
 use Rattle.basis_scale.proofs.reduced_basis.Tie as tie
 

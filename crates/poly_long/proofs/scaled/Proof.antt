@@ -4,7 +4,7 @@ use mathlib.Core.Path.{_≡_, _∙_, sym, ap}
 use native.Mathlib.Omega.{arith}
 use native.Mathlib.Nat.{mod-lt, zero-mod}
 use borrow.Author.Needs.{needs}
-use Rattle.poly_long.proofs.Sums.{product-small}
+use Rattle.poly_long.proofs.Loops.{product-small}
 use Rattle.poly_long.proofs.scaled.Statement.{statement}
 use Rattle.poly_long.proofs.scaled.Tie as tie
 

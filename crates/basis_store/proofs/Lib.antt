@@ -1,0 +1,4 @@
+pub mod Two
+pub mod Place
+pub mod Levels
+pub mod Scales

@@ -1,0 +1,3 @@
+pub mod Levels
+pub mod Place
+pub mod Scales
