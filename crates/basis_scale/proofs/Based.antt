@@ -166,7 +166,7 @@ module _ {F : Frame} {q : Pair} {top : ℕ} {d x1 y1 : List ℕ} (g : BasisAsks 
             pub based-fill : FilledAsks (F .m) top k (o .mb) (o .mc) (o .mx) (o .nb) (o .nc) (o .nx) x2 n1 y2 n2 u lu
             based-fill = record { m = element (hk .m-low) (h .hm); n = element (hk .n-low) (h .hn) }
 
-            module _ {o₁ : Pair} {B₃ : List ℕ} (fl : Filled (F .m .p) k (o .mb) (o .mc) (o .mx) (o .nb) (o .nc) (o .nx) x2 y2 u o₁ B₃) where
+            module _ {o₁ : Pair} {mx₁ nx₁ B₃ : List ℕ} (fl : Filled (F .m .p) k (o .mb) (o .mc) (o .mx) (o .nb) (o .nc) (o .nx) x2 y2 u o₁ mx₁ nx₁ B₃) where
               open Filled fl using (B₁, B₂, at-m as pm, at-n as pn, at-u as st)
 
               part-M : (j : ℕ) → j < 3 → part j B₁ ≡ part j B₃

@@ -130,7 +130,7 @@ module _ {M : Modulus} {i top s : ℕ} {b c x x1 : List ℕ} {n1 : ℕ} {y1 : Li
               is-c : (ρ : Reading (M .p)) → row ρ (part (i + 2) B₂) ≡ row ρ mc
               is-c ρ = stored-part B₁ (i + 2) mc B₂ s₂ (λ j l. let f : top ≤ 17 = g .inp .fits in sc .short .above j (omega arith)) ρ
 
-              pub placed : Placed (M .p) i s b c x x1 y1 u B mb mc B₂
+              pub placed : Placed (M .p) i s b c x x1 y1 u B mb mc a B₂
               placed = record {
                 size = s₂ .size;
                 each = λ h. stored-each (M .p) B₁ (i + 2) mc B₂ s₂ (stored-each (M .p) B₀ (i + 1) mb B₁ s₁ (stored-each (M .p) B i a B₀ s₀ h (la .short .is-row .each)) (sb .short .is-row .each)) (sc .short .is-row .each);
@@ -149,6 +149,9 @@ module _ {M : Modulus} {i top s : ℕ} {b c x x1 : List ℕ} {n1 : ℕ} {y1 : Li
                 left-b = stored-padded s₁ (sb .short) (g .inp .fits)
                     ∙ ap (λ z. z ++ replicate 15 0) (sym (stored-other B₁ (i + 2) mc B₂ s₂ (i + 1) (inl (omega arith))));
                 left-c = stored-padded s₂ (sc .short) (g .inp .fits);
+                left-x = stored-padded s₀ (la .short) (g .inp .fits)
+                    ∙ ap (λ z. z ++ replicate 15 0)
+                    (sym (stored-other B₁ (i + 2) mc B₂ s₂ i (inl (omega arith)) ∙ stored-other B₀ (i + 1) mb B₁ s₁ i (inl (omega arith))));
               }
                 where
                   away : (j : ℕ) → i ≤ j → j ≤ i + 2 → (m : ℕ) → (m < 17 * i) ⊎ (17 * (i + 3) ≤ m) → (m < 17 * j) ⊎ (17 * j + 17 ≤ m)
@@ -164,11 +167,11 @@ module _ {M : Modulus} {top : ℕ} {k : Factors} {mb mc mx nb nc nx x1 : List �
   pub fill-m : StoreElementAsks M 0 top (k .m) mb mc mx x1 n1 y1 n2 u lu (replicate 119 0)
   fill-m = record { inp = g .m; at = omega arith; size = refl; blank = λ j w. zeros-at 119 j }
 
-  module _ {mb₁ mc₁ B₁ : List ℕ} (pm : Placed (M .p) 0 (k .m) mb mc mx x1 y1 u (replicate 119 0) mb₁ mc₁ B₁) where
+  module _ {mb₁ mc₁ mx₁ B₁ : List ℕ} (pm : Placed (M .p) 0 (k .m) mb mc mx x1 y1 u (replicate 119 0) mb₁ mc₁ mx₁ B₁) where
     pub fill-n : StoreElementAsks M 3 top (k .n) nb nc nx x1 n1 y1 n2 u lu B₁
     fill-n = record { inp = g .n; at = omega arith; size = pm .size; blank = λ j w. pm .there j (inr (omega arith)) ∙ zeros-at 119 j }
 
-    module _ {nb₁ nc₁ B₂ : List ℕ} (pn : Placed (M .p) 3 (k .n) nb nc nx x1 y1 u B₁ nb₁ nc₁ B₂) where
+    module _ {nb₁ nc₁ nx₁ B₂ : List ℕ} (pn : Placed (M .p) 3 (k .n) nb nc nx x1 y1 u B₁ nb₁ nc₁ nx₁ B₂) where
       pub fill-u : StoredAsks B₂ 6 u lu
       fill-u = let l : lu ≤ top = g .m .low-u in let f : top ≤ 17 = g .m .fits in record {
         size = pn .size;

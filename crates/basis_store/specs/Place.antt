@@ -4,7 +4,7 @@
 --   StoreElementAsks       the same, and the record is 0 from row i on
 --   PlacedAt      b₀ and c₀ are s b and s c; 2 a₀ is −(s b x1 + s c y1) modulo u, and 2 a₀ less s x lies below u
 --   padded i B    row i of the record as a row of 32
---   Placed        the three rows of B′ are such, for a prime p, the rest of it is that of B, and b′, c′ are its rows i + 1, i + 2, padded
+--   Placed        the three rows of B′ are such, for a prime p, the rest of it is that of B, and x′, b′, c′ are its rows i, i + 1, i + 2, padded
 --   Filled        the record of m and n, scaled by the factors of k, and of u; o′ holds the rows of m and n afterwards
 use mathlib.Core.Path.{_≡_}
 use mathlib.Core.Logic.{_⊎_}
@@ -75,22 +75,23 @@ pub record PlacedAt {p : ℕ} (ρ : Reading p) (s : ℕ) (b c x x1 y1 u a₀ b�
 abbrev pub padded : ℕ → List ℕ → List ℕ
 padded i B = part i B ++ replicate 15 0
 
-pub record Placed (p i s : ℕ) (b c x x1 y1 u B b′ c′ B′ : List ℕ) : Type 0 where
+pub record Placed (p i s : ℕ) (b c x x1 y1 u B b′ c′ x′ B′ : List ℕ) : Type 0 where
   pub size : length B′ ≡ 119
   pub each : ((k : ℕ) → getD B k 0 < p) → (k : ℕ) → getD B′ k 0 < p
   pub there : (k : ℕ) → (k < 17 * i) ⊎ (17 * (i + 3) ≤ k) → getD B′ k 0 ≡ getD B k 0
   pub at : (pr : Prime p) → PlacedAt (reading p pr) s b c x x1 y1 u (part i B′) (part (i + 1) B′) (part (i + 2) B′)
   pub left-b : b′ ≡ padded (i + 1) B′
   pub left-c : c′ ≡ padded (i + 2) B′
+  pub left-x : x′ ≡ padded i B′
 
 -- ---- the whole record
 pub record FilledAsks (q : Modulus) (top : ℕ) (k : Factors) (mb mc mx nb nc nx x1 : List ℕ) (n1 : ℕ) (y1 : List ℕ) (n2 : ℕ) (u : List ℕ) (lu : ℕ) : Type 0 where
   pub m : ElementAsks q top (k .m) mb mc mx x1 n1 y1 n2 u lu
   pub n : ElementAsks q top (k .n) nb nc nx x1 n1 y1 n2 u lu
 
-pub record Filled (p : ℕ) (k : Factors) (mb mc mx nb nc nx x1 y1 u : List ℕ) (o′ : Pair) (B : List ℕ) : Type 0 where
+pub record Filled (p : ℕ) (k : Factors) (mb mc mx nb nc nx x1 y1 u : List ℕ) (o′ : Pair) (mx′ nx′ B : List ℕ) : Type 0 where
   pub B₁ : List ℕ
   pub B₂ : List ℕ
-  pub at-m : Placed p 0 (k .m) mb mc mx x1 y1 u (replicate 119 0) (o′ .mb) (o′ .mc) B₁
-  pub at-n : Placed p 3 (k .n) nb nc nx x1 y1 u B₁ (o′ .nb) (o′ .nc) B₂
+  pub at-m : Placed p 0 (k .m) mb mc mx x1 y1 u (replicate 119 0) (o′ .mb) (o′ .mc) mx′ B₁
+  pub at-n : Placed p 3 (k .n) nb nc nx x1 y1 u B₁ (o′ .nb) (o′ .nc) nx′ B₂
   pub at-u : Stored B₂ 6 u B

@@ -75,7 +75,7 @@ fn store_element(
     lu: usize,
 )
     requires { ⌜ StoreElementAsks q i top s (now b) (now c) (now x) (now x1) n1 (now y1) n2 (now u) lu (now rows) ⌝ }
-    ensures { λ _. ⌜ Placed (q .p) i s (now (b .entry)) (now (c .entry)) (now (x .entry)) (now (x1 .entry)) (now (y1 .entry)) (now (u .entry)) (now (rows .entry)) (now (b .exit)) (now (c .exit)) (now (rows .exit)) ⌝ }
+    ensures { λ _. ⌜ Placed (q .p) i s (now (b .entry)) (now (c .entry)) (now (x .entry)) (now (x1 .entry)) (now (y1 .entry)) (now (u .entry)) (now (rows .entry)) (now (b .exit)) (now (c .exit)) (now (x .exit)) (now (rows .exit)) ⌝ }
 {
     scale_in(q, s, b, top);
     scale_in(q, s, c, top);
@@ -109,7 +109,7 @@ pub fn filled(
     lu: usize,
 ) -> [u16; 119]
     requires { ⌜ FilledAsks q top k (now mb) (now mc) (now mx) (now nb) (now nc) (now nx) (now x1) n1 (now y1) n2 (now u) lu ⌝ }
-    ensures { λ o. ⌜ Filled (q .p) k (now (mb .entry)) (now (mc .entry)) (now (mx .entry)) (now (nb .entry)) (now (nc .entry)) (now (nx .entry)) (now (x1 .entry)) (now (y1 .entry)) (now (u .entry)) (pair (now (mb .exit)) (now (mc .exit)) (now (nb .exit)) (now (nc .exit))) o ⌝ }
+    ensures { λ o. ⌜ Filled (q .p) k (now (mb .entry)) (now (mc .entry)) (now (mx .entry)) (now (nb .entry)) (now (nc .entry)) (now (nx .entry)) (now (x1 .entry)) (now (y1 .entry)) (now (u .entry)) (pair (now (mb .exit)) (now (mc .exit)) (now (nb .exit)) (now (nc .exit))) (now (mx .exit)) (now (nx .exit)) o ⌝ }
 {
     let mut rows: [u16; 119] = [0; 119];
     store_element(&mut rows, 0, q, top, k.m, mb, mc, mx, x1, n1, y1, n2, u, lu);
