@@ -3,6 +3,7 @@
 --   num_mod        inverse, cube_root: inverse-unique, cube-root-unique (num_mod/proofs/Unique); add_product, mod p: add-product-unique (Poly)
 --   num_prime      is_prime: is-prime-unique (Poly)
 --   base_lists     list_length: list-unique (base_lists/proofs/Coefs)
+--   base_answers   over_budget, over_longest, no_six_rows: over-unique, no-six-unique (base_answers/proofs/Limits)
 --   poly_rows      size_from, size: size-unique; from_list: from-list-unique; minus, mul: minus-unique, mul-unique (Poly)
 --   poly_cross     scale_in, cross_in: scale-in-unique, cross-in-unique (Poly)
 --   poly_factors   squarefree, coprime: squarefree-unique, coprime-unique; gcd, up to a constant: gcd-unique (Poly)
@@ -13,9 +14,13 @@
 --   poly_products  mix, times: mix-unique, times-unique; quotient, where there is one that fits: quotient-unique (Long)
 --   field_open     list_length: list-unique (base_lists/proofs/Coefs); refusal: refusal-unique (field_open/proofs/Stages); open:
 --                  opens-unique (field_open/proofs/Opening)
+--   field_factors  both_free: free-unique (field_factors/proofs/Tests)
 --   field_fill     grow: grow-unique (Steps)
 --   field_series   series, open_with_series: answer-unique, expands-unique (field_series/proofs/Answer)
 --   pair_agree     one_field: decides-unique (base_answers/proofs/Tests); paired: pairs-unique (pair_agree/proofs/Once)
+--   pair_factors   factors: law-unique (pair_agree/proofs/Laws)
+--   pair_rows      exchange, multiplied: exchanged-unique, multiplied-unique (door_transfer/proofs/Inner)
+--   pair_carry     carry, carry_swapped: carried-unique, carried-swapped-unique (door_transfer/proofs/Inner)
 --   basis_record   load, stored: load-unique, stored-unique (Bases)
 --   basis_parts    floor, floor_in: part-unique; top_of: top-of-unique; lead_of: lead-of-unique (Reduction)
 --   basis_clear    canceled, clear_y serve `reduced` alone: reduced-unique is of the whole
@@ -28,10 +33,17 @@
 --   basis_accept   accepts: accepts-unique (Tests)
 --   basis_field    order_basis: first-unique (Steps)
 --   step_divide    next_generators, up to a constant: divided-unique, and its lengths: divided-lengths (Generators)
+--   step_coordinates   coordinates_of_rm, coordinates_of_wm, negate: turned-r-unique, turned-w-unique, negated-unique
+--                  (step_coordinates/proofs/Once)
+--   step_part      parted, up to a constant: divided-unique, of the rows that the record holds (Generators)
 --   step_next      step_on_rows, step_in_field: advanced-unique, next-unique (Steps)
+--   walk_closed    is_closed: closed-unique (walk_closed/proofs/One)
 --   walk_chain     walk_on_rows, walk_in_field: go-unique, walked-unique (Steps)
---   unit_rows      monic: monic-unique; multiply_by_m, where `Turnable`: turn-unique (Long)
+--   unit_monic     monic: monic-unique (Long)
+--   unit_rows      multiply_by_m, where `Turnable`: turn-unique (Long)
 --   unit_inverse   invert: invert-unique (Long)
+--   unit_norm      norm: norm-unique (unit_norm/proofs/Norms)
+--   unit_finish    finished: finished-unique (unit_make/proofs/Whole)
 --   unit_make      make: make-unique (Steps)
 --   door_basis     order, check: orders-unique, checks-unique (door_basis/proofs/Answer)
 --   door_step      step: answers-unique (door_step/proofs/Answers)
@@ -44,11 +56,18 @@
 --   book_rule      body_rule, unit_list, first_list: decides-unique (base_answers/proofs/Tests)
 --   book_field     of_field: decides-unique (base_answers/proofs/Tests); field_refusal: field-refusal-unique (Bytes)
 --   book_contents  marked, listed: decides-unique (base_answers/proofs/Tests)
---   book_check     check, ask_answer: check-unique, ask-answer-unique (Bytes); ask, earlier, judge: part-unique, earliest-unique,
---                  judge-unique (book_check/proofs/One)
---   book_add       may_add, add: verdict-unique, added-unique (book_add/proofs/One)
+--   book_pieces    put_head, put_lists: written-unique (base_lists/proofs/Puts)
+--   book_first     earlier: earliest-unique (book_check/proofs/One)
+--   book_judge     judge: judge-unique (book_check/proofs/One)
+--   book_check     check, ask_answer: check-unique, ask-answer-unique (Bytes); ask: part-unique (book_check/proofs/One)
+--   book_may       may_add: verdict-unique (book_add/proofs/One)
+--   book_add       add: added-unique (book_add/proofs/One)
+--   book_norm      constant_norm: decides-unique (base_answers/proofs/Tests)
 --   book_attest    attest: attestation-unique (book_attest/proofs/One)
 --   book_write     write_body: wrote-unique (book_write/proofs/One)
+--   book_begin     begin: begin-says-unique (book_begin/proofs/Once)
+--   book_parts     prime, period, list: prime-says-unique, period-says-unique, list-says-unique (book_parts/proofs/Once)
+--   book_rows      write_rows: rows-says-unique (book_rows/proofs/Once)
 --   book_place     ask: ask-says-unique (book_place/proofs/Once)
 --   text_put       put_byte, put_bytes, put_number, put_list, put_refused: placed-unique (base_lists/proofs/Puts)
 --   text_cut       next_line: cut-unique (text_cut/proofs/Steps)
@@ -60,8 +79,8 @@
 --   capi           zaminuk_refusal, zaminuk_series, zaminuk_check, zaminuk_transfer: refusal-unique, answer-unique, checks-unique,
 --                  transfers-unique as above; zaminuk_order, zaminuk_step, zaminuk_walk, zaminuk_from_order, zaminuk_unit,
 --                  zaminuk_one_field: order-tells-unique, step-tells-unique, walk-tells-unique, from-order-tells-unique,
---                  unit-tells-unique, one-field-tells-unique; zaminuk_book_check, _attest, _write, _add, zaminuk_body_list:
---                  check-says-unique, attest-says-unique, write-says-unique, add-says-unique, list-says-unique (capi/proofs/Once);
---                  zaminuk_book_ask: ask-says-unique as above
+--                  unit-tells-unique, one-field-tells-unique; zaminuk_book_check, _attest, _write, _add:
+--                  check-says-unique, attest-says-unique, write-says-unique, add-says-unique (capi/proofs/Once); zaminuk_book_ask,
+--                  _begin, _write_rows, zaminuk_body_prime, _period, _list: as above
 pub mod Turnable
 pub mod UpTo
