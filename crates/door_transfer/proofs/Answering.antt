@@ -5,10 +5,11 @@
 use mathlib.Core.Path.{_≡_, refl, subst}
 use mathlib.Core.Bool.{Bool, true, false}
 use mathlib.Core.List.{List}
-use Prim.Native.Nat.{ℕ, _*_, _/_, _%_, _≤_}
+use Prim.Native.Nat.{ℕ, _*_, _/_, _≤_}
 use native.Mathlib.Omega.{arith}
 use lib.ListN.{length}
-use Rattle.base_answers.specs.Limits.{longest, longest-six}
+use Rattle.base_answers.specs.Limits.{longest, SixRows, NoSixRows}
+use Rattle.base_answers.proofs.Limits.{no-six, six-of}
 use Rattle.pair_agree.specs.Answer.{Both, Pairs}
 use Rattle.door_compare.specs.Answer.{Refusals}
 use Rattle.pair_agree.specs.Rows.{straight, crossed}
@@ -18,22 +19,21 @@ use Rattle.pair_agree.proofs.Outcomes.{apart-none}
 use Rattle.door_compare.proofs.Doors.{doors-goes, both-of}
 use Rattle.door_transfer.specs.Transfer.{Lent, Transfers, unfit, carried}
 use Rattle.pair_carry.specs.Code.{CarryAsks, Carried, CarriedSwapped}
-use Rattle.door_transfer.specs.Code.{Unfit}
 
 module _ {p : ℕ} {G H G′ H′ : List ℕ} (rows : List ℕ) {n : ℕ} (e : n ≡ 0) (r : Refusals p G H G′ H′ n) where
   both : Both p G H G′ H′
   both = both-of e r
 
   -- six equal rows have one length
-  lent-rule : (c : ℕ) → Lent c rows → (length rows % 6 ≡ 0) × (length rows ≤ longest-six)
+  lent-rule : (c : ℕ) → Lent c rows → SixRows (length rows)
   lent-rule c t = let w : length rows ≡ 6 * c = t .whole in let l : c ≤ longest = t .room in (omega arith, omega arith)
 
-  pub too-long : {b : Bool} → Unfit (length rows) b → b ≡ true → Transfers p G H G′ H′ rows 14 rows
-  too-long u f = doors-goes both (unfit (λ c t o. subst (Unfit (length rows)) f u (lent-rule c t)) (record { number = refl; kept = refl }))
+  pub too-long : {b : Bool} → NoSixRows (length rows) b → b ≡ true → Transfers p G H G′ H′ rows 14 rows
+  too-long u f = doors-goes both (unfit (λ c t o. no-six u f (lent-rule c t)) (record { number = refl; kept = refl }))
 
-  module _ {b : Bool} (u : Unfit (length rows) b) (f : b ≡ false) where
-    rule : (length rows % 6 ≡ 0) × (length rows ≤ longest-six)
-    rule = subst (Unfit (length rows)) f u
+  module _ {b : Bool} (u : NoSixRows (length rows) b) (f : b ≡ false) where
+    rule : SixRows (length rows)
+    rule = six-of u f
 
     lent : Lent (length rows / 6) rows
     lent = let (a, l) = rule in record { room = omega arith; whole = omega arith }

@@ -1,2 +1,1 @@
 pub mod Transfer
-pub mod Code

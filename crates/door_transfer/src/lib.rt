@@ -1,23 +1,10 @@
 // The rows of a unit carried over from one pair to another pair of the same field. specs/Transfer.antt says what the answer and the lent
 // slice are, crate pair_carry does the work.
+use base_answers::no_six_rows;
 use pair_agree::Pairing;
 use pair_carry::carry;
 use pair_carry::carry_swapped;
 ghost use Rattle.door_transfer.specs.Transfer.{Transfers};
-ghost use Rattle.door_transfer.specs.Code.{Unfit};
-
-// Whether n is no length of six equal rows of at most 4,096 numbers.
-fn unfit(n: usize) -> bool
-    ensures { λ r. ⌜ Unfit n r ⌝ }
-{
-    if n % 6 != 0 {
-        return true;
-    }
-    if n > 24576 {
-        return true;
-    }
-    false
-}
 
 // Carries the six rows of a unit of the pair g, h over to the pair g2, h2, in place; a refusal leaves them as they are.
 pub fn transfer(p: u64, g: &[u64], h: &[u64], g2: &[u64], h2: &[u64], rows: &mut [u16]) -> u32
@@ -27,7 +14,7 @@ pub fn transfer(p: u64, g: &[u64], h: &[u64], g2: &[u64], h2: &[u64], rows: &mut
     if n != 0 {
         return n;
     }
-    let bad = unfit(rows.len());
+    let bad = no_six_rows(rows.len());
     if bad {
         return 14;
     }

@@ -12,14 +12,14 @@ refusal-requires c κs = search needs
 returns : tie.Need-returns
 returns c = doors-refused (c .before .refusal .ensures) (c .if1 .taken) (record { number = refl; kept = refl })
 
-unfit-requires : tie.Need-unfit-requires
-unfit-requires c κs = search needs
+no-six-rows-requires : tie.Need-no-six-rows-requires
+no-six-rows-requires c κs = search needs
 
 returns-2 : tie.Need-returns-2
 returns-2 c =
     let a = c .before .before .before .before .before .before .before .before .before .args in
     let t = c in
-    too-long (a .rows .now) (t .before .before .if1 .left) (t .before .before .before .refusal .ensures) (t .before .unfit .ensures) (t .if2 .taken)
+    too-long (a .rows .now) (t .before .before .if1 .left) (t .before .before .before .refusal .ensures) (t .before .no-six-rows .ensures) (t .if2 .taken)
 
 paired-requires : tie.Need-paired-requires
 paired-requires c κs = both-of (c .before .before .if1 .left) (c .before .before .before .refusal .ensures)
@@ -31,7 +31,7 @@ carry-requires : tie.Need-carry-requires
 carry-requires c κs =
     let a = c .before .before .before .before .before .before .before .before .before .before .before .before .before .args in
     let t = c .before .before .before .before in
-    carry-asks (a .rows .now) (t .before .before .if1 .left) (t .before .before .before .refusal .ensures) (t .before .unfit .ensures) (t .if2 .left)
+    carry-asks (a .rows .now) (t .before .before .if1 .left) (t .before .before .before .refusal .ensures) (t .before .no-six-rows .ensures) (t .if2 .left)
 
 enum-told-2 : tie.Need-enum-told-2
 enum-told-2 c = search needs
@@ -40,7 +40,7 @@ carry-swapped-requires : tie.Need-carry-swapped-requires
 carry-swapped-requires c κs =
     let a = c .before .before .before .before .before .before .before .before .before .before .before .before .before .args in
     let t = c .before .before .before .before in
-    carry-asks (a .rows .now) (t .before .before .if1 .left) (t .before .before .before .refusal .ensures) (t .before .unfit .ensures) (t .if2 .left)
+    carry-asks (a .rows .now) (t .before .before .if1 .left) (t .before .before .before .refusal .ensures) (t .before .no-six-rows .ensures) (t .if2 .left)
 
 enum-told-3 : tie.Need-enum-told-3
 enum-told-3 c = search needs
@@ -52,7 +52,7 @@ returns-3 : tie.Need-returns-3
 returns-3 c =
     let a = c .before .before .before .before .before .before .before .before .before .before .before .before .before .before .before .before .args in
     let t = c .before .before .before .before .before .before .before in
-    straight-done (a .rows .now) (t .before .before .if1 .left) (t .before .before .before .refusal .ensures) (t .before .unfit .ensures) (t .if2 .left)
+    straight-done (a .rows .now) (t .before .before .if1 .left) (t .before .before .before .refusal .ensures) (t .before .no-six-rows .ensures) (t .if2 .left)
     (c .before .before .before .before .before .before .paired .ensures) (c .before .before .before .before .enum-told .given .1) _ (c .before .before .carry .ensures)
 
 same-length-2 : tie.Need-same-length-2
@@ -62,7 +62,7 @@ returns-4 : tie.Need-returns-4
 returns-4 c =
     let a = c .before .before .before .before .before .before .before .before .before .before .before .before .before .before .before .before .args in
     let t = c .before .before .before .before .before .before .before in
-    swapped-done (a .rows .now) (t .before .before .if1 .left) (t .before .before .before .refusal .ensures) (t .before .unfit .ensures) (t .if2 .left)
+    swapped-done (a .rows .now) (t .before .before .if1 .left) (t .before .before .before .refusal .ensures) (t .before .no-six-rows .ensures) (t .if2 .left)
     (c .before .before .before .before .before .before .paired .ensures) (c .before .before .before .before .enum-told2 .given .1) _ (c .before .before .carry-swapped .ensures)
 
 returns-5 : tie.Need-returns-5
@@ -70,7 +70,7 @@ returns-5 c =
     let at12 = c .before .before .before .before .before .before .before .before .before .before .before .before in
     let a = at12 .args in
     let t = c .before .before .before in
-    apart (a .rows .now) (t .before .before .if1 .left) (t .before .before .before .refusal .ensures) (t .before .unfit .ensures) (t .if2 .left)
+    apart (a .rows .now) (t .before .before .if1 .left) (t .before .before .before .refusal .ensures) (t .before .no-six-rows .ensures) (t .if2 .left)
     (c .before .before .paired .ensures) (c .enum-told3 .given .1)
 
 pub transfer-spec : {M : Type 1} → statement M
@@ -79,7 +79,7 @@ transfer-spec =
     (tie.spec
     refusal-requires
     returns
-    unfit-requires
+    no-six-rows-requires
     returns-2
     paired-requires
     enum-told
