@@ -268,7 +268,15 @@ turn-stands h (stops (l, i, e) x) a y = stopped-stands h l i e x y
 run-stands : {cs : List Call} {k b d : List ℕ} {s : Stand} → Run cs k b d s → Stands cs k b d s
 unfolding took brought
 run-stands (begin k b d e h) = inl (record {
-  phase = inl refl; lines = []; text = []; earlier = []; answered = no-line; split = refl; size = e; fed = start []; input = refl;
+  phase = inl refl;
+  lines = [];
+  text = [];
+  earlier = [];
+  answered = no-line;
+  split = refl;
+  size = e;
+  fed = start [];
+  input = refl;
 })
 run-stands (more x h t) = turn-stands h t (run-asks x) (run-stands x)
 
@@ -293,7 +301,7 @@ module _ {cs : List Call} {k b d : List ℕ} {s : Stand} (x : Run cs k b d s) wh
         seen = y .earlier ++ take (s .at) (take (s .m) b);
         unseen = drop (s .at) (take (s .m) b);
         input = y .input ∙ ap (λ z. y .earlier ++ z) (sym (take-append-drop (s .at) (take (s .m) b)))
-        ∙ sym (append-assoc (y .earlier) (take (s .at) (take (s .m) b)) (drop (s .at) (take (s .m) b)));
+            ∙ sym (append-assoc (y .earlier) (take (s .at) (take (s .m) b)) (drop (s .at) (take (s .m) b)));
         lines = y .lines;
         left = s .n;
         cut = ap (λ z. lines-of z (y .earlier ++ take (s .at) (take (s .m) b))) (sym (y .size)) ∙ fed-lines (y .fed);

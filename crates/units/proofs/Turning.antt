@@ -1,7 +1,10 @@
 -- What the functions of a turn are proved with.
---   moved-clamped, moved-within   the bytes that a call moved, as `io::count` counts them
---   settle-some, settle-again, settle-fails   the phase after a call
---   wrote-by, came-by, ended-by   from the facts of `wrote` and `heard`
+--   moved-clamped, moved-within    the bytes that a call moved, as `io::count` counts them
+--   settle-again, settle-fails     the phase after a call
+--   zero-of-bits, bits-of-zero     a signed number and its bits
+--   heard-came, heard-ended        what `heard` gives, by the answer of the read
+--   part-starts, part-ends, wrote-asks, moved-as   what the calls in `turn` ask
+--   turn-writes, turn-answers, turn-reads, turn-stops   a turn, from its arm
 use mathlib.Core.Path.{_≡_, refl, sym, ap, subst, _∙_}
 use mathlib.Core.Logic.{_⊎_, inl, inr}
 use mathlib.Core.List.{List}
@@ -28,10 +31,6 @@ moved-clamped n (negsuc k) h = refl
 pub moved-within : (n : ℕ) (z : ℤ) → Moved n z → moved z ≤ n
 moved-within n (pos k) h = h
 moved-within n (negsuc k) h = omega arith
-
-pub settle-some : (w p : ℕ) → 0 < w → Settles w p p
-settle-some zero p h = inl refl
-settle-some (suc w) p h = refl
 
 pub settle-again : (w p : ℕ) → Settles w p p
 settle-again zero p = inl refl

@@ -4,7 +4,9 @@
 --   Settles w p q          the phase after a call that moved w bytes; 3, a failure, only where w is 0
 --   Wrote, Answers, Heard  what is next after a write, after lines of a piece were answered, after a read
 --   Turn, Turns            one turn, with the call made in it
+--   Asks                   what a turn asks
 --   Run cs k b d s         turns from the start on, with the calls cs, the latest first: pending bytes in k, the piece in b, answers in d
+--   Begun, Ending           what was taken is a beginning of the answers to lines that have ended; of the output
 --   Ran s                  where the program stops
 -- Theorems, proofs/Hearing: `run-output`, in phase 2 what the writes took, joined, is the output to what the reads brought, joined;
 -- `run-begins`, in every other phase it is a beginning of the answers to lines that have ended, so none is of a line not read to its end.
@@ -109,8 +111,8 @@ pub data Turn (k b d : List ℕ) (s r : Stand) : List Call → List ℕ → List
   writes : (got : ℤ) → Plans s (Write (pos 1) (s .from) (s .to)) → Moved (length (between (s .from) (s .to) d)) got → Wrote s got r
       → Turn k b d s r (write (between (s .from) (s .to) d) got ∷ []) k b d
   answers : {k' d' : List ℕ} → Plans s Answer → Answers k b d s r k' d' → Turn k b d s r [] k' b d'
-  reads : {b' d' : List ℕ} (got : ℤ) → Plans s (Read (pos 0)) → length b' ≡ length b → Moved (length b) got → Heard d s got r d'
-      → Turn k b d s r (read got b' ∷ []) k b' d'
+  reads : {b' d' : List ℕ} (got : ℤ) → Plans s (Read (pos 0)) → length b' ≡ length b → Moved (length b) got
+      → Heard d s got r d' → Turn k b d s r (read got b' ∷ []) k b' d'
   stops : Plans s Stop → Stopped s r → Turn k b d s r [] k b d
 
 pub record Turns (k b d : List ℕ) (s r : Stand) (k' b' d' : List ℕ) : Type 0 where

@@ -113,9 +113,9 @@ fn heard(buf: &[u8], out: &mut [u8], s: Stand, got: isize) -> Stand
     requires { ⌜ Moved (length (now buf)) got ⌝ }
     ensures { λ r. ⌜ Heard (now (out .entry)) s got r (now (out .exit)) ⌝ }
 {
-    let n = s.n;
+    let pending = s.n;
     if got == 0 {
-        let to = lister_print::finish(out, n);
+        let to = lister_print::finish(out, pending);
         return Stand {
             n: 0,
             at: 0,
@@ -128,7 +128,7 @@ fn heard(buf: &[u8], out: &mut [u8], s: Stand, got: isize) -> Stand
     let m = io::count(got, buf);
     let phase = settle(s.phase, m);
     Stand {
-        n,
+        n: pending,
         at: 0,
         m,
         from: 0,
@@ -194,10 +194,12 @@ fn run(kept: &mut [u8], buf: &mut [u8], out: &mut [u8]) -> Stand
     s
 }
 
+// Answers go out once more than 64 bytes of them stand in `out`, whose other 20,000 are room for one more: a long answer at once, a few
+// short ones together.
 fn main() {
     let mut kept = [0u8; 255];
     let mut buf = io::large_buffer();
-    let mut out = [0u8; 20256];
+    let mut out = [0u8; 20064];
     let s = run(&mut kept, &mut buf, &mut out);
     if s.phase == 2 {
         return;
