@@ -25,6 +25,7 @@ use Rattle.book_check.proofs.Value.{length-rows, at-rows, part-back, book-back}
 use Rattle.book_check.proofs.Facts.{told-fine, body-thirteen}
 use Rattle.book_add.specs.Add as add
 use Rattle.book_add.proofs.Accepted.{new-length, added-accepted}
+use Rattle.book_put.specs.Code.{newLength}
 use Rattle.book_add.proofs.Front.{bytes-take}
 use Rattle.book_attest.specs.Attest.{AttestTells}
 use Rattle.demands_calls.specs.BookCalls.{listOf, Wrote, Grown, Returns, unitBody, BookCalls}
@@ -126,8 +127,8 @@ record Done (n : ℕ) (d b : List ℕ) (x : Said) (d′ : List ℕ) : Type 0 whe
   long : n ≤ length d
   old : Accepted (take n d)
   body : Finished b
-  size : x .result ≡ add.newLength n b
-  slice : d′ ≡ add.newBook (take n d) b ++ drop (add.newLength n b) d
+  size : x .result ≡ newLength n b
+  slice : d′ ≡ add.newBook (take n d) b ++ drop (newLength n b) d
 
 done : {n : ℕ} {d b : List ℕ} {x : Said} {d′ : List ℕ} → add.AddTells d n b x d′ → x .number ≡ 0 → Done n d b x d′
 done (add.length-out l e q) z = let u = number-of e in absurd (omega arith)
@@ -142,10 +143,10 @@ added : {n : ℕ} {d b d′ : List ℕ} {x : Said} → Bytes d → Bytes b → a
 added {n} {d} {b} {d′} {x} bd bb t z =
     let c = done t z in
     let s = take n d in
-    let m = add.newLength n b in
+    let m = newLength n b in
     let bs = bytes-take n d bd in
     let l : length s ≡ n = length-take-le n d (c .long) in
-    let w : length (add.newBook s b) ≡ m = new-length s b bs bb (c .old) (c .body) ∙ ap (λ k. add.newLength k b) l in
+    let w : length (add.newBook s b) ≡ m = new-length s b bs bb (c .old) (c .body) ∙ ap (λ k. newLength k b) l in
     let all : Bytes d′ =
     subst Bytes (sym (c .slice)) (bytes-append (add.newBook s b) (drop m d) (bytes-book (valueOf s ++ (bodyOf b ∷ []))) (bytes-drop d m bd)) in
     let (a, e) = added-accepted d n b bd bb t z in

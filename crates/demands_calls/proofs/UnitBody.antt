@@ -55,6 +55,7 @@ use Rattle.book_body.specs.Body.{Body, UnitList, Rule, bodyBytes}
 use Rattle.book_write.specs.Write as write
 use Rattle.book_check.specs.Book as book
 use Rattle.book_attest.specs.Attest as attest
+use Rattle.book_norm.specs.Attested as judged
 use Rattle.demands_calls.specs.BookCalls.{unitBody, Bookable}
 use Rattle.demands_calls.proofs.Kept.{number-of}
 
@@ -260,7 +261,7 @@ module _ {p n : ℕ} {G H : List ℕ} (c : ℕ) (m : UnitAnswer) (rows : List �
   abbrev normOf : (pr : Prime p) → reading p pr .𝓥 .L .El → reading p pr .𝓥 .L .El → reading p pr .𝓥 .L .El → reading p pr .𝓥 .L .El
   normOf pr x y z = let ρ = reading p pr in normT (ρ .𝓥 .L .ops) (row ρ G) (row ρ H) record { a = x; b = y; c = z }
 
-  unit-attested : attest.Attested b
+  unit-attested : judged.Attested b
   unit-attested pr =
       let A = over (t .field) pr in
       let ρ = reading p pr in
@@ -284,7 +285,7 @@ module _ {p n : ℕ} {G H : List ℕ} (c : ℕ) (m : UnitAnswer) (rows : List �
   unit-attests a h e (attest.book f _) = absurd (f a)
   unit-attests a h e (attest.no-entry _ l _) = absurd (omega arith)
   unit-attests a h e (attest.yes _ _ _ q) = q
-  unit-attests a h e (attest.no _ _ f q) = absurd (f (subst attest.Attested (sym e) unit-attested))
+  unit-attests a h e (attest.no _ _ f q) = absurd (f (subst judged.Attested (sym e) unit-attested))
 
 pub unit-bookable : {p n : ℕ} {G H rows scratch rows′ scratch′ : List ℕ} (m : UnitAnswer) → unit.Makes p G H n rows scratch m rows′ scratch′ → m .refusal ≡ 0
     → (c : ℕ) → length rows′ ≡ N._*_ 6 c → Bookable (unitBody p G H m c rows′)

@@ -28,7 +28,8 @@ use Rattle.book_check.specs.Book.{count, entry, Accepted}
 use Rattle.book_check.specs.Value.{valueOf}
 use Rattle.book_check.specs.Answer.{Tells, AskTells, AskedPart}
 use Rattle.book_add.specs.Add.{AddTells}
-use Rattle.book_attest.specs.Attest.{Attested, AttestTells}
+use Rattle.book_norm.specs.Attested.{Attested}
+use Rattle.book_attest.specs.Attest.{AttestTells}
 
 abbrev pub listOf : Body → ℕ → List ℕ
 listOf b zero = b .G
