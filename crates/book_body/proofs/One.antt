@@ -1,7 +1,9 @@
 -- The outcome of reading a list is settled by the body's bytes, the list's number and the slice.
 --   list-unique    what is said, and the slice
+--   list-kept      a refusal leaves the slice as it was
 --   got-unique     the answer itself, and the slice
 use mathlib.Core.Path.{_≡_, refl, sym, ap, _∙_}
+use mathlib.Core.Logic.{_≢_}
 use mathlib.Core.List.{List}
 use Prim.Native.Nat.{ℕ, zero, suc, _-_}
 use native.Mathlib.Omega.{arith}
@@ -20,6 +22,11 @@ list-unique (none h p q) (short i m u v) = absurd (omega arith)
 list-unique (short h l p q) (read i m u v) = absurd (omega arith)
 list-unique (short h l p q) (none i u v) = absurd (omega arith)
 list-unique (short h l p q) (short i m u v) = (p ∙ sym u, q ∙ sym v)
+
+pub list-kept : {s : List ℕ} {k : ℕ} {d : List ℕ} {x : Said} {e : List ℕ} → ListTells s k d x e → x .number ≢ 0 → e ≡ d
+list-kept (read h l p q) f = absurd (f (ap (λ (z : Said). z .number) p))
+list-kept (none h p q) f = q
+list-kept (short h l p q) f = q
 
 -- ---- the code's answer out of the numbers: 0, 11 and 14
 abbrev got : ℕ → ℕ → Got

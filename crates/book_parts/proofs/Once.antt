@@ -1,12 +1,11 @@
 -- Two outcomes of asking for a part of a body that meet the contract are equal: what is said, the slice, and the five numbers. A refusal
 -- leaves the slice as it was (part-kept).
-use mathlib.Core.Path.{_≡_, _∙_, sym, ap}
+use mathlib.Core.Path.{_≡_, _∙_, sym}
 use mathlib.Core.Logic.{_≢_}
 use mathlib.Core.List.{List}
 use Prim.Native.Nat.{ℕ}
 use Rattle.base_answers.specs.Said.{Said}
-use Rattle.book_body.specs.Code.{ListTells, read, none, short}
-use Rattle.book_body.proofs.One.{list-unique}
+use Rattle.book_body.proofs.One.{list-unique, list-kept}
 use Rattle.book_check.proofs.One.{body-unique, finished-no}
 use Rattle.book_numbers.proofs.Same.{same-numbers}
 use Rattle.book_parts.specs.Parts.{NumberTells, fault, told, PartTells, faulty, listed, PrimeSays, PeriodSays, ListSays}
@@ -23,11 +22,6 @@ part-unique (faulty f p) (faulty g q) = (body-unique f g, p ∙ sym q)
 part-unique (faulty f p) (listed g t) = absurd (finished-no g f)
 part-unique (listed g t) (faulty f p) = absurd (finished-no g f)
 part-unique (listed g t) (listed h u) = list-unique t u
-
-list-kept : {s : List ℕ} {k : ℕ} {d : List ℕ} {x : Said} {e : List ℕ} → ListTells s k d x e → x .number ≢ 0 → e ≡ d
-list-kept (read h l p q) f = absurd (f (ap (λ (z : Said). z .number) p))
-list-kept (none h p q) f = q
-list-kept (short h l p q) f = q
 
 pub part-kept : {s : List ℕ} {k : ℕ} {d : List ℕ} {x : Said} {e : List ℕ} → PartTells s k d x e → x .number ≢ 0 → e ≡ d
 part-kept (faulty g p) f = p

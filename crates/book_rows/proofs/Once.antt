@@ -6,22 +6,14 @@ use mathlib.Core.List.{List}
 use Prim.Native.Nat.{ℕ}
 use native.Mathlib.Omega.{arith}
 use Rattle.base_answers.specs.Said.{Said, refused}
-use Rattle.book_body.specs.Body.{Body}
 use Rattle.field_open.proofs.Stages.{refusal-unique}
 use Rattle.book_write.specs.Write.{WriteTells}
-use Rattle.book_write.specs.Write as write
-use Rattle.book_write.proofs.One.{write-unique}
+use Rattle.book_write.proofs.One.{write-unique, write-kept}
 use Rattle.book_numbers.proofs.Same.{same-numbers}
 use Rattle.book_rows.specs.Rows.{Six, bodyOfRows, RowsTells, field, unfit, body, RowsSays}
 
 six-unique : {c k : ℕ} {l : List ℕ} → Six c l → Six k l → k ≡ c
 six-unique t u = let a = t .whole in let b = u .whole in omega arith
-
-write-kept : {b : Body} {d e : List ℕ} {x : Said} → WriteTells b d x e → x .number ≢ 0 → e ≡ d
-write-kept (write.field n h s p q) f = q
-write-kept (write.rule s r p q) f = q
-write-kept (write.short s r l p q) f = q
-write-kept (write.done s r l p q) f = absurd (f (ap (λ (z : Said). z .number) p))
 
 module _ {p : ℕ} {G H : List ℕ} {t : ℕ} {l d : List ℕ} where
   pub rows-unique : {x y : Said} {e f : List ℕ} → RowsTells p G H t l d x e → RowsTells p G H t l d y f → (x ≡ y) × (e ≡ f)

@@ -1,7 +1,9 @@
 -- The outcome of writing a body is settled by the body and the slice.
 --   write-unique   what is said, and the slice
 --   wrote-unique   the answer itself, and the slice
+--   write-kept     a refusal leaves the slice as it was
 use mathlib.Core.Path.{_≡_, refl, sym, ap, _∙_}
+use mathlib.Core.Logic.{_≢_}
 use mathlib.Core.List.{List}
 use Prim.Native.Nat.{ℕ, _≤_}
 use native.Mathlib.Omega.{arith}
@@ -17,6 +19,12 @@ number-of = ap (λ (z : Said). z .number)
 
 result-of : {x y : Said} → x ≡ y → x .result ≡ y .result
 result-of = ap (λ (z : Said). z .result)
+
+pub write-kept : {b : Body} {d e : List ℕ} {x : Said} → WriteTells b d x e → x .number ≢ 0 → e ≡ d
+write-kept (field n h s p q) f = q
+write-kept (rule s r p q) f = q
+write-kept (short s r l p q) f = q
+write-kept (done s r l p q) f = absurd (f (number-of p))
 
 module _ (b : Body) (d : List ℕ) where
   one-field : (n m : ℕ) → FieldSays b n → FieldSays b m → n ≡ m

@@ -10,8 +10,8 @@ use Rattle.door_walk.proofs.Order.{from-order-unique}
 use Rattle.door_unit.proofs.Once.{makes-unique}
 use Rattle.door_compare.proofs.Once.{refusals-unique, compares-unique}
 use Rattle.door_transfer.proofs.Once.{transfers-unique}
-use Rattle.book_body.proofs.One.{list-unique}
-use Rattle.book_write.proofs.One.{write-unique}
+use Rattle.book_body.proofs.One.{list-unique, list-kept}
+use Rattle.book_write.proofs.One.{write-unique, write-kept}
 use Rattle.book_check.proofs.One.{tells-unique, ask-unique, part-unique}
 use Rattle.book_add.proofs.One.{add-unique}
 use Rattle.book_attest.proofs.One.{attest-unique}
@@ -30,8 +30,8 @@ demand-1 = record {
   series-kept = series.answer-kept;
   unit-kept = kept.unit-kept;
   transfer-kept = kept.transfer-kept;
-  list-kept = kept.list-kept;
-  write-kept = kept.write-kept;
+  list-kept = list-kept;
+  write-kept = write-kept;
   add-kept = kept.add-kept;
   parse-kept = kept.parse-kept;
   answer-kept = kept.answer-kept;

@@ -7,12 +7,13 @@ use lib.ListN.{getD}
 use Rattle.base_answers.specs.Said.{Said}
 use Rattle.book_numbers.specs.Numbers.{numbers}
 use Rattle.book_place.proofs.Once.{ask-says-unique}
+use Rattle.book_write.proofs.One.{write-kept}
 use Rattle.book_begin.proofs.Once as begun
 use Rattle.book_parts.proofs.Once as parts
 use Rattle.book_rows.proofs.Once as rowed
 use Rattle.capi.proofs.Once as once
 use Rattle.demands_calls.specs.FromC.{FromC}
-use Rattle.demands_calls.proofs.Kept.{unit-kept, write-kept, add-kept}
+use Rattle.demands_calls.proofs.Kept.{unit-kept, add-kept}
 
 -- the first of the five numbers is the refusal's
 refused-first : {out : List ℕ} (x : Said) → out ≡ numbers x → getD out 0 0 ≢ 0 → x .number ≢ 0

@@ -1,6 +1,6 @@
 -- What a refusal leaves, by the contract's cases.
 --   unit-kept transfer-kept     the rows, and the scratch
---   list-kept write-kept add-kept parse-kept   the lent slices
+--   add-kept parse-kept         the lent slices; of a list and of a body written: list-kept (book_body), write-kept (book_write)
 --   answer-kept                 of a slice into which an answer goes: what stands before it, and its length
 --   pass-kept                   everything, where the slice is too short for an answer
 use mathlib.Core.Path.{_≡_, refl, ap, _∙_}
@@ -16,9 +16,6 @@ use Rattle.door_unit.specs.declared.UnitAnswer.{UnitAnswer}
 use Rattle.door_unit.specs.Unit as unit
 use Rattle.door_compare.proofs.Doors.{doors-out}
 use Rattle.door_transfer.specs.Transfer as transfer
-use Rattle.book_body.specs.Body.{Body}
-use Rattle.book_body.specs.Code as code
-use Rattle.book_write.specs.Write as write
 use Rattle.book_add.specs.Add as add
 use Rattle.text_read.specs.Tells.{ParseTells}
 use Rattle.text_read.specs.declared.Parsed.{Parsed}
@@ -48,17 +45,6 @@ transfer-kept {p} {n} {G} {H} {G′} {H′} {rows} {rows′} h g = doors-out (λ
     goes (transfer.carried c l k m w) = absurd (g k)
 
 -- ---- the book
-pub list-kept : {k : ℕ} {s d d′ : List ℕ} {x : Said} → code.ListTells s k d x d′ → x .number ≢ 0 → d′ ≡ d
-list-kept (code.read h l e q) f = absurd (f (number-of e))
-list-kept (code.none h e q) f = q
-list-kept (code.short h l e q) f = q
-
-pub write-kept : {b : Body} {d d′ : List ℕ} {x : Said} → write.WriteTells b d x d′ → x .number ≢ 0 → d′ ≡ d
-write-kept (write.field n h s e q) f = q
-write-kept (write.rule s r e q) f = q
-write-kept (write.short s r l e q) f = q
-write-kept (write.done s r l e q) f = absurd (f (number-of e))
-
 pub add-kept : {n : ℕ} {d b d′ : List ℕ} {x : Said} → add.AddTells d n b x d′ → x .number ≢ 0 → d′ ≡ d
 add-kept (add.length-out l e q) f = q
 add-kept (add.book l a t q) f = q

@@ -44,7 +44,7 @@ use Rattle.math_chain.proofs.Unit.{norm-unit, large, closing-pos, unit-degree}
 use Rattle.math_chain.proofs.Exists.{order-exists}
 use Rattle.field_open.specs.Refusal.{Accepted}
 use Rattle.field_open.proofs.Stages.{refusal-unique}
-use Rattle.field_open.proofs.Accept.{accepted-none}
+use Rattle.field_open.proofs.Accept.{accepted-none, with-prime}
 use Rattle.field_open.proofs.Door.{door-out}
 use Rattle.basis_record.specs.Record.{setting}
 use Rattle.door_unit.specs.declared.UnitAnswer.{UnitAnswer}
@@ -197,25 +197,6 @@ made-of {p} {n} {G} {H} {rows} {scratch} {rows′} {scratch′} m h z c e = door
           monic = λ A. let (B₀, st) = order-exists (setting A) in q .unit A B₀ st .monic;
         }
 
--- an accepted field, over a given proof that p is prime
-abbrev over : {p : ℕ} {G H : List ℕ} → Accepted p G H → Prime p → Accepted p G H
-over A pr = record {
-  prime = pr;
-  low = A .low;
-  high = A .high;
-  kind = A .kind;
-  degG = A .degG;
-  degH = A .degH;
-  listG = A .listG;
-  listH = A .listH;
-  some = A .some;
-  sum = A .sum;
-  thirds = A .thirds;
-  freeG = A .freeG;
-  freeH = A .freeH;
-  apart = A .apart;
-}
-
 module _ {p n : ℕ} {G H : List ℕ} (c : ℕ) (m : UnitAnswer) (rows : List ℕ) (t : Made p G H n c m rows) where
   abbrev b : Body
   b = unitBody p G H m c rows
@@ -263,7 +244,7 @@ module _ {p n : ℕ} {G H : List ℕ} (c : ℕ) (m : UnitAnswer) (rows : List �
 
   unit-attested : judged.Attested b
   unit-attested pr =
-      let A = over (t .field) pr in
+      let A = with-prime (t .field) pr in
       let ρ = reading p pr in
       let E = six A c 0 rows in
       let (k, hk, lead) = t .sizes A .constant in (
