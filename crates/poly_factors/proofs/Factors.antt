@@ -1,4 +1,4 @@
--- Euclid's loop, and what the trimmed length of a greatest common divisor says: 1, a unit; 2 or more, a common factor; 0, both are 0.
+-- Euclid's turns, and what the trimmed length of a greatest common divisor says: 1, a unit; 2 or more, a common factor; 0, both are 0.
 use mathlib.Core.Path.{_≡_, refl, sym, ap, _∙_, subst}
 use mathlib.Core.Logic.{_≢_}
 use mathlib.Core.Bool.{true, false}
@@ -18,7 +18,7 @@ use Rattle.num_mod.specs.Prepared.{Prepared, PreparedOf}
 use Rattle.num_mod.specs.declared.Modulus.{Modulus}
 use Rattle.math_rows.specs.Made.{reading, derivation}
 use Rattle.math_rows.specs.Row.{tab, Row, Size, row}
-use Rattle.math_rows.proofs.Tab.{Begun, begun-end, tab-row}
+use Rattle.math_rows.proofs.Tab.{Begun, begun-start, begun-end, tab-row}
 use Rattle.math_rows.proofs.Rows.{size-le, size-has, size-lead-at}
 use Rattle.math_rows.proofs.Turn.{comb-drop}
 use Rattle.math_rows.proofs.Floors.{zero-row, top-not, sized}
@@ -29,18 +29,60 @@ use Rattle.poly_rows.specs.Leaf.{Cut, Given}
 use Rattle.poly_cross.specs.Cross.{CrossInAsks, Crossed}
 use Rattle.poly_rows.specs.Polynomial.{polynomial}
 use Rattle.poly_factors.specs.Factors.{Derived, GcdAsks, Common, SquareTest, CoprimeTest}
+use Rattle.poly_factors.specs.Euclid.{DeriveAsks, LoweredAsks, Lowered, kept, Found}
+use Rattle.poly_factors.specs.declared.Divisor.{Divisor}
 use Rattle.poly_cross.proofs.Cross.{cross-by}
 
 -- ---- the derivative
-pub derived : (p : ℕ) (x : List ℕ) (n i : ℕ) (r : List ℕ) → Given p x → Size x n → n ≤ i + 1 → Begun 32 (λ j. ((j + 1) * getD x (j + 1) 0) % p) r i → Derived p x r
+abbrev pub coefficient : ℕ → List ℕ → ℕ → ℕ
+coefficient p x j = ((j + 1) * getD x (j + 1) 0) % p
+
+pub derive-start : {p : ℕ} {x d : List ℕ} → DeriveAsks p x d → Begun 32 (coefficient p x) d 0
+derive-start {p} {x} h = subst (λ r. Begun 32 (coefficient p x) r 0) (sym (h .blank)) (begun-start 32 (coefficient p x))
+
+pub derived : (p : ℕ) (x : List ℕ) (n i : ℕ) (r : List ℕ) → Given p x → Size x n → n ≤ i + 1 → Begun 32 (coefficient p x) r i → Derived p x r
 derived p x n i r h s l b =
     let g : 1 < p = h .modulus .big in
-    let e : r ≡ tab 32 (λ j. ((j + 1) * getD x (j + 1) 0) % p) = begun-end 32 _ r i b (λ j u v. ap (λ a. ((j + 1) * a) % p) (s .above (j + 1) (omega arith)) ∙ ap (λ a. a % p) (mul-zero (j + 1)) ∙ zero-mod p) in record {
+    let e : r ≡ tab 32 (coefficient p x) = begun-end 32 _ r i b (λ j u v. ap (λ a. ((j + 1) * a) % p) (s .above (j + 1) (omega arith)) ∙ ap (λ a. a % p) (mul-zero (j + 1)) ∙ zero-mod p) in record {
       is-row = subst (λ u. Row p u) (sym e) (tab-row p _ (omega arith) (λ j. mod-lt ((j + 1) * getD x (j + 1) 0) (omega arith)));
       law = λ pr. ap (row (reading p pr)) e ∙ derivative-law (reading p pr) (derivation p pr) x (h .hx .size);
     }
 
--- ---- Euclid
+-- ---- one turn of Euclid
+module _ {q : Modulus} {x : List ℕ} {n : ℕ} {y : List ℕ} {m : ℕ} (h : LoweredAsks q x n y m) where
+  room : m + (n - m) ≤ n × n ≤ 32
+  room =
+      let f : n ≤ length x = h .sx .fits in
+      let g : length x ≡ 32 = h .rows .hx .size in
+      let l : m ≤ n = h .over in
+      (omega arith, omega arith)
+
+  pub lowered-asks : CrossInAsks q (getD y (m - 1) 0) x (getD x (n - 1) 0) (n - m) y n
+  lowered-asks =
+      let i = h .rows in
+      let l : getD x (n - 1) 0 < q .p = i .hx .each (n - 1) in
+      cross-by n (i .modulus) (i .prime) (i .hy .each (m - 1)) (omega arith) (i .hx) (i .hy) (h .sx) (h .sy) (omega arith) (room .0) (room .1)
+
+  module _ {r : List ℕ} (o : Crossed (q .p) (getD y (m - 1) 0) x (getD x (n - 1) 0) (n - m) y r) where
+    -- the leading terms cancel
+    less : (k : ℕ) → Size r k → k < n
+    less k s =
+        let R = reading (q .p) (h .rows .prime) in
+        let u : 0 < m = h .some in
+        let v : m ≤ n = h .over in
+        let l : k ≤ n - 1 = size-le R (n - 1) (o .is-row) s (lt-eq (R .𝓥) (comb-drop R (n - m) (size-lead-at R n (h .sx) (omega arith)) (size-lead-at R m (h .sy) u) (omega arith)) (sym (o .law (h .rows .prime)))) in
+        omega arith
+
+    pub lowered-cut : Cut r (n - 1)
+    lowered-cut =
+        let (k, s) = sized r in
+        let l : k < n = less k s in
+        record { size = o .is-row .size; fits = omega (arith, room .1); above = λ j u. s .above j (omega arith) }
+
+    pub lowered-made : {k : ℕ} → Size r k → Lowered (q .p) x n y m r k
+    lowered-made {k} s = record { crossed = o; size = s; less = less k s }
+
+-- ---- Euclid: a and b as they were lent, x and y as they stand
 pub record Euclid (p : ℕ) (a b x y : List ℕ) (n m : ℕ) : Type 0 where
   pub hx : Row p x
   pub hy : Row p y
@@ -48,58 +90,37 @@ pub record Euclid (p : ℕ) (a b x y : List ℕ) (n m : ℕ) : Type 0 where
   pub sy : Size y m
   pub each : (pr : Prime p) → let ρ = reading p pr in Span ρ (row ρ a) (row ρ b) (row ρ x) (row ρ y)
 
-pub euclid-start : (p : ℕ) (a b : List ℕ) (n m : ℕ) → Row p a → Row p b → Size a n → Size b m → Euclid p a b a b n m
-euclid-start p a b n m h k s u = record { hx = h; hy = k; sx = s; sy = u; each = λ pr. span-start (reading p pr) (row (reading p pr) a) (row (reading p pr) b) }
+pub euclid-start : {q : Modulus} {a b : List ℕ} {n m : ℕ} → GcdAsks q a b → Size a n → Size b m → Euclid (q .p) a b a b n m
+euclid-start {q} {a} {b} h s u = record { hx = h .hx; hy = h .hy; sx = s; sy = u; each = λ pr. let ρ = reading (q .p) pr in span-start ρ (row ρ a) (row ρ b) }
 
+-- the two rows change places
 pub euclid-swap : {p : ℕ} {a b x y : List ℕ} {n m : ℕ} → Euclid p a b x y n m → Euclid p a b y x m n
 euclid-swap {p} i = record { hx = i .hy; hy = i .hx; sx = i .sy; sy = i .sx; each = λ pr. span-swap (reading p pr) (i .each pr) }
 
-module _ {p : ℕ} {a b x y : List ℕ} {n m : ℕ} (i : Euclid p a b x y n m) (pos : 0 < m) (le : m ≤ n) where
-  room : m + (n - m) ≤ n × n ≤ 32
-  room = let f : n ≤ length x = i .sx .fits in let g : length x ≡ 32 = i .hx .size in (omega arith, omega arith)
+pub euclid-asks : {q : Modulus} {a b x y : List ℕ} {n m : ℕ} → Euclid (q .p) a b x y n m → Prepared q → Prime (q .p) → 0 < m → m ≤ n → LoweredAsks q x n y m
+euclid-asks i h pr pos le = record { rows = record { modulus = h; prime = pr; hx = i .hx; hy = i .hy }; sx = i .sx; sy = i .sy; some = pos; over = le }
 
-  module _ (t : List ℕ) (o : Crossed p (getD y (m - 1) 0) x (getD x (n - 1) 0) (n - m) y t) (k : ℕ) (st : Size t k) where
-    pub euclid-less : Prime p → k < n
-    euclid-less pr =
-        let R = reading p pr in
-        let l : k ≤ n - 1 = size-le R (n - 1) (o .is-row) st (lt-eq (R .𝓥) (comb-drop R (n - m) (size-lead-at R n (i .sx) (omega arith)) (size-lead-at R m (i .sy) pos) (omega arith)) (sym (o .law pr))) in
-        omega arith
+pub euclid-turn : {p : ℕ} {a b x y r : List ℕ} {n m k : ℕ} → Euclid p a b x y n m → 0 < m → Lowered p x n y m r k → Euclid p a b r y k m
+euclid-turn {p} {x = x} {y = y} {n = n} {m = m} i pos o = record {
+  hx = o .crossed .is-row;
+  hy = i .hy;
+  sx = o .size;
+  sy = i .sy;
+  each = λ pr. let R = reading p pr in span-turn R (R .cast (getD y (m - 1) 0)) (R .cast (getD x (n - 1) 0)) (n - m) (top-not R m (i .hy) (i .sy) pos) (i .each pr) (o .crossed .law pr);
+}
 
-    pub euclid-turn : Euclid p a b t y k m
-    euclid-turn = record {
-      hx = o .is-row;
-      hy = i .hy;
-      sx = st;
-      sy = i .sy;
-      each = λ pr. let R = reading p pr in span-turn R (R .cast (getD y (m - 1) 0)) (R .cast (getD x (n - 1) 0)) (n - m) (top-not R m (i .hy) (i .sy) pos) (i .each pr) (o .law pr);
-    }
-
-  -- the leading terms cancel
-  pub euclid-cut : {t : List ℕ} → Crossed p (getD y (m - 1) 0) x (getD x (n - 1) 0) (n - m) y t → Prime p → Cut t (n - 1)
-  euclid-cut {t} o pr =
-      let (k, s) = sized t in
-      let l : k < n = euclid-less t o k s pr in
-      record { size = o .is-row .size; fits = omega (arith, room .1); above = λ j u. s .above j (omega arith) }
-
-pub euclid-room : {q : Modulus} {a b x y : List ℕ} {n m : ℕ} → Euclid (q .p) a b x y n m → 0 < m → m ≤ n → Prepared q → Prime (q .p) → CrossInAsks q (getD y (m - 1) 0) x (getD x (n - 1) 0) (n - m) y n
-euclid-room {q} {x = x} {n = n} {m = m} i pos le h pr =
-    let r = room i pos le in
-    let l : getD x (n - 1) 0 < q .p = i .hx .each (n - 1) in
-    cross-by n h pr (i .hy .each (m - 1)) (omega arith) (i .hx) (i .hy) (i .sx) (i .sy) (omega arith) (r .0) (r .1)
-
-pub euclid-end : (p : ℕ) (a b x y : List ℕ) (n m : ℕ) → Euclid p a b x y n m → m ≤ 0 → Common p a b x
-euclid-end p a b x y n m i z = record {
+euclid-end : {p : ℕ} {a b x y : List ℕ} {n m : ℕ} → Euclid p a b x y n m → m ≤ 0 → Common p a b x
+euclid-end {p} {a} {b} {x} {y} {m = m} i z = record {
   is-row = i .hx;
   law = λ pr. let R = reading p pr in
       span-gcd R (polynomial p pr a) (polynomial p pr b) (polynomial p pr x) (row R y) (i .each pr) (zero-row R y (subst (λ j. Size y j) (let e : m ≡ 0 = omega arith in e) (i .sy)));
 }
 
--- a row is its greatest common divisor with 0
-pub common-self : (p : ℕ) (x d : List ℕ) (m : ℕ) → Row p x → Size d m → m ≡ 0 → Common p x d x
-common-self p x d m h s e = record {
-  is-row = h;
-  law = λ pr. let R = reading p pr in span-gcd R (polynomial p pr x) (polynomial p pr d) (polynomial p pr x) (row R d) (span-start R (row R x) (row R d)) (zero-row R d (subst (λ j. Size d j) e s));
-}
+pub found-first : {p : ℕ} {a b x y : List ℕ} {n m : ℕ} → Euclid p a b x y n m → m ≤ 0 → Found p a b x y (record { second = false; terms = n })
+found-first i z = record { common = euclid-end i z; size = i .sx }
+
+pub found-second : {p : ℕ} {a b x y : List ℕ} {n m : ℕ} → Euclid p a b x y n m → n ≤ 0 → Found p a b x y (record { second = true; terms = m })
+found-second i z = record { common = euclid-end (euclid-swap i) z; size = i .sy }
 
 -- where q is prepared of p
 pub common-in : {p : ℕ} {q : Modulus} {x y : List ℕ} → PreparedOf p q → Prime p → Row p x → Row p y → GcdAsks q x y
@@ -110,8 +131,16 @@ common-in {x = x} {y = y} e pr hx hy = record {
   hy = subst (λ k. Row k y) (sym (e .is)) hy;
 }
 
-pub common-of : {p : ℕ} {q : Modulus} {x y r : List ℕ} → PreparedOf p q → Common (q .p) x y r → Common p x y r
-common-of {x = x} {y = y} {r = r} e h = subst (λ k. Common k x y r) (e .is) h
+pub found-of : {p : ℕ} {q : Modulus} {a b x y : List ℕ} {d : Divisor} → PreparedOf p q → Found (q .p) a b x y d → Found p a b x y d
+found-of {a = a} {b = b} {x = x} {y = y} {d = d} e h = subst (λ k. Found k a b x y d) (e .is) h
+
+-- the divisor by the flag
+module _ {p : ℕ} {a b x y : List ℕ} {d : Divisor} (h : Found p a b x y d) where
+  pub in-second : d .second ≡ true → Common p a b y
+  in-second e = subst (λ s. Common p a b (kept s x y)) e (h .common)
+
+  pub in-first : d .second ≡ false → Common p a b x
+  in-first e = subst (λ s. Common p a b (kept s x y)) e (h .common)
 
 -- ---- the tests
 module _ (p : ℕ) (pr : Prime p) (g : List ℕ) (hg : Row p g) where
