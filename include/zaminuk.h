@@ -12,7 +12,8 @@
    body that zaminuk_book_add adds may not lie in the slice of the book, also not behind the book. Inputs may be the same or overlap. With
    length 0 a pointer is not followed and may be NULL; a pointer that has no length is never NULL. Nothing else is asked of the caller.
    Stack. No call allocates. What it needs of the stack, by the frames in the machine code of this version: zaminuk_book_attest 176 KiB;
-   zaminuk_book_write_rows 100 KiB; zaminuk_book_check, .._ask, .._add and zaminuk_body_.. 34 KiB; zaminuk_unit 18 KiB; all others 14 KiB.
+   zaminuk_book_write_rows 100 KiB; zaminuk_book_check, .._ask, .._add and zaminuk_body_.. 34 KiB; zaminuk_unit 18 KiB;
+   zaminuk_refusal 2 KiB; all others 14 KiB.
    Threads. Nothing is kept between calls and nothing is shared, so calls may run at the same time as long as none writes what another has.
    Platform. The library is x86-64 code for Linux (System V calling convention), and needs only memcpy and memset of the C library.
 

@@ -1,4 +1,4 @@
-// Measures what a customer waits for: steps of the walk, the unit, series, a full book. Baselines are walkers of the same job that
+// Measures what a customer waits for: steps of the walk, an opening, the unit, series, a full book. Baselines are walkers of the same job that
 // take p, G, H and a budget and print "N steps/s"; each is run beside ours, in one run.
 use crate::api::{self, Field};
 use crate::plain::Numbers;
@@ -77,6 +77,13 @@ fn walks(others: &[String]) {
     }
 }
 
+/// Opening a field: the tests for a square and a shared factor are most of it.
+fn openings() {
+    let x = Field { p: 65519, g: list(FIELDS[8].1), h: list(FIELDS[8].2) };
+    let (t, n) = least(|| (0..100_000).map(|_| x.refusal()).max());
+    println!("100,000 openings of degrees 8 and 8: {:.1} ms (refusal {})", 1000.0 * t, n.unwrap_or(0));
+}
+
 fn series() {
     let x = Field { p: 65519, g: list(FIELDS[8].1), h: list(FIELDS[8].2) };
     let (mut r, mut w) = (vec![0; 4096], vec![0; 4096]);
@@ -130,6 +137,7 @@ fn books() {
 
 pub fn all(others: &[String]) {
     walks(others);
+    openings();
     units();
     series();
     books();

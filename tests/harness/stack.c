@@ -39,11 +39,13 @@ static uint64_t said[ZAMINUK_SAID], list[64], number, other;
 static uint8_t book[4096], body[512];
 
 int main(void) {
+    static const uint64_t g8[] = {58115, 44382, 38112, 29353, 59437, 36205, 42366, 2060, 1};
+    static const uint64_t h8[] = {44639, 59791, 18589, 12270, 25091, 42666, 58812, 32478, 1};
     static const uint64_t g[] = {1, 3, 0, 2, 5, 1, 7, 1}, h[] = {2, 1}, a[] = {0, 1, 0, 1}, one[] = {1}, c[] = {0, 2, 0, 2};
     zaminuk_period period;
     zaminuk_regulator regulator;
     size_t n, start, size, length;
-    MEASURE("zaminuk_refusal", 14, zaminuk_refusal(83, g, 8, h, 2));
+    MEASURE("zaminuk_refusal", 2, zaminuk_refusal(65519, g8, 9, h8, 9));
     MEASURE("zaminuk_series", 14, zaminuk_series(83, g, 8, h, 2, r, 64, w, 64));
     MEASURE("zaminuk_order", 14, zaminuk_order(83, g, 8, h, 2, basis));
     MEASURE("zaminuk_check", 14, zaminuk_check(83, g, 8, h, 2, basis));
