@@ -49,7 +49,9 @@ step-tells-unique {a = a} {n = n} {b′ = b′} t u =
     )
 
 pub walk-tells-unique : {p k : ℕ} {G H a : List ℕ} {n n′ s s′ d d′ : ℕ} {b b′ : List ℕ} → WalkTells p G H k a n s d b → WalkTells p G H k a n′ s′ d′ b′ → (n ≡ n′) × (s ≡ s′) × (d ≡ d′) × (b ≡ b′)
-walk-tells-unique t u = puts-unique (walks-unique _ _ _ _ _ (t .o) (u .o) (t .walks) (u .walks)) (t .puts) (u .puts)
+walk-tells-unique t u =
+    let e : t .o ≡ u .o = walks-unique _ _ _ _ _ (t .o) (u .o) (t .walks) (u .walks) in
+    puts-unique (ap (λ o. o .refusal) e) (ap (λ o. o .steps) e) (ap (λ o. o .sum) e) (ap (λ o. o .basis) e) (t .puts) (u .puts)
 
 pub from-order-tells-unique : {p : ℕ} {G H : List ℕ} {k n n′ l l′ r r′ : ℕ} → FromOrderTells p G H k n l r → FromOrderTells p G H k n′ l′ r′ → (n ≡ n′) × (l ≡ l′) × (r ≡ r′)
 from-order-tells-unique t u =

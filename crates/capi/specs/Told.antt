@@ -47,7 +47,7 @@ pub record StepTells (p : ℕ) (G H before : List ℕ) (n degree : ℕ) (after :
 pub record WalkTells (p : ℕ) (G H : List ℕ) (budget : ℕ) (before : List ℕ) (n steps sum : ℕ) (after : List ℕ) : Type 0 where
   pub o : WalkAnswer
   pub walks : Walks p G H budget before o
-  pub puts : Puts o before n steps sum after
+  pub puts : Puts (o .refusal) (o .steps) (o .sum) (o .basis) before n steps sum after
 
 pub record FromOrderTells (p : ℕ) (G H : List ℕ) (budget n period regulator : ℕ) : Type 0 where
   pub o : PeriodAnswer

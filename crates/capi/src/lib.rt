@@ -91,7 +91,11 @@ pub extern "C" fn zaminuk_walk(
 {
     let from = *rows;
     let o = door_walk::walk(p, g, h, from, budget);
-    capi_walk::put(o, rows, steps, sum)
+    let n = o.refusal;
+    let l = o.steps;
+    let d = o.sum;
+    let b = o.basis;
+    capi_walk::put(n, l, d, b, rows, steps, sum)
 }
 
 // The walk of at most `budget` steps from the order: its refusal; period and regulator, 0 beside a refusal.

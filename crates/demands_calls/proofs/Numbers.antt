@@ -49,7 +49,8 @@ use Rattle.text_read.proofs.Writings.{reads-below}
 use Rattle.text_read.specs.declared.Parsed.the-variants.{Read, Malformed}
 use Rattle.base_lists.specs.Pieces.{cut}
 use Rattle.base_lists.specs.Coefficients.{trim}
-use Rattle.lister_print.specs.Text.{rows-text, unit-text, made-text}
+use Rattle.lister_rows.specs.Text.{rows-text}
+use Rattle.lister_print.specs.Text.{unit-text, made-text}
 use Rattle.lister_print.proofs.Prints.{made-unit, made-refused}
 use Rattle.lister.specs.Listing as listing
 use Rattle.demands_calls.specs.Numbers.{Numbered, Says, refuses, answers, Gives}

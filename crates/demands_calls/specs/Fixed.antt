@@ -42,7 +42,7 @@ use Rattle.text_cut.specs.Feed.{Output}
 use Rattle.text_cut.specs.declared.Step.{Step}
 use Rattle.text_read.specs.Tells.{ParseTells}
 use Rattle.text_read.specs.declared.Parsed.{Parsed}
-use Rattle.lister_print.specs.Text.{Ends}
+use Rattle.text_end.specs.Ends.{Ends}
 use Rattle.lister.specs.Listing as lister
 use Rattle.lister.specs.declared.Going.{Going}
 use Rattle.demands_calls.specs.Numbers.{Numbered, parseSays, Gives}

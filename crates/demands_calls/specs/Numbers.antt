@@ -13,7 +13,7 @@
 --   door_walk::walk                         0 to 10, 14         book_add::add                       0, 11, 13, 14, 15
 --   door_walk::from_order                   0 to 8, 10, 14      text_read::parse                    0, 12
 --   door_unit::unit                         0 to 8, 10, 11, 14  lister::answer                      0 to 8, 10, 11, 12
---   door_compare::refusal, compare          0 to 8              lister_print::finish                0, 12
+--   door_compare::refusal, compare          0 to 8              text_end::finish                    0, 12
 --   door_transfer::transfer                 0 to 8, 14          book_begin::begin                   0, 11
 --   book_parts::prime, period               0, 13               book_parts::list                    0, 11, 13, 14
 --   book_rows::write_rows                   0 to 8, 11, 13, 14

@@ -73,7 +73,9 @@
 --   text_cut       next_line: cut-unique (text_cut/proofs/Steps)
 --   text_number    number, list_size: number-unique, size-unique (text_number/proofs/Answers)
 --   text_read      parse: parse-unique (text_read/proofs/Answers)
---   lister_print   put_made, finish: placed-unique (base_lists/proofs/Puts)
+--   text_end       finish: placed-unique (base_lists/proofs/Puts)
+--   lister_rows    put_rows: placed-unique (base_lists/proofs/Puts)
+--   lister_print   put_made: placed-unique (base_lists/proofs/Puts)
 --   lister         answer, pass: answer-unique, passes-unique (lister/proofs/Once)
 --   capi_walk      put: puts-unique (capi_walk/proofs/Once)
 --   capi           zaminuk_refusal, zaminuk_series, zaminuk_check, zaminuk_transfer: refusal-unique, answer-unique, checks-unique,

@@ -19,7 +19,8 @@ use Rattle.base_lists.specs.Pieces.{cut}
 use Rattle.door_unit.specs.declared.UnitAnswer.{UnitAnswer}
 use Rattle.door_unit.specs.Unit.{Makes, Goes, bad, spent, narrow, made}
 use Rattle.base_lists.specs.Coefficients.{trim}
-use Rattle.lister_print.specs.Text.{rows-text, unit-text, made-text}
+use Rattle.lister_rows.specs.Text.{rows-text}
+use Rattle.lister_print.specs.Text.{unit-text, made-text}
 use Rattle.lister.specs.Listing.{budget, blank, room, Lists, malformed, read}
 use Rattle.base_lists.proofs.Trims.{trim-size}
 use Rattle.lister_print.proofs.Prints.{made-unit, made-refused}

@@ -22,7 +22,7 @@ use Rattle.base_lists.specs.Pieces.{between}
 use Rattle.text_cut.specs.Lines.{Line, lines-of}
 use Rattle.text_cut.specs.Feed.{at-end, Answered, Output}
 use Rattle.libc.specs.Io.{Moved}
-use Rattle.lister_print.specs.Text.{Ends}
+use Rattle.text_end.specs.Ends.{Ends}
 use Rattle.lister.specs.Listing.{room, Lists, Passes}
 use Rattle.lister.specs.declared.Going.{Going}
 use Rattle.units.specs.declared.Stand.{Stand}

@@ -115,7 +115,7 @@ fn heard(buf: &[u8], out: &mut [u8], s: Stand, got: isize) -> Stand
 {
     let pending = s.n;
     if got == 0 {
-        let to = lister_print::finish(out, pending);
+        let to = text_end::finish(out, pending);
         return Stand {
             n: 0,
             at: 0,

@@ -1,8 +1,8 @@
--- `lister_print::put_rows` meets its contract.
-use Rattle.lister_print.proofs.Prints.{rows-put}
+-- `lister_rows::put_rows` meets its contract.
+use Rattle.lister_rows.proofs.Parts.{rows-put}
 use borrow.Author.Needs.{needs}
-use Rattle.lister_print.proofs.put_rows.Statement.{statement}
-use Rattle.lister_print.proofs.put_rows.Tie as tie
+use Rattle.lister_rows.proofs.put_rows.Statement.{statement}
+use Rattle.lister_rows.proofs.put_rows.Tie as tie
 
 sub-put-row : tie.Need-sub-put-row
 sub-put-row c = search needs

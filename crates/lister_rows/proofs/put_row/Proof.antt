@@ -1,8 +1,8 @@
--- `lister_print::put_row` meets its contract.
-use Rattle.lister_print.proofs.Prints.{row-put}
+-- `lister_rows::put_row` meets its contract.
+use Rattle.lister_rows.proofs.Parts.{row-put}
 use borrow.Author.Needs.{needs}
-use Rattle.lister_print.proofs.put_row.Statement.{statement}
-use Rattle.lister_print.proofs.put_row.Tie as tie
+use Rattle.lister_rows.proofs.put_row.Statement.{statement}
+use Rattle.lister_rows.proofs.put_row.Tie as tie
 
 size-requires : tie.Need-size-requires
 size-requires c κs = search needs

@@ -1,8 +1,8 @@
--- `lister_print::finish` meets its contract.
-use Rattle.lister_print.proofs.Prints.{end-none, end-some}
+-- `text_end::finish` meets its contract.
+use Rattle.text_end.proofs.Ending.{end-none, end-some}
 use borrow.Author.Needs.{needs}
-use Rattle.lister_print.proofs.finish.Statement.{statement}
-use Rattle.lister_print.proofs.finish.Tie as tie
+use Rattle.text_end.proofs.finish.Statement.{statement}
+use Rattle.text_end.proofs.finish.Tie as tie
 
 returns : tie.Need-returns
 returns c = end-none (c .before .before .args .out .now) (c .before .before .args .n) (c .if1 .taken)
