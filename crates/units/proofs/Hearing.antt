@@ -21,9 +21,10 @@ use Rattle.lister.specs.declared.Going.{Going}
 use Rattle.lister.specs.Listing.{room, Lists, Passes}
 use Rattle.lister.proofs.Short.{refused-short}
 use Rattle.lister.proofs.Paces.{Pace, passes-pace}
-use Rattle.units.specs.declared.Stand.{Stand}
-use Rattle.units.specs.Serve.{Call, write, read, moved, took, brought, Settles, Wrote, Answers, Came, Ended, Heard, Stopped, Turn, writes, answers, reads, stops}
+use Rattle.lister_turn.specs.declared.Stand.{Stand}
+use Rattle.units.specs.Serve.{Call, write, read, moved, took, brought, Settles, Wrote, Answers, Came, Heard, Turn, writes, answers, reads, stops}
 use Rattle.units.specs.Serve.{Asks, Run, begin, more, Begun, Ending, Ran}
+use Rattle.lister_turn.specs.Turn.{at-stop}
 use Rattle.units.proofs.Turning.{moved-within}
 
 -- ---- the part of the answers that is not written yet
@@ -87,7 +88,7 @@ turn-asks {d = d} {d' = d'} {r = r} (answers p x) a =
     let e = x .m in
     record { piece = omega arith; answers = omega arith; large = omega arith }
 turn-asks (reads got p l m x) a = heard-asks got l m x a
-turn-asks (stops p x) a = asks-same (x .m) (x .to) a
+turn-asks (stops p x) a = asks-same (ap (λ z. z .m) x) (ap (λ z. z .to) x) a
 
 pub run-asks : {cs : List Call} {k b d : List ℕ} {s : Stand} → Run cs k b d s → Asks b d s
 run-asks (begin k b d e h) = record { piece = omega arith; answers = omega arith; large = h }
@@ -245,14 +246,14 @@ heard-stands {cs} {k} {b} {d} {s} (negsuc g) {r} {b'} {d'} l i e x a y =
     (after-read cs k b d s (negsuc g) b' (r .phase) l i e (x .phase) y))
 
 stopped-stands : {cs : List Call} {k b d : List ℕ} {s r : Stand} → s .phase < 2 → s .to ≤ s .from → s .m ≤ s .at → (s .phase ≡ 0 → ⊥)
-    → Stopped s r → Stands cs k b d s → Stands cs k b d r
+    → r ≡ at-stop s → Stands cs k b d s → Stands cs k b d r
 stopped-stands {s = s} h l i e x (inl y) = absurd (go (y .phase))
   where
     go : (s .phase ≡ 0) ⊎ (s .phase ≡ 3) → ⊥
     go (inl a) = e a
     go (inr a) = omega arith
 stopped-stands {cs} {k} {b} {d} {s} h l i e x (inr y) =
-    subst (Stands cs k b d) (sym (stand-same (x .n) (x .at) (x .m) (x .from) (x .to) (x .phase)))
+    subst (Stands cs k b d) (sym x)
     (inr (record { phase = λ z. omega arith; idle = i; done = λ z. l; output = y .output }))
 
 turn-stands : {cs : List Call} {k b d k' b' d' : List ℕ} {s r : Stand} {c : List Call} → s .phase < 2 → Turn k b d s r c k' b' d'

@@ -2,7 +2,7 @@
 --   moved-clamped, moved-within    the bytes that a call moved, as `io::count` counts them
 --   settle-again, settle-fails     the phase after a call
 --   zero-of-bits, bits-of-zero     a signed number and its bits
---   heard-came, heard-ended        what `heard` gives, by the answer of the read
+--   came-piece, heard-came, heard-ended   what `heard` gives, by the answer of the read
 --   part-starts, part-ends, wrote-asks, moved-as   what the calls in `turn` ask
 --   turn-writes, turn-answers, turn-reads, turn-stops   a turn, from its arm
 use mathlib.Core.Path.{_≡_, refl, sym, ap, subst, _∙_}
@@ -19,10 +19,11 @@ use Rattle.io.specs.Counts.{clamped}
 use Rattle.base_lists.specs.Pieces.{between}
 use Rattle.base_lists.proofs.Pieces.{between-length}
 use Rattle.libc.specs.Io.{Moved}
-use Rattle.units.specs.declared.Stand.{Stand}
-use Rattle.units.specs.declared.Act.{Act}
-use Rattle.units.specs.declared.Act.the-variants.{Write, Answer, Read, Stop}
-use Rattle.units.specs.Serve.{Plans, moved, Settles, Wrote, Answers, Came, Ended, Heard, Stopped, writes, answers, reads, stops, Turns}
+use Rattle.lister_turn.specs.declared.Stand.{Stand}
+use Rattle.lister_turn.specs.declared.Act.{Act}
+use Rattle.lister_turn.specs.declared.Act.the-variants.{Write, Answer, Read, Stop}
+use Rattle.units.specs.Serve.{moved, Settles, Wrote, Answers, Came, Heard, writes, answers, reads, stops, Turns}
+use Rattle.lister_turn.specs.Turn.{Plans, Ended, with-piece, at-stop}
 
 pub moved-clamped : (n : ℕ) (z : ℤ) → Moved n z → clamped z n ≡ moved z
 moved-clamped n (pos k) h = omega arith
@@ -46,6 +47,17 @@ zero-of-bits h e = sym (toZ-ofZ {w = w64} h) ∙ ap (toZ w64) e
 
 pub bits-of-zero : {z : ℤ} → z ≡ pos 0 → ofZ w64 z ≡ 0
 bits-of-zero e = ap (ofZ w64) e
+
+pub came-piece : {d : List ℕ} {s r : Stand} {got : ℤ} {m p : ℕ} → r ≡ with-piece s m p → m ≡ moved got → Settles m (s .phase) p → Came d s got r d
+came-piece {s = s} {got = got} {p = p} x e h = record {
+  n = ap (λ z. z .n) x;
+  at = ap (λ z. z .at) x;
+  m = ap (λ z. z .m) x ∙ e;
+  from = ap (λ z. z .from) x;
+  to = ap (λ z. z .to) x;
+  phase = subst (Settles (moved got) (s .phase)) (sym (ap (λ z. z .phase) x)) (subst (λ z. Settles z (s .phase) p) e h);
+  same = refl;
+}
 
 pub heard-came : {d : List ℕ} {s r : Stand} {d' : List ℕ} (got : ℤ) → (got ≡ pos 0 → ⊥) → Came d s got r d' → Heard d s got r d'
 heard-came (pos zero) h x = absurd (h refl)
@@ -97,5 +109,5 @@ module _ (s : Stand) where
         let (y, u, v, w) = planned e x in
         record { calls = _; turn = reads z (refl, u, v, w) l m (subst (λ o. Heard d s o r d') (toZ-ofZ {w = w64} i) h) }
 
-    pub turn-stops : {a : Act} {r : Stand} → a ≡ Stop → Plans s a → Stopped s r → Turns k b d s r k b d
+    pub turn-stops : {a : Act} {r : Stand} → a ≡ Stop → Plans s a → r ≡ at-stop s → Turns k b d s r k b d
     turn-stops e x y = record { calls = _; turn = stops (planned e x) y }

@@ -1,5 +1,4 @@
 -- What the program does, turn by turn, whatever its calls of the system answer.
---   Plans s a              what comes next where the program stands at s: with its descriptor, and with the part of the answers
 --   Call, took, brought    write(1, bytes) or read(0, ..) with its answer; the bytes that were taken, or that came
 --   Settles w p q          the phase after a call that moved w bytes; 3, a failure, only where w is 0
 --   Wrote, Answers, Heard  what is next after a write, after lines of a piece were answered, after a read
@@ -22,19 +21,12 @@ use Rattle.base_lists.specs.Pieces.{between}
 use Rattle.text_cut.specs.Lines.{Line, lines-of}
 use Rattle.text_cut.specs.Feed.{at-end, Answered, Output}
 use Rattle.libc.specs.Io.{Moved}
-use Rattle.text_end.specs.Ends.{Ends}
 use Rattle.lister.specs.Listing.{room, Lists, Passes}
 use Rattle.lister.specs.declared.Going.{Going}
-use Rattle.units.specs.declared.Stand.{Stand}
-use Rattle.units.specs.declared.Act.{Act}
-use Rattle.units.specs.declared.Act.the-variants.{Write, Answer, Read, Stop}
-
--- standard output is descriptor 1, standard input 0
-abbrev pub Plans : Stand → Act → Type 0
-Plans s (Write fd f t) = (fd ≡ pos 1) × (f ≡ s .from) × (t ≡ s .to) × (s .from < s .to)
-Plans s Answer = (s .to ≤ s .from) × (s .at < s .m)
-Plans s (Read fd) = (fd ≡ pos 0) × (s .to ≤ s .from) × (s .m ≤ s .at) × (s .phase ≡ 0)
-Plans s Stop = (s .to ≤ s .from) × (s .m ≤ s .at) × (s .phase ≡ 0 → ⊥)
+use Rattle.lister_turn.specs.declared.Stand.{Stand}
+use Rattle.lister_turn.specs.declared.Act.{Act}
+use Rattle.lister_turn.specs.declared.Act.the-variants.{Write, Answer, Read, Stop}
+use Rattle.lister_turn.specs.Turn.{Plans, Ended, at-stop}
 
 -- a call with its answer; of a read, with what the slice held then
 pub data Call : Type 0 where
@@ -85,27 +77,10 @@ pub record Came (d : List ℕ) (s : Stand) (got : ℤ) (r : Stand) (d' : List �
   pub phase : Settles (moved got) (s .phase) (r .phase)
   pub same : d' ≡ d
 
--- the input's end: what it leaves pending is answered
-pub record Ended (d : List ℕ) (s r : Stand) (d' : List ℕ) : Type 0 where
-  pub ends : Ends d (s .n) (r .to) d'
-  pub n : r .n ≡ 0
-  pub at : r .at ≡ 0
-  pub m : r .m ≡ 0
-  pub from : r .from ≡ 0
-  pub phase : r .phase ≡ 1
-
 abbrev pub Heard : List ℕ → Stand → ℤ → Stand → List ℕ → Type 0
 Heard d s (pos zero) r d' = Ended d s r d'
 Heard d s (pos (suc g)) r d' = Came d s (pos (suc g)) r d'
 Heard d s (negsuc g) r d' = Came d s (negsuc g) r d'
-
-pub record Stopped (s r : Stand) : Type 0 where
-  pub n : r .n ≡ s .n
-  pub at : r .at ≡ s .at
-  pub m : r .m ≡ s .m
-  pub from : r .from ≡ s .from
-  pub to : r .to ≡ s .to
-  pub phase : r .phase ≡ 2
 
 pub data Turn (k b d : List ℕ) (s r : Stand) : List Call → List ℕ → List ℕ → List ℕ → Type 0 where
   writes : (got : ℤ) → Plans s (Write (pos 1) (s .from) (s .to)) → Moved (length (between (s .from) (s .to) d)) got → Wrote s got r
@@ -113,7 +88,7 @@ pub data Turn (k b d : List ℕ) (s r : Stand) : List Call → List ℕ → List
   answers : {k' d' : List ℕ} → Plans s Answer → Answers k b d s r k' d' → Turn k b d s r [] k' b d'
   reads : {b' d' : List ℕ} (got : ℤ) → Plans s (Read (pos 0)) → length b' ≡ length b → Moved (length b) got
       → Heard d s got r d' → Turn k b d s r (read got b' ∷ []) k b' d'
-  stops : Plans s Stop → Stopped s r → Turn k b d s r [] k b d
+  stops : Plans s Stop → r ≡ at-stop s → Turn k b d s r [] k b d
 
 pub record Turns (k b d : List ℕ) (s r : Stand) (k' b' d' : List ℕ) : Type 0 where
   pub calls : List Call

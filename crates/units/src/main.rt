@@ -1,49 +1,16 @@
 // The unit lister: reads lines p;G;H from standard input and writes an answer to each, as they come.
 ghost use mathlib.Core.Path.{_≡_};
-ghost use Rattle.units.specs.Serve.{Plans, Settles, Asks, Wrote, Answers, Heard, Stopped, Turns, Ran};
+ghost use Rattle.units.specs.Serve.{Settles, Asks, Wrote, Answers, Heard, Turns, Ran};
 ghost use lib.ListN.{length};
 ghost use Prim.Native.Nat.{_+_, _≤_};
 ghost use Rattle.libc.specs.Io.{Moved};
-use libc::STDIN_FILENO;
-use libc::STDOUT_FILENO;
 use lister::Going;
-
-// Where the program stands. Of a line n bytes are pending; of the piece that was read, m bytes, those from `at` on are not answered yet;
-// of the answers those from `from` up to `to` are not written yet. The phase is 0 before the input's end is read, 1 from then on, 2 once
-// all is written, 3 once a call failed.
-pub struct Stand {
-    pub n: usize,
-    pub at: usize,
-    pub m: usize,
-    pub from: usize,
-    pub to: usize,
-    pub phase: u8,
-}
-
-// What comes next: a part of the answers is handed to a descriptor, lines are answered, a descriptor is read, or nothing is left.
-pub enum Act {
-    Write(i32, usize, usize),
-    Answer,
-    Read(i32),
-    Stop,
-}
-
-fn plan(s: Stand) -> Act
-    ensures { λ r. ⌜ Plans s r ⌝ }
-{
-    let from = s.from;
-    let to = s.to;
-    if from < to {
-        return Act::Write(STDOUT_FILENO, from, to);
-    }
-    if s.at < s.m {
-        return Act::Answer;
-    }
-    if s.phase == 0 {
-        return Act::Read(STDIN_FILENO);
-    }
-    Act::Stop
-}
+use lister_turn::Act;
+use lister_turn::Stand;
+use lister_turn::came;
+use lister_turn::ended;
+use lister_turn::plan;
+use lister_turn::stopped;
 
 // Whether a call that failed is to be tried again: it was interrupted, or would have had to wait.
 fn again() -> bool {
@@ -113,42 +80,12 @@ fn heard(buf: &[u8], out: &mut [u8], s: Stand, got: isize) -> Stand
     requires { ⌜ Moved (length (now buf)) got ⌝ }
     ensures { λ r. ⌜ Heard (now (out .entry)) s got r (now (out .exit)) ⌝ }
 {
-    let pending = s.n;
     if got == 0 {
-        let to = text_end::finish(out, pending);
-        return Stand {
-            n: 0,
-            at: 0,
-            m: 0,
-            from: 0,
-            to,
-            phase: 1,
-        };
+        return ended(out, s);
     }
     let m = io::count(got, buf);
     let phase = settle(s.phase, m);
-    Stand {
-        n: pending,
-        at: 0,
-        m,
-        from: 0,
-        to: 0,
-        phase,
-    }
-}
-
-// All is written.
-fn stopped(s: Stand) -> Stand
-    ensures { λ r. ⌜ Stopped s r ⌝ }
-{
-    Stand {
-        n: s.n,
-        at: s.at,
-        m: s.m,
-        from: s.from,
-        to: s.to,
-        phase: 2,
-    }
+    came(s, m, phase)
 }
 
 // One turn: what `plan` says is done.

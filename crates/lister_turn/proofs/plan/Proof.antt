@@ -1,8 +1,8 @@
--- `units::plan` meets its contract: what each test leaves.
+-- `lister_turn::plan` meets its contract: what each test leaves.
 use mathlib.Core.Path.{refl}
 use native.Mathlib.Omega.{arith}
-use Rattle.units.proofs.plan.Statement.{statement}
-use Rattle.units.proofs.plan.Tie as tie
+use Rattle.lister_turn.proofs.plan.Statement.{statement}
+use Rattle.lister_turn.proofs.plan.Tie as tie
 
 returns : tie.Need-returns
 returns c = (refl, refl, refl, omega (arith, c .if1 .taken))
