@@ -1,6 +1,7 @@
 -- Tightness: for each public function, by the crate that has it, the theorem that two outcomes which meet its contract at one input are
 -- equal: result, and contents of each lent slice after the call. Functions that are not named have a contract that is an equation.
---   num_mod        inverse, cube_root: inverse-unique, cube-root-unique (num_mod/proofs/Unique); add_product, mod p: add-product-unique (Poly)
+--   num_mod        add_product, mod p: add-product-unique (Poly)
+--   num_power      inverse, cube_root: inverse-unique, cube-root-unique (num_power/proofs/Unique)
 --   num_prime      is_prime: is-prime-unique (Poly)
 --   base_lists     list_length: list-unique (base_lists/proofs/Coefs)
 --   base_answers   over_budget, over_longest, no_six_rows: over-unique, no-six-unique (base_answers/proofs/Limits)

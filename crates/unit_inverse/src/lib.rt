@@ -1,6 +1,6 @@
 // The rows F0, F1, F2 of the inverse, after those of E in the lent slice of crate unit_rows.
 use base_lists::wide;
-use num_mod::inverse;
+use num_power::inverse;
 use poly_long::clear;
 use poly_long::scale;
 use poly_products::mix;

@@ -1,10 +1,10 @@
--- `num_mod::mul` meets its contract. The product of two numbers below 2^31 fits.
+-- `num_power::mul` meets its contract. The product of two numbers below 2^31 fits.
 use Prim.Native.Nat.{_≤_}
 use borrow.Author.Needs.{needs}
 use native.Mathlib.Nat.{mul-le-mul}
 use native.Mathlib.Omega.{arith}
-use Rattle.num_mod.proofs.mul.Statement.{statement}
-use Rattle.num_mod.proofs.mul.Tie as tie
+use Rattle.num_power.proofs.mul.Statement.{statement}
+use Rattle.num_power.proofs.mul.Tie as tie
 
 mul-result : tie.Need-mul-result
 mul-result c =

@@ -2,7 +2,7 @@
 use mathlib.Core.Path.{_≡_, sym, _∙_}
 use Prim.Native.Nat.{ℕ}
 use Rattle.math_fp.proofs.Value.{inverse-mod-unique, root-mod-unique}
-use Rattle.num_mod.specs.Residue.{Nonzero, Rooted, Inverse, CubeRoot}
+use Rattle.num_power.specs.Powers.{Nonzero, Rooted, Inverse, CubeRoot}
 
 pub inverse-unique : (p a r s : ℕ) → Nonzero p a → Inverse p a r → Inverse p a s → r ≡ s
 inverse-unique p a r s k i j = inverse-mod-unique p (k .prime) a (k .below) r s (i .below) (j .below) (i .law) (j .law)

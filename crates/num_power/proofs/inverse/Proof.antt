@@ -1,10 +1,10 @@
--- `num_mod::inverse` meets its contract: Fermat.
+-- `num_power::inverse` meets its contract: Fermat.
 use mathlib.Core.Path.{ap, _∙_}
 use Prim.Native.Nat.{_*_, _-_, _%_, _<_}
 use native.Mathlib.Omega.{arith}
 use Rattle.math_fp.proofs.Value.{powMod-below, inverse-value}
-use Rattle.num_mod.proofs.inverse.Statement.{statement}
-use Rattle.num_mod.proofs.inverse.Tie as tie
+use Rattle.num_power.proofs.inverse.Statement.{statement}
+use Rattle.num_power.proofs.inverse.Tie as tie
 
 sub-power : tie.Need-sub-power
 sub-power c = let b : 1 < c .args .p = c .pre .prime .big in omega arith

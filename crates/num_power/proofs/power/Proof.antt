@@ -1,4 +1,4 @@
--- `num_mod::power` meets its contract. The loop's invariant: r b^n = a^e mod p, r and b below p. The measure is n.
+-- `num_power::power` meets its contract. The loop's invariant: r b^n = a^e mod p, r and b below p. The measure is n.
 use mathlib.Core.Path.{_≡_, ap, sym, _∙_}
 use mathlib.Core.Logic.{⊎-elim}
 use Prim.Native.Nat.{_+_, _*_, _/_, _%_, _^_, _<_}
@@ -6,8 +6,8 @@ use native.Mathlib.Nat.{mod-lt, mod-eq-of-lt, one-mul, mul-one, pow-zero, mod-ad
 use native.Mathlib.Omega.{arith}
 use Rattle.math_fp.specs.Fp.{powMod}
 use Rattle.math_fp.proofs.Value.{turn-even, turn-odd}
-use Rattle.num_mod.proofs.power.Statement.{statement}
-use Rattle.num_mod.proofs.power.Tie as tie
+use Rattle.num_power.proofs.power.Statement.{statement}
+use Rattle.num_power.proofs.power.Tie as tie
 
 abbrev Inv-loop : tie.InvT-loop
 Inv-loop p a e r₀ b₀ n₀ r b n = (r < p) × (b < p) × ((r * b ^ n) % p ≡ (a ^ e) % p)

@@ -1,11 +1,11 @@
--- `num_mod::cube_root` meets its contract: cubing is a bijection.
+-- `num_power::cube_root` meets its contract: cubing is a bijection.
 use Prim.Native.Nat.{_<_}
 use borrow.Author.Needs.{needs}
 use native.Mathlib.Omega.{arith}
 use Rattle.math_fp.specs.Fp.{third}
 use Rattle.math_fp.proofs.Value.{powMod-below, root-value}
-use Rattle.num_mod.proofs.cube_root.Statement.{statement}
-use Rattle.num_mod.proofs.cube_root.Tie as tie
+use Rattle.num_power.proofs.cube_root.Statement.{statement}
+use Rattle.num_power.proofs.cube_root.Tie as tie
 
 mul-power : tie.Need-mul-power
 mul-power c = search needs
