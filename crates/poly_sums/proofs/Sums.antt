@@ -25,8 +25,7 @@ use Rattle.math_rows.proofs.Rows.{const-neg, psum-ext, row-32, row-upto, tpow-a
 use Rattle.math_rows.proofs.Unique.{same-cast}
 use Rattle.num_mod.specs.Prepared.{Added}
 use Rattle.num_mod.specs.declared.Modulus.{Modulus}
-use Rattle.poly_lent.specs.Sized.{signOf}
-use Rattle.poly_lent.specs.Sums.{Loose, Signed, LaidAsks, Laid, GatherAsks, Gathered, SettleAsks, Settled}
+use Rattle.poly_sums.specs.Sums.{signOf, Loose, Signed, LaidAsks, Laid, GatherAsks, Gathered, SettleAsks, Settled}
 
 -- ---- one coefficient changed
 module _ {p : ℕ} (ρ : Reading p) where

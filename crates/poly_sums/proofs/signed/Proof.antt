@@ -1,4 +1,4 @@
--- `poly_lent::signed` meets its contract.
+-- `poly_sums::signed` meets its contract.
 use mathlib.Core.Path.{_≡_, refl, ap, sym, _∙_, subst}
 use Prim.Native.Nat.{_-_, _%_, _<_}
 use native.Mathlib.Nat.{mod-lt}
@@ -7,9 +7,9 @@ use borrow.Author.Needs.{needs}
 use Rattle.math_rows.specs.Reading.{Reading}
 use Rattle.math_rows.specs.Made.{reading}
 use Rattle.math_rows.proofs.Rows.{cast-sub}
-use Rattle.poly_lent.specs.Sums.{Signed}
-use Rattle.poly_lent.proofs.signed.Statement.{statement}
-use Rattle.poly_lent.proofs.signed.Tie as tie
+use Rattle.poly_sums.specs.Sums.{Signed}
+use Rattle.poly_sums.proofs.signed.Statement.{statement}
+use Rattle.poly_sums.proofs.signed.Tie as tie
 
 sub-reduce-once : tie.Need-sub-reduce-once
 sub-reduce-once c = search needs

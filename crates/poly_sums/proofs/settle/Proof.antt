@@ -1,12 +1,12 @@
--- `poly_lent::settle` meets its contract: each turn is `over-more`.
+-- `poly_sums::settle` meets its contract: each turn is `over-more`.
 use mathlib.Core.Path.{ap, _∙_}
 use Prim.Native.Nat.{_-_, _%_}
 use native.Mathlib.Omega.{arith}
 use borrow.Author.Needs.{needs}
 use lib.ListN.{getD}
-use Rattle.poly_lent.proofs.Sums.{Over, over-start, over-more, settled}
-use Rattle.poly_lent.proofs.settle.Statement.{statement}
-use Rattle.poly_lent.proofs.settle.Tie as tie
+use Rattle.poly_sums.proofs.Sums.{Over, over-start, over-more, settled}
+use Rattle.poly_sums.proofs.settle.Statement.{statement}
+use Rattle.poly_sums.proofs.settle.Tie as tie
 
 abbrev Inv-loop : tie.InvT-loop
 Inv-loop q acc₀ t k₀ acc k = Over 32 (λ j. getD acc₀ j 0 % q .p) acc₀ acc k

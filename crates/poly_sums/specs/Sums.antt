@@ -1,12 +1,12 @@
 -- How a product is gathered: sums in 64 bits that stand for their coefficients up to multiples of p.
---   Loose l   32 numbers below 2^63: a row before its coefficients are reduced (`row` of crate math_rows reads it as it is)
---   signed    Signed: v, or − v, below p
---   laid      Laid: acc + v t^i y
---   gather    Gathered: acc ± x y
---   settle    Settled: the same polynomial, each coefficient below p
---   reach     Reach: a place past two products
+--   signOf k e z   z, or − z where e is true
+--   Loose l        32 numbers below 2^63: a row before its coefficients are reduced (`row` of crate math_rows reads it as it is)
+--   signed         Signed: v, or − v, below p
+--   laid           Laid: acc + v t^i y
+--   gather         Gathered: acc ± x y
+--   settle         Settled: the same polynomial, each coefficient below p
 use mathlib.Core.Path.{_≡_}
-use mathlib.Core.Bool.{Bool}
+use mathlib.Core.Bool.{Bool, true, false}
 use mathlib.Core.List.{List}
 use Prim.Native.Nat.{ℕ, _+_, _%_, _<_, _≤_}
 use lib.ListN.{length, getD}
@@ -20,7 +20,10 @@ use Rattle.math_rows.specs.Row.{Row, row, tpow}
 use Rattle.poly_rows.specs.Leaf.{Cut}
 use Rattle.num_mod.specs.Prepared.{Prepared}
 use Rattle.num_mod.specs.declared.Modulus.{Modulus}
-use Rattle.poly_lent.specs.Sized.{signOf}
+
+abbrev pub signOf : {A : Type 0} → Ops A → Bool → A → A
+signOf o true z = o .neg z
+signOf o false z = z
 
 pub record Loose (l : List ℕ) : Type 0 where
   pub size : length l ≡ 32
@@ -73,12 +76,3 @@ pub record Settled (p : ℕ) (acc o : List ℕ) : Type 0 where
   pub is-row : Row p o
   pub law : (pr : Prime p) → row (reading p pr) o ≡ row (reading p pr) acc
   pub each : (i : ℕ) → getD o i 0 ≡ getD acc i 0 % p
-
-pub record ReachAsks (a b : ℕ) : Type 0 where
-  pub fit-a : a ≤ 33
-  pub fit-b : b ≤ 33
-
-pub record Reach (a b r : ℕ) : Type 0 where
-  pub fits : r ≤ 32
-  pub past-a : a ≤ r + 1
-  pub past-b : b ≤ r + 1

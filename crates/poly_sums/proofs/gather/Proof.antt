@@ -1,10 +1,10 @@
--- `poly_lent::gather` meets its contract: each turn is `gathering-turn`.
+-- `poly_sums::gather` meets its contract: each turn is `gathering-turn`.
 use Prim.Native.Nat.{_-_}
 use native.Mathlib.Omega.{arith}
 use borrow.Author.Needs.{needs}
-use Rattle.poly_lent.proofs.Sums.{Gathering, gathering-start, lay-in, gathering-turn, gathering-end}
-use Rattle.poly_lent.proofs.gather.Statement.{statement}
-use Rattle.poly_lent.proofs.gather.Tie as tie
+use Rattle.poly_sums.proofs.Sums.{Gathering, gathering-start, lay-in, gathering-turn, gathering-end}
+use Rattle.poly_sums.proofs.gather.Statement.{statement}
+use Rattle.poly_sums.proofs.gather.Tie as tie
 
 abbrev Inv-loop : tie.InvT-loop
 Inv-loop p minus x n y m acc₀ i₀ acc i = Gathering p minus x n y m acc₀ acc i

@@ -1,10 +1,10 @@
--- `poly_lent::laid` meets its contract: each turn is `laying-turn`.
+-- `poly_sums::laid` meets its contract: each turn is `laying-turn`.
 use Prim.Native.Nat.{_-_, _+_}
 use native.Mathlib.Omega.{arith}
 use borrow.Author.Needs.{needs}
-use Rattle.poly_lent.proofs.Sums.{Laying, laying-start, laying-turn, laying-end}
-use Rattle.poly_lent.proofs.laid.Statement.{statement}
-use Rattle.poly_lent.proofs.laid.Tie as tie
+use Rattle.poly_sums.proofs.Sums.{Laying, laying-start, laying-turn, laying-end}
+use Rattle.poly_sums.proofs.laid.Statement.{statement}
+use Rattle.poly_sums.proofs.laid.Tie as tie
 
 abbrev Inv-loop : tie.InvT-loop
 Inv-loop p v y m i acc₀ j₀ acc j = Laying p v y m i acc₀ acc j
