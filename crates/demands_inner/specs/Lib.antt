@@ -13,7 +13,9 @@
 --   poly_divide    quotient_in, less_in, divide_in: quotient-in-unique, less-in-unique, divide-in-unique (Sized)
 --   poly_content   without_content, up to a constant: taken-off-unique (Lattice)
 --   poly_long      size: size-unique (Poly); scale: scale-unique (Long)
---   poly_products  mix, times: mix-unique, times-unique; quotient, where there is one that fits: quotient-unique (Long)
+--   poly_mix       mix: mix-unique (Long)
+--   poly_products  times: times-unique (Long)
+--   poly_quotient  quotient, where there is one that fits: quotient-unique (Long)
 --   field_open     list_length: list-unique (base_lists/proofs/Coefs); refusal: refusal-unique (field_open/proofs/Stages); open:
 --                  opens-unique (field_open/proofs/Opening)
 --   field_factors  both_free: free-unique (field_factors/proofs/Tests)

@@ -3,7 +3,7 @@ use base_lists::wide;
 use num_power::inverse;
 use poly_long::clear;
 use poly_long::scale;
-use poly_products::mix;
+use poly_mix::mix;
 ghost use Rattle.unit_inverse.specs.Inverse.{PairAsks, Pair, CofactorAsks, Cofactor, NormAsks, Norm, InvertAsks, Inverted};
 
 // The low k coefficients of the products of the rows at x and y and of those at v and w, one after the other.

@@ -1,4 +1,4 @@
--- `poly_products::mix` meets its contract: the list is filled with the remainders of the sums, which need no more than the sizes of g and h.
+-- `poly_mix::mix` meets its contract: the list is filled with the remainders of the sums, which need no more than the sizes of g and h.
 use Prim.Native.Nat.{ℕ, zero, suc, _≤_, _<_, _-_, _*_, _+_, _%_}
 use mathlib.Core.Path.{_≡_, _∙_, sym, ap, ap₂, refl, subst}
 use mathlib.Core.List.{List, [], _∷_, _++_}
@@ -8,14 +8,14 @@ use lib.ListN.{length, length-set, getD, set, replicate, take, drop}
 use native.Mathlib.Nat.{mod-lt}
 use Rattle.math_rows.specs.Sum.{sumTo, termAt}
 use Rattle.math_rows.proofs.Tab.{Filled, filled-start, filled-more}
-use Rattle.poly_products.proofs.Sums.{trimmed}
-use Rattle.poly_products.proofs.Mixing.{mixed}
+use Rattle.poly_mix.proofs.Sums.{trimmed}
+use Rattle.poly_mix.proofs.Mixing.{mixed}
 use borrow.Author.Needs.{needs}
-use Rattle.poly_products.proofs.mix.Statement.{statement}
-use Rattle.poly_products.proofs.mix.Tie as tie
-use Rattle.poly_products.proofs.mix.Reads as reads
-use Rattle.poly_products.proofs.mix.Lts as lts
-use Rattle.poly_products.proofs.sum_at.Reads as sum-at-reads
+use Rattle.poly_mix.proofs.mix.Statement.{statement}
+use Rattle.poly_mix.proofs.mix.Tie as tie
+use Rattle.poly_mix.proofs.mix.Reads as reads
+use Rattle.poly_mix.proofs.mix.Lts as lts
+use Rattle.poly_mix.proofs.sum_at.Reads as sum-at-reads
 
 abbrev Inv-loop : tie.InvT-loop
 Inv-loop p g x h y d₀ m n k₀ d k = Filled (length d₀) (λ i. (sumTo (termAt g x i) (length g) + sumTo (termAt h y i) (length h)) % p) d k

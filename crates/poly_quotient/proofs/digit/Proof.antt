@@ -1,4 +1,4 @@
--- `poly_products::digit` meets its contract.
+-- `poly_quotient::digit` meets its contract.
 use Prim.Native.Nat.{ℕ, zero, suc, _≤_, _<_, _-_, _*_, _+_, _%_}
 use mathlib.Core.Path.{_≡_, _∙_, sym, ap, ap₂, refl, subst}
 use mathlib.Core.List.{List, [], _∷_, _++_}
@@ -7,11 +7,11 @@ use native.Mathlib.Numerals.{add-one}
 use lib.ListN.{length, length-set, getD, set, replicate, take, drop}
 use native.Mathlib.Nat.{mod-lt}
 use borrow.Author.Needs.{needs}
-use Rattle.poly_products.proofs.digit.Statement.{statement}
-use Rattle.poly_products.proofs.digit.Tie as tie
-use Rattle.poly_products.proofs.digit.Reads as reads
-use Rattle.poly_products.proofs.digit.Lts as lts
-use Rattle.poly_products.proofs.sum_at.Reads as sum-at-reads
+use Rattle.poly_quotient.proofs.digit.Statement.{statement}
+use Rattle.poly_quotient.proofs.digit.Tie as tie
+use Rattle.poly_quotient.proofs.digit.Reads as reads
+use Rattle.poly_quotient.proofs.digit.Lts as lts
+use Rattle.poly_mix.proofs.sum_at.Reads as sum-at-reads
 
 sub-m : tie.Need-sub-m
 sub-m c = search needs

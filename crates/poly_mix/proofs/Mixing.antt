@@ -1,6 +1,6 @@
--- What the loop of `mix` ends with (`mixed`), all of g x + h y where there is room (`whole`), and x y from it (`timed`).
+-- What the loop of `mix` ends with (`mixed`), and all of g x + h y where there is room (`whole`).
 use mathlib.Core.Path.{_≡_, sym, subst}
-use mathlib.Core.List.{List, [], _∷_}
+use mathlib.Core.List.{List}
 use Prim.Native.Nat.{ℕ, _<_, _≤_, _%_}
 use Prim.Native.Nat as N
 use native.Mathlib.Nat.{mod-lt}
@@ -13,8 +13,8 @@ use Rattle.math_rows.specs.Row.{tab, row}
 use Rattle.math_rows.specs.Sum.{sumTo, termAt}
 use Rattle.math_rows.proofs.Tab.{Filled, filled-end}
 use Rattle.poly_long.specs.Long.{Low}
-use Rattle.poly_long.proofs.Low.{below, mix-law, whole-law, times-law}
-use Rattle.poly_products.specs.Products.{MixAsks, Mixed, TimesAsks, Times}
+use Rattle.poly_long.proofs.Low.{below, mix-law, whole-law}
+use Rattle.poly_mix.specs.Mixing.{MixAsks, Mixed}
 
 pub mixed : (p : ℕ) (g x h y d₀ d : List ℕ) (i : ℕ) → MixAsks p g h d₀ → Filled (length d₀) (λ k. N._+_ (sumTo (termAt g x k) (length g)) (sumTo (termAt h y k) (length h)) % p) d i → length d₀ ≤ i → Mixed p g x h y d₀ d
 mixed p g x h y d₀ d i m w l =
@@ -30,6 +30,3 @@ mixed p g x h y d₀ d i m w l =
 pub whole : {p : ℕ} {g x h y d r : List ℕ} → N._+_ (length g) (length x) ≤ length d → N._+_ (length h) (length y) ≤ length d → Mixed p g x h y d r
     → (pr : Prime p) → let ρ = reading p pr in let o = ρ .𝓥 .L .ops in row ρ r ≡ o .add (o .mul (row ρ g) (row ρ x)) (o .mul (row ρ h) (row ρ y))
 whole {p} {g} {x} {h} {y} a b m pr = whole-law (reading p pr) g x h y a b (m .law pr)
-
-pub timed : (p : ℕ) (x y d r : List ℕ) → TimesAsks p x y d → Mixed p x y (0 ∷ []) (0 ∷ []) d r → Times p x y d r
-timed p x y d r t m = record { size = m .size; each = m .each; law = λ pr. times-law (reading p pr) x y (t .room) (m .law pr) }

@@ -1,17 +1,17 @@
--- `poly_products::quotient` meets its contract: each turn is `down-more` of proofs/Division.antt.
+-- `poly_quotient::quotient` meets its contract: each turn is `down-more` of proofs/Division.antt.
 use Prim.Native.Nat.{ℕ, zero, suc, _≤_, _<_, _-_, _*_, _+_, _%_}
 use mathlib.Core.Path.{_≡_, _∙_, sym, ap, ap₂, refl, subst}
 use mathlib.Core.List.{List, [], _∷_, _++_}
 use native.Mathlib.Omega.{arith}
 use native.Mathlib.Numerals.{add-one}
 use lib.ListN.{length, length-set, getD, set, replicate, take, drop}
-use Rattle.poly_products.proofs.Division.{Down, down-start, down-more, down-end}
+use Rattle.poly_quotient.proofs.Division.{Down, down-start, down-more, down-end}
 use borrow.Author.Needs.{needs}
-use Rattle.poly_products.proofs.quotient.Statement.{statement}
-use Rattle.poly_products.proofs.quotient.Tie as tie
-use Rattle.poly_products.proofs.quotient.Reads as reads
-use Rattle.poly_products.proofs.quotient.Lts as lts
-use Rattle.poly_products.proofs.digit.Reads as digit-reads
+use Rattle.poly_quotient.proofs.quotient.Statement.{statement}
+use Rattle.poly_quotient.proofs.quotient.Tie as tie
+use Rattle.poly_quotient.proofs.quotient.Reads as reads
+use Rattle.poly_quotient.proofs.quotient.Lts as lts
+use Rattle.poly_quotient.proofs.digit.Reads as digit-reads
 
 abbrev Inv-loop : tie.InvT-loop
 Inv-loop p a x b y c z u q₀ k₀ q k = Down p a x b y c z u q₀ q k

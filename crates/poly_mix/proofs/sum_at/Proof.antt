@@ -1,18 +1,18 @@
--- `poly_products::sum_at` meets its contract: proofs/Sums.antt.
+-- `poly_mix::sum_at` meets its contract: proofs/Sums.antt.
 use Prim.Native.Nat.{ℕ, zero, suc, _≤_, _<_, _-_, _*_, _+_, _%_}
 use mathlib.Core.Path.{_≡_, _∙_, sym, ap, ap₂, refl, subst}
 use mathlib.Core.List.{List, [], _∷_, _++_}
 use native.Mathlib.Omega.{arith}
 use native.Mathlib.Numerals.{add-one}
 use lib.ListN.{length, length-set, getD, set, replicate, take, drop}
-use Rattle.poly_products.proofs.Sums.{Summing, summing-start, summing-more, summing-end}
+use Rattle.poly_mix.proofs.Sums.{Summing, summing-start, summing-more, summing-end}
 use Rattle.poly_long.proofs.Loops.{product-small}
 use mathlib.Core.Logic.{_⊎_, inl, inr, ⊎-elim}
 use borrow.Author.Needs.{needs}
-use Rattle.poly_products.proofs.sum_at.Statement.{statement}
-use Rattle.poly_products.proofs.sum_at.Tie as tie
-use Rattle.poly_products.proofs.sum_at.Reads as reads
-use Rattle.poly_products.proofs.sum_at.Lts as lts
+use Rattle.poly_mix.proofs.sum_at.Statement.{statement}
+use Rattle.poly_mix.proofs.sum_at.Tie as tie
+use Rattle.poly_mix.proofs.sum_at.Reads as reads
+use Rattle.poly_mix.proofs.sum_at.Lts as lts
 
 abbrev Inv-loop : tie.InvT-loop
 Inv-loop x n y k from to s₀ i₀ s i = Summing x n y k from to s i

@@ -20,7 +20,7 @@ use Rattle.math_rows.proofs.Tab.{shift-high}
 use Rattle.math_rows.proofs.Rows.{cast-sub}
 use Rattle.math_rows.proofs.Unique.{psum-unique, cast-inj}
 use Rattle.math_rows.proofs.Product.{sum-more, sum-ext}
-use Rattle.poly_products.specs.Products.{termsAt, Digit, QuotientAsks, Quotient}
+use Rattle.poly_quotient.specs.Quotients.{termsAt, Digit, QuotientAsks, Quotient}
 use Rattle.poly_long.proofs.Low.{product-whole, sum₃}
 
 -- u l = a x + b y + c z, with l of n numbers below p

@@ -14,7 +14,7 @@ use Rattle.math_rows.specs.Sum.{sumTo, termAt}
 use Rattle.math_rows.proofs.Tab.{shift-low, shift-high}
 use Rattle.math_rows.proofs.Product.{sum-more, sum-none, sum-skip}
 use Rattle.poly_long.proofs.Loops.{product-small}
-use Rattle.poly_products.specs.Products.{SumAt}
+use Rattle.poly_mix.specs.Mixing.{SumAt}
 
 -- terms where y has no coefficient
 pub term-low : (x y : List ℕ) (k i : ℕ) → k < i → termAt x y k i ≡ 0
