@@ -26,7 +26,8 @@
 --   pair_rows      exchange, multiplied: exchanged-unique, multiplied-unique (door_transfer/proofs/Inner)
 --   pair_carry     carry, carry_swapped: carried-unique, carried-swapped-unique (door_transfer/proofs/Inner)
 --   basis_record   load, stored: load-unique, stored-unique (Bases)
---   basis_parts    floor, floor_in: part-unique; top_of: top-of-unique; lead_of: lead-of-unique (Reduction)
+--   basis_parts    floor, floor_in: part-unique (Reduction); digit serves `floor_in` and `top_of` alone: the theorems are theirs
+--   basis_top      top_of: top-of-unique; lead_of: lead-of-unique (Reduction)
 --   basis_clear    canceled, clear_y serve `reduced` alone: reduced-unique is of the whole
 --   basis_reduce   reduced, up to constants and the order of its elements: reduced-unique (Reduction)
 --   basis_store    factors_of, filled serve `reduced_basis` alone: reduced-basis-unique is of the whole

@@ -1,13 +1,13 @@
--- `basis_parts::top_of` meets its contract: the lemmas of Tops that begin with seek.
+-- `basis_top::top_of` meets its contract: the lemmas of Tops that begin with seek.
 use mathlib.Core.Path.{refl}
 use Prim.Native.Nat.{_*_, _≤_, _<_}
 use native.Mathlib.Omega.{arith}
 use Rattle.basis_parts.specs.Given.{given}
 use Rattle.basis_parts.proofs.Leaves.{square-small}
-use Rattle.basis_parts.proofs.Tops.{Seek, seek-start, seek-more, seek-found, seek-end}
+use Rattle.basis_top.proofs.Tops.{Seek, seek-start, seek-more, seek-found, seek-end}
 use borrow.Author.Needs.{needs}
-use Rattle.basis_parts.proofs.top_of.Statement.{statement}
-use Rattle.basis_parts.proofs.top_of.Tie as tie
+use Rattle.basis_top.proofs.top_of.Statement.{statement}
+use Rattle.basis_top.proofs.top_of.Tie as tie
 
 abbrev Inv-loop : tie.InvT-loop
 Inv-loop f minus b c r w l low p q j₀ j = Seek (given f r w) minus b c low l j

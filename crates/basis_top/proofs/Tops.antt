@@ -21,10 +21,11 @@ use Rattle.math_rows.specs.Reading.{Reading}
 use Rattle.math_rows.specs.Row.{Size, tpow, psum}
 use Rattle.math_rows.proofs.Rows.{const-zero, psum-cut, psum-lt, psum-lead}
 use Rattle.math_rows.proofs.Floors.{floor-lt, floor-top}
 use Rattle.basis_parts.specs.Frame.{Frame, Meaning, rd, pt, side, Ltμ, Hasμ}
-use Rattle.basis_parts.specs.Leaves.{PartAsks, PartAt, partAt, Parted, TopOfAsks, Topped, Led}
-use Rattle.basis_parts.specs.declared.Top.{Top}
+use Rattle.basis_parts.specs.Leaves.{PartAsks, PartAt, partAt, Parted}
 use Rattle.basis_parts.proofs.Leaves.{part-floor, part-high}
+use Rattle.basis_top.specs.Tops.{TopOfAsks, Topped, Led}
+use Rattle.basis_top.specs.declared.Top.{Top}
 
 module _ {p : ℕ} (ρ : Reading p) where
   open Reading ρ using (𝓥)
