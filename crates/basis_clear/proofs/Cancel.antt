@@ -23,9 +23,10 @@ use Rattle.math_turns.specs.Points.{Pt, Turned}
 use Rattle.math_turns.proofs.Turn.{turned-side, b-lt, c-lt}
 use Rattle.poly_cross.specs.Cross.{CrossInAsks, CrossInGives}
 use Rattle.basis_parts.specs.Frame.{Frame, Fine, Meaning, Short, rd, Ser, pt, X, Y, side, Ltμ, shift, rowμ}
-use Rattle.basis_parts.specs.Leaves.{PartAsks, TopOfAsks, Topped}
+use Rattle.basis_parts.specs.Leaves.{PartAsks}
+use Rattle.basis_top.specs.Tops.{TopOfAsks, Topped}
 use Rattle.basis_clear.specs.Clear.{Rows, Room, RoomAt, CanceledAsks, CanceledGives}
-use Rattle.basis_parts.specs.declared.Top.{Top}
+use Rattle.basis_top.specs.declared.Top.{Top}
 
 module _ {p : ℕ} (ρ : Reading p) where
   pub shift-above : (l : List ℕ) (k j : ℕ) → Row p l → Lt (ρ .𝓥) (ρ .𝓥 .L .ops .mul (tpow ρ k) (row ρ l)) j → (i : ℕ) → j ≤ i → shiftAt l k i ≡ 0

@@ -15,11 +15,12 @@ use Rattle.math_turns.specs.Points.{Pt, Turned, Moved}
 use Rattle.math_turns.proofs.Turn.{turned-X, moved-start, moved-swap, moved-turn, moved-has, full}
 use Rattle.poly_rows.specs.Leaf.{Cut}
 use Rattle.basis_parts.specs.Frame.{Frame, Fine, Meaning, Point, point, Short, Held, rd, pt, X, Y, Ltμ, shift}
-use Rattle.basis_parts.specs.Leaves.{PartAsks, Parted, TopOfAsks, Topped}
+use Rattle.basis_parts.specs.Leaves.{PartAsks, Parted}
+use Rattle.basis_top.specs.Tops.{TopOfAsks, Topped}
 use Rattle.basis_clear.specs.Clear.{Pair, Rows, Room, CanceledAsks, CanceledGives, ClearYAsks, Clearing, Cleared, pair, swapIf}
-use Rattle.basis_parts.specs.declared.Top.{Top}
+use Rattle.basis_top.specs.declared.Top.{Top}
 use Rattle.basis_parts.proofs.Laid.{zeros-row, zeros-at}
-use Rattle.basis_parts.proofs.Tops.{part-lt, topped-up, topped-not, topped-most}
+use Rattle.basis_top.proofs.Tops.{part-lt, topped-up, topped-not, topped-most}
 
 -- what `part` asks, and what it gives
 pub part-in : {F : Frame} {top : ℕ} {b c : List ℕ} → Meaning F → Room F top → Rows F top b c → PartAsks F b c top

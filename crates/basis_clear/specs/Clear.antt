@@ -12,8 +12,8 @@ use mathlib.Core.List.{List}
 use Prim.Native.Nat.{ℕ, suc, _+_, _-_, _<_, _≤_}
 use Rattle.math_turns.specs.Points.{Turned, Moved}
 use Rattle.basis_parts.specs.Frame.{Frame, Fine, Meaning, Short, rd, pt, X, Y, D, Ltμ, Hasμ, shift}
-use Rattle.basis_parts.specs.Leaves.{Topped}
-use Rattle.basis_parts.specs.declared.Top.{Top}
+use Rattle.basis_top.specs.Tops.{Topped}
+use Rattle.basis_top.specs.declared.Top.{Top}
 
 -- two elements, by their rows
 pub record Pair : Type 0 where

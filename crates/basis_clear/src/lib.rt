@@ -1,9 +1,9 @@
 // The first half of the reduction of two elements b r + c w, on rows of 32 coefficients, lowest first, each below p.
-// Rows are lent, and turned in place; crate basis_parts has the polynomial parts and their leading terms.
+// Rows are lent, and turned in place; crate basis_parts has the polynomial parts, crate basis_top their leading terms.
 // Every contract speaks of the polynomial that a row stands for; none speaks of coefficients.
 use basis_parts::Bounds;
-use basis_parts::Top;
-use basis_parts::top_of;
+use basis_top::Top;
+use basis_top::top_of;
 use num_mod::Modulus;
 use poly_cross::cross_in;
 ghost use Rattle.basis_parts.specs.Given.{given};

@@ -16,7 +16,7 @@ use Rattle.math_ring.proofs.Laws as rg
 use Rattle.math_valued.specs.Polynomial.{polys}
 use Rattle.math_valued.proofs.Degree.{lt-eq}
 use Rattle.math_valued.proofs.Polynomial.{P-path}
-use Rattle.num_mod.specs.Residue.{Nonzero, Inverse}
+use Rattle.num_power.specs.Powers.{Nonzero, Inverse}
 use Rattle.math_rows.specs.Made.{reading}
 use Rattle.math_rows.specs.Row.{Size}
 use Rattle.math_rows.proofs.Rows.{size-le}

@@ -3,7 +3,7 @@ use basis_lattice::Lengths;
 use basis_lattice::lengths_of;
 use basis_lattice::member;
 use num_mod::Modulus;
-use num_mod::inverse;
+use num_power::inverse;
 use poly_lent::times_in;
 use poly_rows::size;
 ghost use Rattle.basis_record.specs.Seven.{seven};

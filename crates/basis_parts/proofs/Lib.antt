@@ -1,3 +1,2 @@
 pub mod Leaves
 pub mod Laid
-pub mod Tops

@@ -1,9 +1,7 @@
--- The contracts of the leaves: sums of products, polynomial parts of b r ± c w and their leading terms.
+-- The contracts of the leaves: sums of products, and polynomial parts of b r ± c w.
 --   Terms .. r               r is the coefficient at t^j of b times the series that s holds, up to multiples of p
 --   PartAt .. v              v is the coefficient at t^j of b r ± c w, below p
 --   Parted F e b c top z     z is the polynomial part of b r + c w (e false) or b r − c w (e true)
---   Topped F e b c low l t   t is the length and the leading coefficient of the same, or low and 0 where it ends at or before low
---   Led F e b c r            r is the leading coefficient; asked for where there is one (LeadOfAsks)
 use mathlib.Core.Path.{_≡_}
 use mathlib.Core.Bool.{Bool, true, false}
 use mathlib.Core.List.{List}
@@ -12,13 +10,11 @@ use lib.ListN.{getD}
 use Rattle.math_ring.specs.Ring.{Ops, CRing}
 use Rattle.math_fp.specs.Fp.{Prime}
 use Rattle.math_valued.specs.Val.{Valued}
-use Rattle.math_valued.specs.Degree.{Has}
 use Rattle.math_rows.specs.Reading.{Reading}
 use Rattle.math_rows.specs.Made.{reading}
 use Rattle.math_rows.specs.Row.{Row, fallAt, Floor}
 use Rattle.num_mod.specs.Residue.{IsModulus}
-use Rattle.basis_parts.specs.Frame.{Frame, Fine, Meaning, Short, rd, pt, side, Ltμ}
-use Rattle.basis_parts.specs.declared.Top.{Top}
+use Rattle.basis_parts.specs.Frame.{Frame, Fine, Meaning, Short, rd, pt, side}
 
 -- ---- sums of products, kept below p p
 pub record PlusAsks (p q x y z : ℕ) : Type 0 where
@@ -93,28 +89,3 @@ pub record PartAt (F : Frame) (e : Bool) (b c : List ℕ) (top j v : ℕ) : Type
 pub record Parted (F : Frame) (e : Bool) (b c : List ℕ) (top : ℕ) (z : List ℕ) : Type 0 where
   pub short : Short (F .m .p) z top
   pub law : (μ : Meaning F) → Floor (rd μ) (side μ e (pt μ b c)) z
-
--- ---- leading terms: the size ends before l
-pub record TopOfAsks (F : Frame) (e : Bool) (b c : List ℕ) (top l low : ℕ) : Type 0 where
-  pub inp : PartAsks F b c top
-  pub fits : l ≤ top
-  pub room : low ≤ l
-  pub ends : (μ : Meaning F) → Ltμ μ (side μ e (pt μ b c)) l
-
-pub record Topped (F : Frame) (e : Bool) (b c : List ℕ) (low l : ℕ) (t : Top) : Type 0 where
-  pub from : low ≤ t .n
-  pub upto : t .n ≤ l
-  pub below : t .c < F .m .p
-  pub ends : (μ : Meaning F) → Ltμ μ (side μ e (pt μ b c)) (t .n)
-  pub none : t .n ≡ low → t .c ≡ 0
-  pub some : low < t .n → 0 < t .c
-  pub lead : low < t .n → (μ : Meaning F) → rd μ .𝓥 .Lead (side μ e (pt μ b c)) (t .n - 1) 0 (rd μ .cast (t .c))
-
-pub record LeadOfAsks (F : Frame) (e : Bool) (b c : List ℕ) (top : ℕ) : Type 0 where
-  pub inp : PartAsks F b c top
-  pub d : ℕ
-  pub has : Has (rd (inp .some) .𝓥) (side (inp .some) e (pt (inp .some) b c)) d
-
--- r is the leading coefficient of the size, where the size has a degree that is not below 0
-pub record Led (F : Frame) (e : Bool) (b c : List ℕ) (r : ℕ) : Type 0 where
-  pub law : (μ : Meaning F) (d : ℕ) → Has (rd μ .𝓥) (side μ e (pt μ b c)) d → (0 < r) × (r < F .m .p) × rd μ .𝓥 .Lead (side μ e (pt μ b c)) d 0 (rd μ .cast r)

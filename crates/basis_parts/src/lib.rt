@@ -1,11 +1,11 @@
-// The polynomial parts of b r + c w and b r - c w, for two series r and w by their first coefficients, and their leading terms.
+// The polynomial parts of b r + c w and b r - c w, for two series r and w by their first coefficients.
 // Loops run over true lengths: top is one more than the largest degree of a size, so that rows b end before top - dr and rows c before top - dw.
 use num_mod::Modulus;
 use num_mod::reduce;
 ghost use mathlib.Core.Path.{_≡_};
 ghost use Prim.Native.Nat.{_+_, _*_, _-_, _%_, _<_, _≤_};
 ghost use Rattle.basis_parts.specs.Given.{given};
-ghost use Rattle.basis_parts.specs.Leaves.{PlusAsks, Summed, TermsAsks, Terms, PlainAsks, PartAsks, FloorInAsks, PartAtAsks, QuickAtAsks, PartAt, Parted, TopOfAsks, Topped, LeadOfAsks, Led};
+ghost use Rattle.basis_parts.specs.Leaves.{PlusAsks, Summed, TermsAsks, Terms, PlainAsks, PartAsks, FloorInAsks, PartAtAsks, QuickAtAsks, PartAt, Parted};
 
 // A prepared modulus, the degrees of two series, and the bound of sizes: one more than the largest degree that may occur
 pub struct Bounds {
@@ -116,7 +116,7 @@ fn quick_at(
 }
 
 // The one or the other
-fn digit(
+pub fn digit(
     f: Bounds,
     q: u64,
     minus: bool,
@@ -176,55 +176,4 @@ pub fn floor(
     let mut z: [u64; 32] = [0; 32];
     floor_in(f, minus, b, c, r, w, &mut z);
     z
-}
-
-// A length and a leading coefficient
-pub struct Top {
-    pub n: usize,
-    pub c: u64,
-}
-
-// The length and the leading coefficient of the polynomial part of b r + c w, or of b r - c w, which ends before l;
-// where it ends at or before low, low and 0.
-pub fn top_of(
-    f: Bounds,
-    minus: bool,
-    b: &[u64; 32],
-    c: &[u64; 32],
-    r: &[u64; 32],
-    w: &[u64; 32],
-    l: usize,
-    low: usize,
-) -> Top
-    requires { ⌜ TopOfAsks (given f (now r) (now w)) minus (now b) (now c) (f .top) l low ⌝ }
-    ensures { λ t. ⌜ Topped (given f (now (r .entry)) (now (w .entry))) minus (now (b .entry)) (now (c .entry)) low l t ⌝ }
-{
-    let p = f.m.p;
-    let q = p * p;
-    let mut j = l;
-    while low < j {
-        let v = digit(f, q, minus, b, c, r, w, j - 1);
-        if 0 < v {
-            return Top { n: j, c: v };
-        } else {
-            j -= 1;
-        }
-    }
-    Top { n: low, c: 0 }
-}
-
-// The leading coefficient of b r + c w, or of b r - c w, where its degree is not below 0
-pub fn lead_of(
-    f: Bounds,
-    minus: bool,
-    b: &[u64; 32],
-    c: &[u64; 32],
-    r: &[u64; 32],
-    w: &[u64; 32],
-) -> u64
-    requires { ⌜ LeadOfAsks (given f (now r) (now w)) minus (now b) (now c) (f .top) ⌝ }
-    ensures { λ v. ⌜ Led (given f (now (r .entry)) (now (w .entry))) minus (now (b .entry)) (now (c .entry)) v ⌝ }
-{
-    let t = top_of(f, minus, b, c, r, w, f.top, 0);
-    t.c
 }

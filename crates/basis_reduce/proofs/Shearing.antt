@@ -18,11 +18,12 @@ use Rattle.math_rows.proofs.Floors.{sized, floor-lt, floor-le}
 use Rattle.math_turns.specs.Points.{Pt, Turned, Moved}
 use Rattle.math_turns.proofs.Turn.{turned-Y, moved-start, moved-swap, moved-turn, moved-then, moved-has, full}
 use Rattle.basis_parts.specs.Frame.{Frame, Fine, Meaning, Short, Held, rd, pt, X, Y, Ltμ, Hasμ, shift}
-use Rattle.basis_parts.specs.Leaves.{Parted, TopOfAsks, Topped}
+use Rattle.basis_parts.specs.Leaves.{Parted}
+use Rattle.basis_top.specs.Tops.{TopOfAsks, Topped}
 use Rattle.basis_clear.specs.Clear.{Pair, Rows, Room, CanceledAsks, CanceledGives, Clearing, Cleared, Movedμ}
 use Rattle.basis_reduce.specs.Reduction.{ShearAsks, Shearing, Sheared, Reduced, Ends, ends}
-use Rattle.basis_parts.specs.declared.Top.{Top}
-use Rattle.basis_parts.proofs.Tops.{part-lt, part-top, topped-up, topped-not, topped-has}
+use Rattle.basis_top.specs.declared.Top.{Top}
+use Rattle.basis_top.proofs.Tops.{part-lt, part-top, topped-up, topped-not, topped-has}
 use Rattle.basis_clear.proofs.Clearing.{part-in, part-held}
 
 -- ---- from the first loop to the second

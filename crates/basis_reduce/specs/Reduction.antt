@@ -11,8 +11,8 @@ use mathlib.Core.List.{List}
 use Prim.Native.Nat.{ℕ, suc, _+_, _-_, _<_, _≤_}
 use Rattle.math_rows.specs.Row.{Size}
 use Rattle.basis_parts.specs.Frame.{Frame, Meaning, point, Short, Held, pt, X, Y, Ltμ, Hasμ}
-use Rattle.basis_parts.specs.Leaves.{Topped}
-use Rattle.basis_parts.specs.declared.Top.{Top}
+use Rattle.basis_top.specs.Tops.{Topped}
+use Rattle.basis_top.specs.declared.Top.{Top}
 use Rattle.basis_clear.specs.Clear.{Pair, Rows, Room, Movedμ, ClearYAsks}
 
 -- two elements with the polynomial parts of X, and the length of m's

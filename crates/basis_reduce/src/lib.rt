@@ -2,9 +2,9 @@
 use basis_clear::canceled;
 use basis_clear::clear_y;
 use basis_parts::Bounds;
-use basis_parts::Top;
 use basis_parts::floor_in;
-use basis_parts::top_of;
+use basis_top::Top;
+use basis_top::top_of;
 use poly_rows::size_from;
 ghost use Rattle.basis_parts.specs.Given.{given};
 ghost use Rattle.basis_clear.specs.Clear.{pair};

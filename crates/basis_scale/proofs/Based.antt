@@ -29,7 +29,7 @@ use Rattle.poly_rows.proofs.Leaf.{size-unique}
 use Rattle.poly_lent.proofs.Mixing.{size-cut}
 use Rattle.basis_record.specs.Record.{part}
 use Rattle.basis_parts.specs.Frame.{Frame, Meaning, Short, Held, point, rd, Ser, rowμ, pt, X, Y, Ltμ}
-use Rattle.basis_parts.specs.Leaves.{LeadOfAsks, Led}
+use Rattle.basis_top.specs.Tops.{LeadOfAsks, Led}
 use Rattle.basis_clear.specs.Clear.{Pair, ClearYAsks}
 use Rattle.basis_reduce.specs.Reduction.{Ends, Reduced}
 use Rattle.basis_store.specs.declared.Factors.{Factors}

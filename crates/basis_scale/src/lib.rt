@@ -1,9 +1,9 @@
 // The scaled basis that the reduction of two elements gives, and the basis of the order.
 use basis_parts::Bounds;
-use basis_parts::lead_of;
 use basis_reduce::reduced;
 use basis_store::factors_of;
 use basis_store::filled;
+use basis_top::lead_of;
 use poly_cross::scale_in;
 ghost use Prim.Native.Nat.{_+_, _*_, _-_, _%_, _<_, _≤_};
 ghost use Rattle.basis_parts.specs.Given.{given};

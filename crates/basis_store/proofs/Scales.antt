@@ -9,7 +9,8 @@ use Rattle.math_ring.specs.Ring.{Ops, CRing}
 use Rattle.math_ring.proofs.Solve.{var, one, _:+_, _:*_, solve}
 use Rattle.math_fp.specs.Fp.{Prime}
 use Rattle.math_valued.specs.Val.{Valued}
-use Rattle.num_mod.specs.Residue.{IsModulus, Nonzero, Inverse}
+use Rattle.num_mod.specs.Residue.{IsModulus}
+use Rattle.num_power.specs.Powers.{Nonzero, Inverse}
 use Rattle.math_rows.specs.Made.{reading}
 use Rattle.math_rows.proofs.Numbers.{cast-product, product-some}
 use Rattle.basis_parts.proofs.Leaves.{less-square}

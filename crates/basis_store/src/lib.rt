@@ -1,7 +1,7 @@
 // The basis record: seven rows of 17 coefficients, M0, M1, M2, N0, N1, N2, U. It starts as zeros and is filled row by row.
 use basis_record::stored;
 use num_mod::Modulus;
-use num_mod::inverse;
+use num_power::inverse;
 use poly_cross::cross_in;
 use poly_cross::scale_in;
 use poly_divide::quotient_in;

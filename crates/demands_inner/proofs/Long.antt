@@ -1,4 +1,4 @@
--- Crates poly_long, poly_products, unit_rows and unit_inverse: the final contents of the lent slices. `size` of poly_long: `size-unique` in Poly.
+-- Crates poly_long, poly_mix, poly_products, poly_quotient, unit_rows and unit_inverse: the final contents of the lent slices. `size` of poly_long: `size-unique` in Poly.
 --   cut-unique   the numbers of a row inside a slice are settled by its polynomial
 use mathlib.Core.Path.{_≡_, sym, ap, _∙_, subst}
 use mathlib.Core.List.{List}
@@ -17,7 +17,9 @@ use Rattle.math_rows.specs.Row.{row}
 use Rattle.math_rows.proofs.Tab.{length-tab, at-tab, past-tab}
 use Rattle.math_rows.proofs.Unique.{list-unique}
 use Rattle.poly_long.specs.Long.{Scaled}
-use Rattle.poly_products.specs.Products.{QuotientAsks, Quotient, MixAsks, Mixed, TimesAsks, Times}
+use Rattle.poly_mix.specs.Mixing.{MixAsks, Mixed}
+use Rattle.poly_products.specs.Products.{TimesAsks, Times}
+use Rattle.poly_quotient.specs.Quotients.{QuotientAsks, Quotient}
 use Rattle.unit_rows.specs.Six.{cut, Turn}
 use Rattle.unit_monic.specs.Monic.{MonicAsks, MonicMade}
 use Rattle.unit_inverse.specs.Inverse.{element, InvertAsks, Inverted}

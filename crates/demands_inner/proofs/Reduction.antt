@@ -1,4 +1,4 @@
--- Crates basis_parts, basis_clear and basis_reduce.
+-- Crates basis_parts, basis_top, basis_clear and basis_reduce.
 --   part-unique, top-of-unique, lead-of-unique   a polynomial part, its top, its leading coefficient
 --   reduced-unique             two reductions have elements that differ by a constant each, and one length: more the contract does not settle
 use mathlib.Core.Path.{_≡_, sym, _∙_}
@@ -14,9 +14,10 @@ use Rattle.math_rows.proofs.Floors.{floor-lt, floor-top, top-not}
 use Rattle.math_rows.proofs.Unique.{row-unique, cast-inj}
 use Rattle.math_turns.proofs.Turn.{moved-back, moved-then}
 use Rattle.basis_parts.specs.Frame.{Frame, Meaning, rd, pt, X, Hasμ}
-use Rattle.basis_parts.specs.Leaves.{PartAsks, Parted, TopOfAsks, Topped, LeadOfAsks, Led}
-use Rattle.basis_parts.specs.declared.Top.{Top}
-use Rattle.basis_parts.proofs.Tops.{topped-most, topped-not}
+use Rattle.basis_parts.specs.Leaves.{PartAsks, Parted}
+use Rattle.basis_top.specs.Tops.{TopOfAsks, Topped, LeadOfAsks, Led}
+use Rattle.basis_top.specs.declared.Top.{Top}
+use Rattle.basis_top.proofs.Tops.{topped-most, topped-not}
 use Rattle.basis_clear.specs.Clear.{Pair, ClearYAsks}
 use Rattle.basis_reduce.specs.Reduction.{Ends, Reduced}
 use Rattle.demands_inner.proofs.Rows.{floor-unique}

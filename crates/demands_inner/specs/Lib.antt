@@ -1,17 +1,21 @@
 -- Tightness: for each public function, by the crate that has it, the theorem that two outcomes which meet its contract at one input are
 -- equal: result, and contents of each lent slice after the call. Functions that are not named have a contract that is an equation.
---   num_mod        inverse, cube_root: inverse-unique, cube-root-unique (num_mod/proofs/Unique); add_product, mod p: add-product-unique (Poly)
+--   num_mod        add_product, mod p: add-product-unique (Poly)
+--   num_power      inverse, cube_root: inverse-unique, cube-root-unique (num_power/proofs/Unique)
 --   num_prime      is_prime: is-prime-unique (Poly)
 --   base_lists     list_length: list-unique (base_lists/proofs/Coefs)
 --   base_answers   over_budget, over_longest, no_six_rows: over-unique, no-six-unique (base_answers/proofs/Limits)
 --   poly_rows      size_from, size: size-unique; from_list: from-list-unique; minus, mul: minus-unique, mul-unique (Poly)
 --   poly_cross     scale_in, cross_in: scale-in-unique, cross-in-unique (Poly)
 --   poly_factors   squarefree, coprime: squarefree-unique, coprime-unique; gcd, up to a constant: gcd-unique (Poly)
+--   poly_sums      gather, settle serve `mix_in` and `both_in` alone: mix-in-unique, both-in-unique are of the whole
 --   poly_lent      mix_in, both_in, times_in, det_in: mix-in-unique, both-in-unique, times-in-unique, det-in-unique (Sized)
 --   poly_divide    quotient_in, less_in, divide_in: quotient-in-unique, less-in-unique, divide-in-unique (Sized)
 --   poly_content   without_content, up to a constant: taken-off-unique (Lattice)
 --   poly_long      size: size-unique (Poly); scale: scale-unique (Long)
---   poly_products  mix, times: mix-unique, times-unique; quotient, where there is one that fits: quotient-unique (Long)
+--   poly_mix       mix: mix-unique (Long)
+--   poly_products  times: times-unique (Long)
+--   poly_quotient  quotient, where there is one that fits: quotient-unique (Long)
 --   field_open     list_length: list-unique (base_lists/proofs/Coefs); refusal: refusal-unique (field_open/proofs/Stages); open:
 --                  opens-unique (field_open/proofs/Opening)
 --   field_factors  both_free: free-unique (field_factors/proofs/Tests)
@@ -22,7 +26,8 @@
 --   pair_rows      exchange, multiplied: exchanged-unique, multiplied-unique (door_transfer/proofs/Inner)
 --   pair_carry     carry, carry_swapped: carried-unique, carried-swapped-unique (door_transfer/proofs/Inner)
 --   basis_record   load, stored: load-unique, stored-unique (Bases)
---   basis_parts    floor, floor_in: part-unique; top_of: top-of-unique; lead_of: lead-of-unique (Reduction)
+--   basis_parts    floor, floor_in: part-unique (Reduction); digit serves `floor_in` and `top_of` alone: the theorems are theirs
+--   basis_top      top_of: top-of-unique; lead_of: lead-of-unique (Reduction)
 --   basis_clear    canceled, clear_y serve `reduced` alone: reduced-unique is of the whole
 --   basis_reduce   reduced, up to constants and the order of its elements: reduced-unique (Reduction)
 --   basis_store    factors_of, filled serve `reduced_basis` alone: reduced-basis-unique is of the whole

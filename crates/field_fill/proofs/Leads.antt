@@ -10,7 +10,8 @@ use Rattle.math_fp.proofs.Ring.{mul-mod-mod, mod-mul-mod}
 use Rattle.math_fp.proofs.Field.{ppos}
 use Rattle.math_rows.specs.Made.{reading}
 use Rattle.math_rows.proofs.Numbers.{product-some}
-use Rattle.num_mod.specs.Residue.{IsModulus, Nonzero, Inverse, CubeRoot}
+use Rattle.num_mod.specs.Residue.{IsModulus}
+use Rattle.num_power.specs.Powers.{Nonzero, Inverse, CubeRoot}
 use Rattle.field_fill.specs.Fill.{Leads, LeadRoot, ThriceInverse}
 
 pub modulus-of : {p g h : ℕ} → Leads p g h → IsModulus p

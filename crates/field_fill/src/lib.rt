@@ -129,7 +129,7 @@ fn lead_root(p: u64, g: u64, h: u64) -> u64
     requires { ⌜ Leads p g h ⌝ }
     ensures { λ c. ⌜ LeadRoot p g h c ⌝ }
 {
-    num_mod::cube_root(p, num_mod::mul(p, g, num_mod::mul(p, h, h)))
+    num_power::cube_root(p, num_power::mul(p, g, num_power::mul(p, h, h)))
 }
 
 // The inverse of 3 c².
@@ -137,7 +137,7 @@ fn thrice_inverse(p: u64, c: u64) -> u64
     requires { ⌜ Leads p c c ⌝ }
     ensures { λ u. ⌜ ThriceInverse p c u ⌝ }
 {
-    num_mod::inverse(p, num_mod::mul(p, 3, num_mod::mul(p, c, c)))
+    num_power::inverse(p, num_power::mul(p, 3, num_power::mul(p, c, c)))
 }
 
 // Both lists of an accepted field.

@@ -2,8 +2,7 @@
 // 2^16 cost a multiplication in place of a division. specs/Prepared.antt and specs/Residue.antt have the contracts.
 ghost use mathlib.Core.Path.{_≡_};
 ghost use Prim.Native.Nat.{_+_, _*_, _-_, _%_, _<_, _≤_};
-ghost use Rattle.math_fp.specs.Fp.{powMod};
-ghost use Rattle.num_mod.specs.Residue.{IsModulus, One, Two, Nonzero, Rooted, Inverse, CubeRoot};
+ghost use Rattle.num_mod.specs.Residue.{IsModulus};
 ghost use Rattle.num_mod.specs.Prepared.{Scale, Quick, Prepared, PreparedOf, ReduceOnceAsks, AddProductAsks, Added};
 
 // A modulus p with what its remainders need: below lim, one multiplication by m finds a remainder.
@@ -71,45 +70,4 @@ pub fn add_product(p: u64, s: u64, x: u64, y: u64) -> u64
 {
     let v = s + x * y;
     if v < 9223372036854775808 { v } else { v % p }
-}
-
-pub fn mul(p: u64, a: u64, b: u64) -> u64
-    requires { ⌜ Two p a b ⌝ }
-    ensures { λ r. ⌜ r ≡ (a * b) % p ⌝ }
-{
-    a * b % p
-}
-
-// a^e by squaring: r b^n is a^e mod p throughout.
-pub fn power(p: u64, a: u64, e: u64) -> u64
-    requires { ⌜ One p a ⌝ }
-    ensures { λ r. ⌜ r ≡ powMod p a e ⌝ }
-{
-    let mut r: u64 = 1;
-    let mut b = a;
-    let mut n = e;
-    while n > 0 {
-        if n % 2 == 1 {
-            r = mul(p, r, b);
-        }
-        b = mul(p, b, b);
-        n = n / 2;
-    }
-    r
-}
-
-// By Fermat: a · a^(p - 2) = 1.
-pub fn inverse(p: u64, a: u64) -> u64
-    requires { ⌜ Nonzero p a ⌝ }
-    ensures { λ r. ⌜ Inverse p a r ⌝ }
-{
-    power(p, a, p - 2)
-}
-
-// The one cube root, for p mod 3 = 2.
-pub fn cube_root(p: u64, a: u64) -> u64
-    requires { ⌜ Rooted p a ⌝ }
-    ensures { λ r. ⌜ CubeRoot p a r ⌝ }
-{
-    power(p, a, (2 * p - 1) / 3)
 }

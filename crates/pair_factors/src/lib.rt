@@ -1,7 +1,7 @@
 // The factors by which the rows of a unit carry over from one pair to another pair of the same field. specs/Code.antt says what is asked.
-use num_mod::cube_root;
-use num_mod::inverse;
-use num_mod::mul;
+use num_power::cube_root;
+use num_power::inverse;
+use num_power::mul;
 ghost use Rattle.pair_agree.specs.Rows.{Law};
 ghost use Rattle.pair_factors.specs.Code.{FactorsAsks};
 

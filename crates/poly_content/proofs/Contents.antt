@@ -19,7 +19,7 @@ use Rattle.math_valued.proofs.Divide.{p-cancel}
 use Rattle.math_valued.proofs.Gcds.{divides-trans}
 use Rattle.math_valued.proofs.Polynomial.{P-path}
 use Rattle.math_valued.proofs.Coprime.{gcd-greatest, zero-divides}
-use Rattle.num_mod.specs.Residue.{Nonzero, Inverse}
+use Rattle.num_power.specs.Powers.{Nonzero, Inverse}
 use Rattle.math_rows.specs.Made.{reading}
 use Rattle.math_rows.specs.Row.{Row, Size, row}
 use Rattle.math_rows.proofs.Rows.{size-has}

@@ -1,6 +1,6 @@
 // Four polynomials and their determinant without what the four have in common, in place.
 use num_mod::Modulus;
-use num_mod::inverse;
+use num_power::inverse;
 use poly_divide::quotient_in;
 use poly_factors::gcd;
 use poly_lent::det_in;

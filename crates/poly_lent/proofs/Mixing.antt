@@ -23,9 +23,9 @@ use Rattle.math_rows.proofs.Tab.{zeros-at}
 use Rattle.math_rows.proofs.Floors.{zero-row}
 use Rattle.poly_rows.specs.Leaf.{Cut, Product}
 use Rattle.poly_rows.proofs.Leaf.{zeros-row, zeros-size}
-use Rattle.poly_lent.specs.Sized.{signOf, MixAsks, Mixed, BothInAsks, BothInGives, TimesInAsks, DetInAsks, DetInGives}
-use Rattle.poly_lent.specs.Sums.{GatherAsks, Gathered, SettleAsks, Settled, Reach}
-use Rattle.poly_lent.proofs.Sums.{loose-row}
+use Rattle.poly_sums.specs.Sums.{signOf, GatherAsks, Gathered, SettleAsks, Settled}
+use Rattle.poly_sums.proofs.Sums.{loose-row}
+use Rattle.poly_lent.specs.Sized.{Reach, MixAsks, Mixed, BothInAsks, BothInGives, TimesInAsks, DetInAsks, DetInGives}
 
 -- a row ends before its length
 pub size-cut : {p : ℕ} {x : List ℕ} {n : ℕ} → Row p x → Size x n → Cut x n

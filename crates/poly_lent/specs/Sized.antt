@@ -1,28 +1,33 @@
 -- Products into lent rows, by known lengths (`Size` of crate math_rows), over a prime p.
---   signOf k e z   z, or − z where e is true
+--   reach          Reach: a place past two products
 --   mix_in         Mixed: r ± x y, with r left as it was past the product
 --   both_in        BothInGives: r ± x y ± z v and its length
 --   times_in       TimesInGives: x y (`Product` of crate poly_rows) and its length
 --   det_in         DetInGives: x y − z v and its length
 use mathlib.Core.Path.{_≡_}
-use mathlib.Core.Bool.{Bool, true, false}
+use mathlib.Core.Bool.{Bool}
 use mathlib.Core.List.{List}
 use Prim.Native.Nat.{ℕ, _+_, _≤_}
 use lib.ListN.{getD, replicate}
 use Rattle.math_ring.specs.Ring.{Ops, CRing}
 use Rattle.math_fp.specs.Fp.{Prime}
 use Rattle.math_valued.specs.Val.{Valued}
-use Rattle.num_mod.specs.Residue.{IsModulus}
 use Rattle.math_rows.specs.Reading.{Reading}
 use Rattle.math_rows.specs.Made.{reading}
 use Rattle.math_rows.specs.Row.{Row, Size, row}
 use Rattle.poly_rows.specs.Leaf.{Cut, Product}
 use Rattle.num_mod.specs.Prepared.{Prepared}
 use Rattle.num_mod.specs.declared.Modulus.{Modulus}
+use Rattle.poly_sums.specs.Sums.{signOf}
 
-abbrev pub signOf : {A : Type 0} → Ops A → Bool → A → A
-signOf o true z = o .neg z
-signOf o false z = z
+pub record ReachAsks (a b : ℕ) : Type 0 where
+  pub fit-a : a ≤ 33
+  pub fit-b : b ≤ 33
+
+pub record Reach (a b r : ℕ) : Type 0 where
+  pub fits : r ≤ 32
+  pub past-a : a ≤ r + 1
+  pub past-b : b ≤ r + 1
 
 pub record MixAsks (q : Modulus) (x : List ℕ) (n : ℕ) (y : List ℕ) (m : ℕ) (r : List ℕ) : Type 0 where
   pub modulus : Prepared q

@@ -1,3 +1,1 @@
-pub mod Sums
-pub mod Mixing
-pub mod Division
+pub mod Timed

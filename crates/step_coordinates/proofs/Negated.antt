@@ -10,7 +10,7 @@ use lib.Seq.{ext-getD}
 use Rattle.math_rows.specs.Row.{tab}
 use Rattle.math_rows.proofs.Tab.{at-tab, length-tab}
 use Rattle.poly_rows.proofs.Leaf.{opposite}
-use Rattle.poly_lent.proofs.Sums.{Over}
+use Rattle.poly_sums.proofs.Sums.{Over}
 use Rattle.step_coordinates.specs.Turns.{NegateAsks, Negated}
 
 module _ {p : ℕ} {x : List ℕ} {n : ℕ} (h : NegateAsks p x n) where

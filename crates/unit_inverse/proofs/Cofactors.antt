@@ -12,7 +12,7 @@ use Rattle.math_rows.specs.Made.{reading}
 use Rattle.math_rows.specs.Row.{row, tpow}
 use Rattle.math_rows.proofs.Rows.{row-poly}
 use Rattle.poly_long.specs.Long.{Low}
-use Rattle.poly_products.specs.Products.{MixAsks, Mixed}
+use Rattle.poly_mix.specs.Mixing.{MixAsks, Mixed}
 use Rattle.poly_long.proofs.Low.{low-mix, alone}
 use Rattle.base_lists.specs.Pieces.{cut, between}
 use Rattle.base_lists.proofs.Pieces.{between-length, between-cut, cut-same}

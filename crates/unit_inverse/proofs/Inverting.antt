@@ -19,7 +19,7 @@ use Rattle.math_rows.specs.Row.{tab, row, psum, tpow}
 use Rattle.math_rows.proofs.Tab.{length-tab, at-tab}
 use Rattle.math_rows.proofs.Rows.{cast-sub, const-neg}
 use Rattle.math_rows.proofs.Unique.{const-inj}
-use Rattle.num_mod.specs.Residue.{Inverse, Nonzero}
+use Rattle.num_power.specs.Powers.{Inverse, Nonzero}
 use Rattle.poly_long.specs.Long.{Low, Scaled}
 use Rattle.poly_long.proofs.Low.{low-unique, scale-law}
 use Rattle.base_lists.specs.Pieces.{cut, between}

@@ -1,9 +1,9 @@
 // The rows F0, F1, F2 of the inverse, after those of E in the lent slice of crate unit_rows.
 use base_lists::wide;
-use num_mod::inverse;
+use num_power::inverse;
 use poly_long::clear;
 use poly_long::scale;
-use poly_products::mix;
+use poly_mix::mix;
 ghost use Rattle.unit_inverse.specs.Inverse.{PairAsks, Pair, CofactorAsks, Cofactor, NormAsks, Norm, InvertAsks, Inverted};
 
 // The low k coefficients of the products of the rows at x and y and of those at v and w, one after the other.

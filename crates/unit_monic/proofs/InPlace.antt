@@ -6,7 +6,7 @@ use Prim.Native.Nat.{ℕ, _+_, _*_, _-_, _%_, _<_, _≤_}
 use native.Mathlib.Omega.{arith}
 use lib.ListN.{length, getD, take, drop}
 use lib.Seq.{getD-take, getD-drop}
-use Rattle.num_mod.specs.Residue.{Inverse, Nonzero}
+use Rattle.num_power.specs.Powers.{Inverse, Nonzero}
 use Rattle.poly_long.specs.Long.{Scaled}
 use Rattle.base_lists.specs.Pieces.{between}
 use Rattle.base_lists.proofs.Pieces.{between-length}

@@ -1,6 +1,6 @@
 // The rows of E scaled. specs/Monic.antt says what is asked and done.
 use base_lists::wide;
-use num_mod::inverse;
+use num_power::inverse;
 use poly_long::scale;
 ghost use Rattle.unit_monic.specs.Monic.{MonicAsks, MonicMade};
 

@@ -14,8 +14,9 @@ use Rattle.math_rows.specs.Row.{row}
 use Rattle.math_rows.proofs.Rows.{const-neg, cast-sub}
 use Rattle.math_rows.proofs.Unique.{list-unique}
 use Rattle.poly_long.specs.Long.{Scaled}
-use Rattle.poly_products.specs.Products.{Mixed, Times}
-use Rattle.poly_products.proofs.Mixing.{whole}
+use Rattle.poly_mix.specs.Mixing.{Mixed}
+use Rattle.poly_mix.proofs.Mixing.{whole}
+use Rattle.poly_products.specs.Products.{Times}
 use Rattle.unit_norm.specs.Code.{SquareAsks, Square, CubesAsks, Cubes, cubesOf, NormAsks, Norm}
 
 -- the remainder p − 3 stands for −3

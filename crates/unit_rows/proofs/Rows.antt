@@ -9,7 +9,7 @@ use Rattle.math_rows.specs.Reading.{Reading}
 use Rattle.math_rows.specs.Made.{reading}
 use Rattle.math_rows.specs.Row.{row, Size}
 use Rattle.math_rows.proofs.Unique.{list-exists}
-use Rattle.poly_products.specs.Products.{QuotientAsks, Quotient}
+use Rattle.poly_quotient.specs.Quotients.{QuotientAsks, Quotient}
 use Rattle.base_lists.specs.Pieces.{cut, between}
 use Rattle.unit_rows.specs.Six.{CoordinateAsks, Coordinate}
 use Rattle.base_lists.proofs.Pieces.{between-length, between-cut}

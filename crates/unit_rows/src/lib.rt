@@ -2,7 +2,7 @@
 use poly_long::clear;
 use poly_long::copy;
 use poly_long::size;
-use poly_products::quotient;
+use poly_quotient::quotient;
 ghost use mathlib.Core.Path.{_≡_};
 ghost use Rattle.unit_rows.specs.Six.{ByAsks, By, CoordinateAsks, Coordinate, TimesAsks, Times, MultiplyByMAsks, Turn};
 ghost use lib.ListN.{length, replicate};

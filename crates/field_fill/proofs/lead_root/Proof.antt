@@ -5,14 +5,14 @@ use native.Mathlib.Nat.{mod-lt}
 use native.Mathlib.Omega.{arith}
 use borrow.Author.Needs.{needs}
 use Rattle.math_fp.proofs.Field.{ppos}
-use Rattle.num_mod.specs.Residue.{CubeRoot}
+use Rattle.num_power.specs.Powers.{CubeRoot}
 use Rattle.field_fill.proofs.Leads.{modulus-of, lead-root-is}
 use Rattle.field_fill.proofs.lead_root.Statement.{statement}
 use Rattle.field_fill.proofs.lead_root.Tie as tie
 use Rattle.field_fill.proofs.lead_root.Reads as reads
 use Rattle.field_fill.proofs.lead_root.Lts as lts
-use Rattle.num_mod.proofs.cube_root.Reads as cube-root-reads
-use Rattle.num_mod.proofs.mul.Reads as mul-reads
+use Rattle.num_power.proofs.cube_root.Reads as cube-root-reads
+use Rattle.num_power.proofs.mul.Reads as mul-reads
 
 mul-requires : tie.Need-mul-requires
 mul-requires c κs = record { modulus = modulus-of (c .pre); left = c .pre .h-below; right = c .pre .h-below }

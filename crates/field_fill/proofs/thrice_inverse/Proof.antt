@@ -5,14 +5,14 @@ use native.Mathlib.Nat.{mod-lt}
 use native.Mathlib.Omega.{arith}
 use borrow.Author.Needs.{needs}
 use Rattle.math_fp.proofs.Field.{ppos}
-use Rattle.num_mod.specs.Residue.{Nonzero, Inverse}
+use Rattle.num_power.specs.Powers.{Nonzero, Inverse}
 use Rattle.field_fill.proofs.Leads.{modulus-of, thrice-some, thrice-inverse-is}
 use Rattle.field_fill.proofs.thrice_inverse.Statement.{statement}
 use Rattle.field_fill.proofs.thrice_inverse.Tie as tie
 use Rattle.field_fill.proofs.thrice_inverse.Reads as reads
 use Rattle.field_fill.proofs.thrice_inverse.Lts as lts
-use Rattle.num_mod.proofs.inverse.Reads as inverse-reads
-use Rattle.num_mod.proofs.mul.Reads as mul-reads
+use Rattle.num_power.proofs.inverse.Reads as inverse-reads
+use Rattle.num_power.proofs.mul.Reads as mul-reads
 
 mul-requires : tie.Need-mul-requires
 mul-requires c κs = record { modulus = modulus-of (c .pre); left = c .pre .h-below; right = c .pre .h-below }

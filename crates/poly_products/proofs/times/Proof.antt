@@ -1,5 +1,5 @@
 -- `poly_products::times` meets its contract.
-use Rattle.poly_products.proofs.Mixing.{timed}
+use Rattle.poly_products.proofs.Timed.{timed}
 use borrow.Author.Needs.{needs}
 use Rattle.poly_products.proofs.times.Statement.{statement}
 use Rattle.poly_products.proofs.times.Tie as tie

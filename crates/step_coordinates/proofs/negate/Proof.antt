@@ -4,7 +4,7 @@ use mathlib.Core.Path.{_≡_, ap, _∙_}
 use native.Mathlib.Omega.{arith}
 use borrow.Author.Needs.{needs}
 use lib.ListN.{getD}
-use Rattle.poly_lent.proofs.Sums.{Over, over-start, over-more}
+use Rattle.poly_sums.proofs.Sums.{Over, over-start, over-more}
 use Rattle.step_coordinates.proofs.Negated.{negated}
 use Rattle.step_coordinates.proofs.negate.Statement.{statement}
 use Rattle.step_coordinates.proofs.negate.Tie as tie

@@ -11,7 +11,7 @@ use Rattle.unit_inverse.proofs.cofactor.Statement.{statement}
 use Rattle.unit_inverse.proofs.cofactor.Tie as tie
 use Rattle.unit_inverse.proofs.cofactor.Reads as reads
 use Rattle.unit_inverse.proofs.cofactor.Lts as lts
-use Rattle.poly_products.proofs.mix.Reads as mix-reads
+use Rattle.poly_mix.proofs.mix.Reads as mix-reads
 use Rattle.unit_inverse.proofs.pair.Reads as pair-reads
 
 pair-requires : tie.Need-pair-requires

@@ -14,7 +14,7 @@ use Rattle.unit_inverse.proofs.invert.Reads as reads
 use Rattle.unit_inverse.proofs.invert.Lts as lts
 use Rattle.poly_long.proofs.clear.Reads as clear-reads
 use Rattle.poly_long.proofs.scale.Reads as scale-reads
-use Rattle.num_mod.proofs.inverse.Reads as inverse-reads
+use Rattle.num_power.proofs.inverse.Reads as inverse-reads
 use Rattle.unit_inverse.proofs.cofactor.Reads as cofactor-reads
 use Rattle.unit_inverse.proofs.norm.Reads as norm-reads
 

@@ -11,7 +11,7 @@ use Rattle.unit_inverse.proofs.norm.Statement.{statement}
 use Rattle.unit_inverse.proofs.norm.Tie as tie
 use Rattle.unit_inverse.proofs.norm.Reads as reads
 use Rattle.unit_inverse.proofs.norm.Lts as lts
-use Rattle.poly_products.proofs.mix.Reads as mix-reads
+use Rattle.poly_mix.proofs.mix.Reads as mix-reads
 use Rattle.base_lists.proofs.wide.Reads as wide-reads
 
 add-c2 : tie.Need-add-c2

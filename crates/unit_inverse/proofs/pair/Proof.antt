@@ -11,7 +11,7 @@ use Rattle.unit_inverse.proofs.pair.Statement.{statement}
 use Rattle.unit_inverse.proofs.pair.Tie as tie
 use Rattle.unit_inverse.proofs.pair.Reads as reads
 use Rattle.unit_inverse.proofs.pair.Lts as lts
-use Rattle.poly_products.proofs.mix.Reads as mix-reads
+use Rattle.poly_mix.proofs.mix.Reads as mix-reads
 
 add-x2 : tie.Need-add-x2
 add-x2 c = search needs

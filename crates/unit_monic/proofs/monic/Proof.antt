@@ -12,7 +12,7 @@ use Rattle.unit_monic.proofs.monic.Tie as tie
 use Rattle.unit_monic.proofs.monic.Reads as reads
 use Rattle.unit_monic.proofs.monic.Lts as lts
 use Rattle.poly_long.proofs.scale.Reads as scale-reads
-use Rattle.num_mod.proofs.inverse.Reads as inverse-reads
+use Rattle.num_power.proofs.inverse.Reads as inverse-reads
 use Rattle.base_lists.proofs.wide.Reads as wide-reads
 
 sub-wide : tie.Need-sub-wide

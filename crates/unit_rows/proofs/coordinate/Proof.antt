@@ -11,7 +11,7 @@ use Rattle.unit_rows.proofs.coordinate.Statement.{statement}
 use Rattle.unit_rows.proofs.coordinate.Tie as tie
 use Rattle.unit_rows.proofs.coordinate.Reads as reads
 use Rattle.unit_rows.proofs.coordinate.Lts as lts
-use Rattle.poly_products.proofs.quotient.Reads as quotient-reads
+use Rattle.poly_quotient.proofs.quotient.Reads as quotient-reads
 use Rattle.poly_long.proofs.size.Reads as size-reads
 
 size-requires : tie.Need-size-requires
