@@ -1,47 +1,41 @@
--- `basis_accept::no_common_factor` meets its contract: the length of a greatest common divisor of the seven.
+-- `basis_coprime::no_common_factor` meets its contract: the length of a greatest common divisor of the seven.
 use native.Mathlib.Omega.{arith}
 use borrow.Author.Needs.{needs}
-use Rattle.basis_accept.proofs.Sevens.{alone-yes, alone-no}
-use Rattle.basis_accept.proofs.no_common_factor.Statement.{statement}
-use Rattle.basis_accept.proofs.no_common_factor.Tie as tie
-use Rattle.basis_accept.proofs.no_common_factor.Reads as reads
-use Rattle.basis_accept.proofs.no_common_factor.Lts as lts
+use Rattle.basis_coprime.proofs.Coprime.{alone-yes, alone-no}
+use Rattle.basis_coprime.proofs.no_common_factor.Statement.{statement}
+use Rattle.basis_coprime.proofs.no_common_factor.Tie as tie
+use Rattle.basis_coprime.proofs.no_common_factor.Reads as reads
+use Rattle.basis_coprime.proofs.no_common_factor.Lts as lts
 
 gcd-requires : tie.Need-gcd-requires
 gcd-requires c κs =
     let i = c .pre in
-    let r = i .rows in
-    record { modulus = i .modulus; prime = i .prime; hx = i .rows 6; hy = search (r 0, r 1, r 2, r 3, r 4, r 5) }
+    record { modulus = i .modulus; prime = i .prime; hx = i .hu; hy = search (i .h0, i .h1, i .h2, i .k0, i .k1, i .k2) }
 
 gcd-requires-2 : tie.Need-gcd-requires-2
 gcd-requires-2 c κs =
     let i = c .before .before .pre in
-    let r = i .rows in
-    record { modulus = i .modulus; prime = i .prime; hx = c .before .gcd .ensures .is-row; hy = search (r 0, r 1, r 2, r 3, r 4, r 5) }
+    record { modulus = i .modulus; prime = i .prime; hx = c .before .gcd .ensures .is-row; hy = search (i .h0, i .h1, i .h2, i .k0, i .k1, i .k2) }
 
 gcd-requires-3 : tie.Need-gcd-requires-3
 gcd-requires-3 c κs =
     let i = c .before .before .before .before .pre in
-    let r = i .rows in
-    record { modulus = i .modulus; prime = i .prime; hx = c .before .gcd2 .ensures .is-row; hy = search (r 0, r 1, r 2, r 3, r 4, r 5) }
+    record { modulus = i .modulus; prime = i .prime; hx = c .before .gcd2 .ensures .is-row; hy = search (i .h0, i .h1, i .h2, i .k0, i .k1, i .k2) }
 
 gcd-requires-4 : tie.Need-gcd-requires-4
 gcd-requires-4 c κs =
     let i = c .before .before .before .before .before .before .pre in
-    let r = i .rows in
-    record { modulus = i .modulus; prime = i .prime; hx = c .before .gcd3 .ensures .is-row; hy = search (r 0, r 1, r 2, r 3, r 4, r 5) }
+    record { modulus = i .modulus; prime = i .prime; hx = c .before .gcd3 .ensures .is-row; hy = search (i .h0, i .h1, i .h2, i .k0, i .k1, i .k2) }
 
 gcd-requires-5 : tie.Need-gcd-requires-5
 gcd-requires-5 c κs =
     let i = c .before .before .before .before .before .before .before .before .pre in
-    let r = i .rows in
-    record { modulus = i .modulus; prime = i .prime; hx = c .before .gcd4 .ensures .is-row; hy = search (r 0, r 1, r 2, r 3, r 4, r 5) }
+    record { modulus = i .modulus; prime = i .prime; hx = c .before .gcd4 .ensures .is-row; hy = search (i .h0, i .h1, i .h2, i .k0, i .k1, i .k2) }
 
 gcd-requires-6 : tie.Need-gcd-requires-6
 gcd-requires-6 c κs =
     let i = c .before .before .before .before .before .before .before .before .before .before .pre in
-    let r = i .rows in
-    record { modulus = i .modulus; prime = i .prime; hx = c .before .gcd5 .ensures .is-row; hy = search (r 0, r 1, r 2, r 3, r 4, r 5) }
+    record { modulus = i .modulus; prime = i .prime; hx = c .before .gcd5 .ensures .is-row; hy = search (i .h0, i .h1, i .h2, i .k0, i .k1, i .k2) }
 
 size-requires : tie.Need-size-requires
 size-requires c κs = search needs
