@@ -6,16 +6,17 @@ use lib.Seq.{getD-set-same}
 use lib.ListN.{length, length-set}
 use borrow.Author.Needs.{needs}
 use Rattle.field_roots.specs.SeriesOf.{entry}
-use Rattle.field_fill.specs.Fill.{Filled, Filling, Filler, Made}
+use Rattle.field_next.specs.Next.{Filled, Filling}
+use Rattle.field_fill.specs.Fill.{Filler, Made}
 use Rattle.field_fill.proofs.Filling.{started, made-none}
-use Rattle.field_fill.proofs.Step.{w-first}
+use Rattle.field_next.proofs.Step.{w-first}
 use Rattle.field_fill.proofs.fill.Statement.{statement}
 use Rattle.field_fill.proofs.fill.Tie as tie
 use Rattle.field_fill.proofs.fill.Reads as reads
 use Rattle.field_fill.proofs.fill.Lts as lts
-use Rattle.field_fill.proofs.coefficient.Reads as coefficient-reads
+use Rattle.field_next.proofs.coefficient.Reads as coefficient-reads
 use Rattle.field_fill.proofs.first_w.Reads as first-w-reads
-use Rattle.field_fill.proofs.next_pair.Reads as next-pair-reads
+use Rattle.field_next.proofs.next_pair.Reads as next-pair-reads
 
 abbrev Inv-loop : tie.InvT-loop
 Inv-loop p g h c u r₀ w₀ x i₀ r w i = (length r ≡ length r₀) × (length w ≡ length r) × (0 < i) × (i ≤ length r) × (entry r 0 ≡ c) × Filled p g h r w i

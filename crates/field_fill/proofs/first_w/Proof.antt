@@ -3,7 +3,7 @@ use Prim.Native.Nat.{ℕ, _≤_, _<_, _*_, _%_}
 use native.Mathlib.Nat.{mod-lt}
 use native.Mathlib.Omega.{arith}
 use borrow.Author.Needs.{needs}
-use Rattle.field_fill.proofs.Sums.{product-small}
+use Rattle.field_next.proofs.Sums.{product-small}
 use Rattle.field_fill.proofs.first_w.Statement.{statement}
 use Rattle.field_fill.proofs.first_w.Tie as tie
 use Rattle.field_fill.proofs.first_w.Reads as reads

@@ -1,13 +1,13 @@
--- `field_fill::next_r` meets its contract.
+-- `field_next::next_r` meets its contract.
 use Prim.Native.Nat.{ℕ, _≤_, _<_, _-_, _*_, _+_, _%_}
 use native.Mathlib.Nat.{mod-lt}
 use native.Mathlib.Omega.{arith}
 use borrow.Author.Needs.{needs}
-use Rattle.field_fill.proofs.Sums.{product-small}
-use Rattle.field_fill.proofs.next_r.Statement.{statement}
-use Rattle.field_fill.proofs.next_r.Tie as tie
-use Rattle.field_fill.proofs.next_r.Reads as reads
-use Rattle.field_fill.proofs.next_r.Lts as lts
+use Rattle.field_next.proofs.Sums.{product-small}
+use Rattle.field_next.proofs.next_r.Statement.{statement}
+use Rattle.field_next.proofs.next_r.Tie as tie
+use Rattle.field_next.proofs.next_r.Reads as reads
+use Rattle.field_next.proofs.next_r.Lts as lts
 
 one : (c : lts.Start reads.Pre reads.Post) → c .args .h * c .args .x ≤ 4294836225
 one c = product-small (c .args .h) (c .args .x) (c .pre .h-stored) (omega (arith, c .pre))

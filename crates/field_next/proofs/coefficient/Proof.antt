@@ -1,4 +1,4 @@
--- `field_fill::coefficient` meets its contract.
+-- `field_next::coefficient` meets its contract.
 use Prim.Native.Nat.{ℕ, zero, suc, _≤_, _<_, _-_, _*_, _+_, _%_}
 use mathlib.Core.Path.{_≡_, _∙_, sym, ap, refl, subst}
 use mathlib.Core.List.{List, [], _∷_, _++_}
@@ -6,10 +6,10 @@ use native.Mathlib.Omega.{arith}
 use native.Mathlib.Numerals.{add-one}
 use lib.ListN.{length, length-set, getD, List·getD-eq-default}
 use borrow.Author.Needs.{needs}
-use Rattle.field_fill.proofs.coefficient.Statement.{statement}
-use Rattle.field_fill.proofs.coefficient.Tie as tie
-use Rattle.field_fill.proofs.coefficient.Reads as reads
-use Rattle.field_fill.proofs.coefficient.Lts as lts
+use Rattle.field_next.proofs.coefficient.Statement.{statement}
+use Rattle.field_next.proofs.coefficient.Tie as tie
+use Rattle.field_next.proofs.coefficient.Reads as reads
+use Rattle.field_next.proofs.coefficient.Lts as lts
 use Rattle.base_lists.proofs.wide.Reads as wide-reads
 
 mul-wide : tie.Need-mul-wide

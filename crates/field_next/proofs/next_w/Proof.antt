@@ -1,13 +1,13 @@
--- `field_fill::next_w` meets its contract.
+-- `field_next::next_w` meets its contract.
 use Prim.Native.Nat.{ℕ, _≤_, _<_, _-_, _*_, _+_, _%_}
 use native.Mathlib.Nat.{mod-lt}
 use native.Mathlib.Omega.{arith}
 use borrow.Author.Needs.{needs}
-use Rattle.field_fill.proofs.Sums.{product-small}
-use Rattle.field_fill.proofs.next_w.Statement.{statement}
-use Rattle.field_fill.proofs.next_w.Tie as tie
-use Rattle.field_fill.proofs.next_w.Reads as reads
-use Rattle.field_fill.proofs.next_w.Lts as lts
+use Rattle.field_next.proofs.Sums.{product-small}
+use Rattle.field_next.proofs.next_w.Statement.{statement}
+use Rattle.field_next.proofs.next_w.Tie as tie
+use Rattle.field_next.proofs.next_w.Reads as reads
+use Rattle.field_next.proofs.next_w.Lts as lts
 
 one : (c : lts.Start reads.Pre reads.Post) → c .args .a * c .args .x ≤ 4294836225
 one c = product-small (c .args .a) (c .args .x) (c .pre .a-stored) (omega (arith, c .pre))

@@ -1,12 +1,12 @@
--- `field_fill::lack` meets its contract.
+-- `field_next::lack` meets its contract.
 use Prim.Native.Nat.{ℕ, _≤_, _<_, _-_, _*_, _+_, _%_}
 use native.Mathlib.Nat.{mod-lt}
 use native.Mathlib.Omega.{arith}
 use borrow.Author.Needs.{needs}
-use Rattle.field_fill.proofs.lack.Statement.{statement}
-use Rattle.field_fill.proofs.lack.Tie as tie
-use Rattle.field_fill.proofs.lack.Reads as reads
-use Rattle.field_fill.proofs.lack.Lts as lts
+use Rattle.field_next.proofs.lack.Statement.{statement}
+use Rattle.field_next.proofs.lack.Tie as tie
+use Rattle.field_next.proofs.lack.Reads as reads
+use Rattle.field_next.proofs.lack.Lts as lts
 
 sub-result : tie.Need-sub-result
 sub-result c = search needs

@@ -1,21 +1,21 @@
--- `field_fill::next_pair` meets its contract: `turned` of proofs/Filling.antt, at what the calls hand out.
+-- `field_next::next_pair` meets its contract: `turned` of proofs/Turns.antt, at what the calls hand out.
 use Prim.Native.Nat.{ℕ, _<_}
 use mathlib.Core.Path.{_≡_, _∙_, ap₂}
 use native.Mathlib.Omega.{arith}
 use lib.ListN.{length, length-set, set}
 use borrow.Author.Needs.{needs}
 use Rattle.field_roots.specs.SeriesOf.{entry}
-use Rattle.field_fill.specs.Fill.{Filling}
-use Rattle.field_fill.proofs.Step.{r-next, w-next}
-use Rattle.field_fill.proofs.Filling.{short-a, short-b, turned}
-use Rattle.field_fill.proofs.next_pair.Statement.{statement}
-use Rattle.field_fill.proofs.next_pair.Tie as tie
-use Rattle.field_fill.proofs.next_pair.Reads as reads
-use Rattle.field_fill.proofs.next_pair.Lts as lts
-use Rattle.field_fill.proofs.coefficient.Reads as coefficient-reads
-use Rattle.field_fill.proofs.next_r.Reads as next-r-reads
-use Rattle.field_fill.proofs.next_w.Reads as next-w-reads
-use Rattle.field_fill.proofs.shortfall.Reads as shortfall-reads
+use Rattle.field_next.specs.Next.{Filling}
+use Rattle.field_next.proofs.Step.{r-next, w-next}
+use Rattle.field_next.proofs.Turns.{short-a, short-b, turned}
+use Rattle.field_next.proofs.next_pair.Statement.{statement}
+use Rattle.field_next.proofs.next_pair.Tie as tie
+use Rattle.field_next.proofs.next_pair.Reads as reads
+use Rattle.field_next.proofs.next_pair.Lts as lts
+use Rattle.field_next.proofs.coefficient.Reads as coefficient-reads
+use Rattle.field_next.proofs.next_r.Reads as next-r-reads
+use Rattle.field_next.proofs.next_w.Reads as next-w-reads
+use Rattle.field_next.proofs.shortfall.Reads as shortfall-reads
 
 mul-r : tie.Need-mul-r
 mul-r c = search needs

@@ -1,13 +1,13 @@
--- `field_fill::shortfall` meets its contract.
+-- `field_next::shortfall` meets its contract.
 use Prim.Native.Nat.{ℕ, _-_, _+_, _%_}
 use mathlib.Core.Path.{_≡_, _∙_, ap₂}
 use borrow.Author.Needs.{needs}
-use Rattle.field_fill.proofs.shortfall.Statement.{statement}
-use Rattle.field_fill.proofs.shortfall.Tie as tie
-use Rattle.field_fill.proofs.shortfall.Reads as reads
-use Rattle.field_fill.proofs.shortfall.Lts as lts
-use Rattle.field_fill.proofs.lack.Reads as lack-reads
-use Rattle.field_fill.proofs.product_at.Reads as product-at-reads
+use Rattle.field_next.proofs.shortfall.Statement.{statement}
+use Rattle.field_next.proofs.shortfall.Tie as tie
+use Rattle.field_next.proofs.shortfall.Reads as reads
+use Rattle.field_next.proofs.shortfall.Lts as lts
+use Rattle.field_next.proofs.lack.Reads as lack-reads
+use Rattle.field_next.proofs.product_at.Reads as product-at-reads
 
 product-at-requires : tie.Need-product-at-requires
 product-at-requires c κs = search needs

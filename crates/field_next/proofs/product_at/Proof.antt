@@ -1,4 +1,4 @@
--- `field_fill::product_at` meets its contract. The loop's invariant: the sum of the products passed; past the end of the first list there are none.
+-- `field_next::product_at` meets its contract. The loop's invariant: the sum of the products passed; past the end of the first list there are none.
 use Prim.Native.Nat.{ℕ, zero, suc, _≤_, _<_, _-_, _*_, _+_, _%_}
 use mathlib.Core.Path.{_≡_, _∙_, sym, ap, ap₂, refl, subst}
 use mathlib.Core.List.{List, [], _∷_, _++_}
@@ -9,14 +9,14 @@ use native.Mathlib.Nat.{zero-mul, mod-lt}
 use mathlib.Core.Logic.{_⊎_, inl, inr, ⊎-elim}
 use borrow.Author.Needs.{needs}
 use Rattle.field_roots.specs.SeriesOf.{entry, prod}
-use Rattle.field_fill.proofs.Sums.{prod-sum, product-small}
+use Rattle.field_next.proofs.Sums.{prod-sum, product-small}
 use Rattle.math_rows.specs.Sum.{sumTo}
 use Rattle.math_rows.proofs.Product.{sum-more, sum-skip, sum-none}
-use Rattle.field_fill.proofs.product_at.Statement.{statement}
-use Rattle.field_fill.proofs.product_at.Tie as tie
-use Rattle.field_fill.proofs.product_at.Reads as reads
-use Rattle.field_fill.proofs.product_at.Lts as lts
-use Rattle.field_fill.proofs.coefficient.Reads as coefficient-reads
+use Rattle.field_next.proofs.product_at.Statement.{statement}
+use Rattle.field_next.proofs.product_at.Tie as tie
+use Rattle.field_next.proofs.product_at.Reads as reads
+use Rattle.field_next.proofs.product_at.Lts as lts
+use Rattle.field_next.proofs.coefficient.Reads as coefficient-reads
 
 abbrev Inv-loop : tie.InvT-loop
 Inv-loop p f g i n sum₀ j₀ sum j = (n ≤ suc i) × ((suc i ≤ n) ⊎ (length f ≤ n)) × (j ≤ n) × (sum ≤ j * 4294836225) × (sum ≡ sumTo (λ m. entry f m * entry g (i - m)) j)
