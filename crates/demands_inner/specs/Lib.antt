@@ -15,7 +15,7 @@
 --   field_open     list_length: list-unique (base_lists/proofs/Coefs); refusal: refusal-unique (field_open/proofs/Stages); open:
 --                  opens-unique (field_open/proofs/Opening)
 --   field_factors  both_free: free-unique (field_factors/proofs/Tests)
---   field_next     next_pair serves `grow` alone: grow-unique is of the whole
+--   field_next, field_pairs   next_pair, fill serve `grow` alone: grow-unique is of the whole
 --   field_fill     grow: grow-unique (Steps)
 --   field_series   series, open_with_series: answer-unique, expands-unique (field_series/proofs/Answer)
 --   pair_agree     one_field: decides-unique (base_answers/proofs/Tests); paired: pairs-unique (pair_agree/proofs/Once)

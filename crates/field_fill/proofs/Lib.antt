@@ -1,4 +1,3 @@
-pub mod Filling
 pub mod Top
 pub mod Leads
 pub mod Growing

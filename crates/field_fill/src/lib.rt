@@ -1,37 +1,10 @@
-// The two series of r and w filled in one pass, each pair of coefficients from two linear equations (crate field_next). Everything here asks for a
-// field that is accepted; the doors are in crate field_series.
-use field_next::coefficient;
-use field_next::next_pair;
+// The two series of r and w, from the leading coefficients of G and H; crate field_pairs fills them in one pass, each pair of coefficients from two
+// linear equations. Everything here asks for a field that is accepted; the doors are in crate field_series.
+use field_pairs::fill;
 ghost use mathlib.Core.Path.{_≡_};
-ghost use Prim.Native.Nat.{_*_, _%_};
 ghost use Rattle.math_rows.specs.Row.{tab};
 ghost use Rattle.field_roots.specs.SeriesOf.{top};
-ghost use Rattle.field_next.specs.Next.{Rest, Four};
-ghost use Rattle.field_fill.specs.Fill.{Filler, Made, Listed, Leads, LeadRoot, ThriceInverse, Room, Grown};
-
-// w0 = c²/h0 = 3 g0 h0 c u, where c³ = g0 h0² and u is the inverse of 3 c².
-fn first_w(p: u64, u: u64, g: u64, h: u64, c: u64) -> u64
-    requires { ⌜ Four p u g h c c ⌝ }
-    ensures { λ r. ⌜ Rest p (3 * ((g * h) % p) * ((c * u) % p)) r ⌝ }
-{
-    3 * (g * h % p) * (c * u % p) % p
-}
-
-fn fill(p: u64, g: &[u16], h: &[u16], c: u64, u: u64, r: &mut [u16], w: &mut [u16])
-    requires { ⌜ Filler p (now g) (now h) c u (now r) (now w) ⌝ }
-    ensures { λ _. ⌜ Made p (now (g .entry)) (now (h .entry)) c (now (r .entry)) (now (r .exit)) (now (w .exit)) ⌝ }
-{
-    if r.len() > 0 {
-        let x = first_w(p, u, coefficient(g, 0), coefficient(h, 0), c);
-        r[0] = c as u16;
-        w[0] = x as u16;
-        let mut i: usize = 1;
-        while i < r.len() {
-            next_pair(p, g, h, u, r, w, i);
-            i += 1;
-        }
-    }
-}
+ghost use Rattle.field_fill.specs.Fill.{Listed, Leads, LeadRoot, ThriceInverse, Room, Grown};
 
 // The coefficient i places below the leading one, 0 past the last.
 fn head(s: &[u64], i: usize) -> u64

@@ -1,13 +1,13 @@
--- `field_fill::first_w` meets its contract.
+-- `field_pairs::first_w` meets its contract.
 use Prim.Native.Nat.{ℕ, _≤_, _<_, _*_, _%_}
 use native.Mathlib.Nat.{mod-lt}
 use native.Mathlib.Omega.{arith}
 use borrow.Author.Needs.{needs}
 use Rattle.field_next.proofs.Sums.{product-small}
-use Rattle.field_fill.proofs.first_w.Statement.{statement}
-use Rattle.field_fill.proofs.first_w.Tie as tie
-use Rattle.field_fill.proofs.first_w.Reads as reads
-use Rattle.field_fill.proofs.first_w.Lts as lts
+use Rattle.field_pairs.proofs.first_w.Statement.{statement}
+use Rattle.field_pairs.proofs.first_w.Tie as tie
+use Rattle.field_pairs.proofs.first_w.Reads as reads
+use Rattle.field_pairs.proofs.first_w.Lts as lts
 
 abbrev left : lts.Start reads.Pre reads.Post → ℕ
 left c = (c .args .g * c .args .h) % c .args .p

@@ -11,7 +11,7 @@ use Rattle.field_roots.specs.SeriesOf.{entry}
 use Rattle.field_next.specs.Next.{Filled}
 use Rattle.field_next.proofs.Step.{w-first, start-square, start-product}
 use Rattle.field_next.proofs.Turns.{more}
-use Rattle.field_fill.specs.Fill.{Filler, Made}
+use Rattle.field_pairs.specs.Pairs.{Filler, Made}
 
 -- nothing yet, and the first pair
 none : (p : ℕ) (g h r w : List ℕ) → length w ≡ length r → Filled p g h r w 0

@@ -1,4 +1,4 @@
--- `field_fill::fill` meets its contract. The loop's invariant: the two lists are filled up to i, and r begins with the cube root.
+-- `field_pairs::fill` meets its contract. The loop's invariant: the two lists are filled up to i, and r begins with the cube root.
 use Prim.Native.Nat.{ℕ, _≤_, _<_, _-_, _*_, _%_}
 use mathlib.Core.Path.{_≡_, _∙_, sym, ap, ap₂, refl, subst}
 use native.Mathlib.Omega.{arith}
@@ -7,15 +7,15 @@ use lib.ListN.{length, length-set}
 use borrow.Author.Needs.{needs}
 use Rattle.field_roots.specs.SeriesOf.{entry}
 use Rattle.field_next.specs.Next.{Filled, Filling}
-use Rattle.field_fill.specs.Fill.{Filler, Made}
-use Rattle.field_fill.proofs.Filling.{started, made-none}
+use Rattle.field_pairs.specs.Pairs.{Filler, Made}
+use Rattle.field_pairs.proofs.Filling.{started, made-none}
 use Rattle.field_next.proofs.Step.{w-first}
-use Rattle.field_fill.proofs.fill.Statement.{statement}
-use Rattle.field_fill.proofs.fill.Tie as tie
-use Rattle.field_fill.proofs.fill.Reads as reads
-use Rattle.field_fill.proofs.fill.Lts as lts
+use Rattle.field_pairs.proofs.fill.Statement.{statement}
+use Rattle.field_pairs.proofs.fill.Tie as tie
+use Rattle.field_pairs.proofs.fill.Reads as reads
+use Rattle.field_pairs.proofs.fill.Lts as lts
 use Rattle.field_next.proofs.coefficient.Reads as coefficient-reads
-use Rattle.field_fill.proofs.first_w.Reads as first-w-reads
+use Rattle.field_pairs.proofs.first_w.Reads as first-w-reads
 use Rattle.field_next.proofs.next_pair.Reads as next-pair-reads
 
 abbrev Inv-loop : tie.InvT-loop
