@@ -39,9 +39,14 @@ use Rattle.basis_field.proofs.Ground.{frameOf, frame-is, frame-by, fine}
 use Rattle.base_answers.specs.Decides.{Decides}
 use Rattle.base_answers.proofs.Tests.{answer-no, decides-unique}
 use Rattle.basis_closed.specs.Closed.{Closed, Given, Room, longest, ClosedUnderRAndWAsks, Under}
+use Rattle.basis_coprime.specs.Coprime.{NoCommonFactorAsks, Alone}
 use Rattle.basis_shape.specs.Lengths.{Below, Narrow, RowsFitAsks}
-use Rattle.basis_accept.specs.Tests.{SizesRightAsks, Shaped, Numbers, NoCommonFactorAsks, Alone}
+use Rattle.basis_accept.specs.Tests.{SizesRightAsks, Shaped, Numbers}
 use Rattle.basis_accept.specs.Answer.{Seventeen, PassesAsks, Passes, Accepts}
+
+-- no factor divides all seven, of rows by name
+abbrev Free : ℕ → Seven → Bool → Type 0
+Free p b o = Alone p (b .m0) (b .m1) (b .m2) (b .n0) (b .n1) (b .n2) (b .u) o
 
 -- ---- the field
 module _ (c : OpenedField) {G H : List ℕ} (h : Kept c G H) (A : Accepted (c .field .p) G H) where
@@ -99,10 +104,10 @@ module _ (c : OpenedField) {G H : List ℕ} (h : Kept c G H) (A : Accepted (c .f
     closed-in t = let k = t .closed in record { rank = k .rank; r-one = k .r-one; w-one = k .w-one; r-M = k .r-M; w-M = k .w-M; r-N = k .r-N; w-N = k .w-N }
 
     -- Good, from the answers
-    good-from : Shaped (frameOf c) b true → Alone p b true → Closed A b → Good (setting A) (rowsOf A b)
+    good-from : Shaped (frameOf c) b true → Free p b true → Closed A b → Good (setting A) (rowsOf A b)
     good-from s a k = good-of (setting A) (rowsOf A b) (record {
       sizes = shaped-at s .yes! refl;
-      seven = a G H A .yes! refl;
+      seven = λ d b₀ b₁ b₂ b₃ b₄ b₅ b₆. a (A .prime) .yes! refl d (b₀, b₁, b₂, b₃, b₄, b₅, b₆);
       closed = record { rank = k .rank; r-one = k .r-one; w-one = k .w-one; r-M = k .r-M; w-M = k .w-M; r-N = k .r-N; w-N = k .w-N };
     })
 
@@ -144,8 +149,8 @@ module _ {c : OpenedField} {b : Seven} (i : PassesAsks c b) {q : Modulus} (e : P
   pub under-from : {o : Bool} → Under (q .p) (c .field .g) (c .field .h) (c .field .gh) b o → Under (c .field .p) (c .field .g) (c .field .h) (c .field .gh) b o
   under-from {o} s = subst (λ p. Under p (c .field .g) (c .field .h) (c .field .gh) b o) (e .is) s
 
-  pub alone-from : {o : Bool} → Alone (q .p) b o → Alone (c .field .p) b o
-  alone-from {o} s = subst (λ p. Alone p b o) (e .is) s
+  pub alone-from : {o : Bool} → Free (q .p) b o → Free (c .field .p) b o
+  alone-from {o} s = subst (λ p. Free p b o) (e .is) s
 
 -- ---- one test after the other
 module _ {c : OpenedField} {b : Seven} (i : PassesAsks c b) where
@@ -164,13 +169,14 @@ module _ {c : OpenedField} {b : Seven} (i : PassesAsks c b) where
   pub not-shaped : {o : Bool} → o ≡ false → Shaped (frameOf c) b o → Passes c b false
   not-shaped e s G H A h = answer-no (λ good. shaped-at c h A b s .no! e (numbers-in c h A b (tests-of (setting A) (rowsOf A b) good)))
 
-  pub not-alone : {o : Bool} → o ≡ false → Alone (c .field .p) b o → Passes c b false
-  not-alone e a G H A h = answer-no (λ good. a G H A .no! e (good .scaled .seven))
+  pub not-alone : {o : Bool} → o ≡ false → Free (c .field .p) b o → Passes c b false
+  not-alone e a G H A h = answer-no (λ good. a (A .prime) .no! e (λ d (b₀, b₁, b₂, b₃, b₄, b₅, b₆). good .scaled .seven d b₀ b₁ b₂ b₃ b₄ b₅ b₆))
 
-  pub alone-in : {q : Modulus} → PreparedOf (c .field .p) q → NoCommonFactorAsks q b
+  pub alone-in : {q : Modulus} → PreparedOf (c .field .p) q → NoCommonFactorAsks q (b .m0) (b .m1) (b .m2) (b .n0) (b .n1) (b .n2) (b .u)
   alone-in {q} e =
       let u : c .field .p ≡ q .p = sym (e .is) in
-      record { modulus = e .prepared; prime = subst Prime u (A₀ .prime); rows = subst (λ p. AreRows p b) u (are-rows (i .rows)) }
+      let r : AreRows (q .p) b = subst (λ p. AreRows p b) u (are-rows (i .rows)) in
+      record { modulus = e .prepared; prime = subst Prime u (A₀ .prime); h0 = r 0; h1 = r 1; h2 = r 2; k0 = r 3; k1 = r 4; k2 = r 5; hu = r 6 }
 
   -- the bounds of the field
   pub sum-low : c .field .dr + c .field .dw ≤ 16
@@ -220,12 +226,12 @@ module _ {c : OpenedField} {b : Seven} (i : PassesAsks c b) where
           let u : c .field .p ≡ q .p = sym (e .is) in
           record { given = subst (λ p. Given p (c .field .g) (c .field .h) (c .field .gh)) u (given-of c k₀ A₀); modulus = e .prepared; room = subst (λ p. Room p b) u room-of }
 
-      module _ {o₃ : Bool} (e₃ : o₃ ≡ true) (a : Alone (c .field .p) b o₃) where
+      module _ {o₃ : Bool} (e₃ : o₃ ≡ true) (a : Free (c .field .p) b o₃) where
         pub passes-as : (o₄ : Bool) → Under (c .field .p) (c .field .g) (c .field .h) (c .field .gh) b o₄ → Passes c b o₄
         passes-as o₄ k G H A h =
             let k′ : Decides o₄ (Closed A b) = k G H A (holds-of h A) in
             record {
-              yes! = λ q. good-from c h A b (subst (Shaped (frameOf c) b) e₂ s) (subst (Alone (c .field .p) b) e₃ a) (k′ .yes! q);
+              yes! = λ q. good-from c h A b (subst (Shaped (frameOf c) b) e₂ s) (subst (Free (c .field .p) b) e₃ a) (k′ .yes! q);
               no! = λ q good. k′ .no! q (closed-in c h A b (tests-of (setting A) (rowsOf A b) good));
             }
 

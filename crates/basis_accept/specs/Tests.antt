@@ -1,27 +1,19 @@
--- What the tests of refusal 9 on seven rows ask and decide. The tests of numbers and lengths are in crate basis_shape, specs/Lengths.antt.
+-- What the tests of refusal 9 on seven rows ask and decide. The tests of numbers and lengths are in crate basis_shape, specs/Lengths.antt, that of a
+-- common factor is in crate basis_coprime.
 --   Numbers μ b       the sizes of a scaled reduced basis of a reduced ideal (crate math_ideals)
 --   Shaped            a test of these, at each meaning of the series
---   Alone             a test that no factor divides all seven, at each field
 use mathlib.Core.Bool.{Bool}
-use mathlib.Core.List.{List}
 use Prim.Native.Nat.{ℕ, _-_, _<_, _≤_}
 use Rattle.math_ring.specs.Ring.{Ops, CRing}
 use Rattle.math_triple.specs.Tri.{Tri}
 use Rattle.math_valued.specs.Val.{Valued}
-use Rattle.math_fp.specs.Fp.{Prime}
-use Rattle.num_mod.specs.Prepared.{Prepared}
-use Rattle.num_mod.specs.declared.Modulus.{Modulus}
 use Rattle.math_rows.specs.Reading.{Reading}
-use Rattle.math_ideals.specs.Basis.{NoFactor}
 use Rattle.math_ideals.specs.Tests.{ReducedInNumbers}
-use Rattle.field_open.specs.Refusal.{Accepted}
-use Rattle.basis_record.specs.Record.{setting}
 use Rattle.base_answers.specs.Decides.{Decides}
-use Rattle.basis_record.specs.Seven.{Seven, AreRows, rowsOf}
+use Rattle.basis_record.specs.Seven.{Seven, AreRows}
 use Rattle.basis_parts.specs.Frame.{Frame, Fine, Meaning, Short, rd, Ser, rowμ}
 use Rattle.basis_scale.specs.Based.{Z}
 
--- ---- sizes
 pub record SizesRightAsks (F : Frame) (top : ℕ) (b : Seven) : Type 0 where
   pub fine : Fine F
   pub some : Meaning F
@@ -47,12 +39,3 @@ Numbers μ b = ReducedInNumbers (rd μ .𝓥) (μ .r) (μ .w) (rowμ μ (b .u)) 
 
 abbrev pub Shaped : Frame → Seven → Bool → Type 0
 Shaped F b o = (μ : Meaning F) → Decides o (Numbers μ b)
-
--- ---- the common factor
-pub record NoCommonFactorAsks (q : Modulus) (b : Seven) : Type 0 where
-  pub modulus : Prepared q
-  pub prime : Prime (q .p)
-  pub rows : AreRows (q .p) b
-
-abbrev pub Alone : ℕ → Seven → Bool → Type 0
-Alone p b o = (G H : List ℕ) (A : Accepted p G H) → Decides o (NoFactor (setting A) (rowsOf A b))

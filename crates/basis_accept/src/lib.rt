@@ -1,22 +1,20 @@
 // Refusal 9: all tests of a record. Each is two-sided. specs/Tests.antt has what they decide; proofs/ has that lengths of polynomial parts decide
-// the sizes (Shapes). Crate basis_shape has the tests of numbers and lengths, crate basis_closed those of closure.
+// the sizes (Shapes). Crate basis_shape has the tests of numbers and lengths, crate basis_coprime that of a common factor, crate basis_closed those of closure.
 use basis_closed::closed_under_r_and_w;
+use basis_coprime::no_common_factor;
 use basis_parts::Bounds;
 use basis_parts::floor;
 use basis_record::load;
 use basis_shape::below;
 use basis_shape::rows_fit;
 use basis_shape::shape;
-use num_mod::Modulus;
 use num_mod::prepare;
 use poly_cross::cross_in;
-use poly_factors::gcd;
-use poly_rows::size;
 ghost use Rattle.basis_record.specs.Seven.{seven};
 ghost use Rattle.field_series.specs.Keeps.{Known};
 ghost use Rattle.basis_parts.specs.Given.{given};
 ghost use Rattle.basis_accept.specs.Answer.{PassesAsks, Passes, Accepts};
-ghost use Rattle.basis_accept.specs.Tests.{SizesRightAsks, Shaped, NoCommonFactorAsks, Alone};
+ghost use Rattle.basis_accept.specs.Tests.{SizesRightAsks, Shaped};
 
 // The sizes of seven rows: on U and on the polynomial parts of X(M), Y(M), X(N), Y(N), Z(M), Z(N).
 fn sizes_right(
@@ -44,30 +42,6 @@ fn sizes_right(
     cross_in(q, 2, &mut zm, 1, 0, &mx, 32);
     cross_in(q, 2, &mut zn, 1, 0, &nx, 32);
     shape(u, &mx, &my, &nx, &ny, &zm, &zn)
-}
-
-// Whether no factor divides all seven: the length of their greatest common divisor.
-fn no_common_factor(
-    q: Modulus,
-    m0: &[u64; 32],
-    m1: &[u64; 32],
-    m2: &[u64; 32],
-    n0: &[u64; 32],
-    n1: &[u64; 32],
-    n2: &[u64; 32],
-    u: &[u64; 32],
-) -> bool
-    requires { ⌜ NoCommonFactorAsks q (seven (now m0) (now m1) (now m2) (now n0) (now n1) (now n2) (now u)) ⌝ }
-    ensures { λ o. ⌜ Alone (q .p) (seven (now (m0 .entry)) (now (m1 .entry)) (now (m2 .entry)) (now (n0 .entry)) (now (n1 .entry)) (now (n2 .entry)) (now (u .entry))) o ⌝ }
-{
-    let a = gcd(q, u, m0);
-    let b = gcd(q, &a, m1);
-    let c = gcd(q, &b, m2);
-    let d = gcd(q, &c, n0);
-    let e = gcd(q, &d, n1);
-    let g = gcd(q, &e, n2);
-    let n = size(&g);
-    if n == 1 { true } else { false }
 }
 
 // Whether seven rows are the scaled reduced basis of a reduced ideal of an opened field.

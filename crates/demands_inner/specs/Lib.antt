@@ -19,6 +19,7 @@
 --   field_open     list_length: list-unique (base_lists/proofs/Coefs); refusal: refusal-unique (field_open/proofs/Stages); open:
 --                  opens-unique (field_open/proofs/Opening)
 --   field_factors  both_free: free-unique (field_factors/proofs/Tests)
+--   field_next, field_pairs   next_pair, fill serve `grow` alone: grow-unique is of the whole
 --   field_fill     grow: grow-unique (Steps)
 --   field_series   series, open_with_series: answer-unique, expands-unique (field_series/proofs/Answer)
 --   pair_agree     one_field: decides-unique (base_answers/proofs/Tests); paired: pairs-unique (pair_agree/proofs/Once)
@@ -34,6 +35,7 @@
 --   basis_scale    reduced_basis, up to the order of two lent elements: reduced-basis-unique; order: order-unique (Bases)
 --   basis_lattice  lengths_of, coordinates, member: lengths-of-unique, coordinates-unique, member-unique (Lattice)
 --   basis_shape    below, rows_fit, shape: decides-unique (base_answers/proofs/Tests)
+--   basis_coprime  no_common_factor: alone-unique (basis_coprime/proofs/Coprime)
 --   basis_closed   closed_under_r_and_w: under-unique (Tests)
 --   basis_accept   accepts: accepts-unique (Tests)
 --   basis_field    order_basis: first-unique (Steps)

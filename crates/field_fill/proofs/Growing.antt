@@ -13,7 +13,9 @@ use Rattle.math_rows.specs.Row.{tab}
 use Rattle.field_open.specs.Refusal.{Degree, Accepted}
 use Rattle.field_roots.specs.SeriesOf.{top, entry, prod, SeriesOf}
 use Rattle.field_roots.proofs.Only.{top-lead}
-use Rattle.field_fill.specs.Fill.{Filled, Filler, Made, Listed, Leads, LeadRoot, ThriceInverse, Room, Grown}
+use Rattle.field_next.specs.Next.{Filled}
+use Rattle.field_pairs.specs.Pairs.{Filler, Made}
+use Rattle.field_fill.specs.Fill.{Listed, Leads, LeadRoot, ThriceInverse, Room, Grown}
 use Rattle.field_fill.proofs.Top.{top-below, heads-are}
 
 module _ {p : ℕ} {G H : List ℕ} (A : Accepted p G H) where

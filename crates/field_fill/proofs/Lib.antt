@@ -1,6 +1,3 @@
-pub mod Sums
-pub mod Step
-pub mod Filling
 pub mod Top
 pub mod Leads
 pub mod Growing

@@ -1,13 +1,4 @@
 -- What the functions that fill the two lists ask and hand out. g and h are the coefficients of G and H from the leading one down.
---   Place p i                  a modulus, and an index within the longest list
---   Point p i                  the same with a modulus below 2^16
---   Entry s i x                x is the entry i of a stored list, 0 past its end
---   Rest p n x                 x is the remainder of n by p
---   Two, Four                  a modulus below 2^16, with numbers below it and stored numbers
---   Filled p g h r w n         r and w are equally long, and at the first n places their numbers are below p and obey r² = H·w and r·w = G·H
---   Filling p g h u r w i      `Filled` up to i, and u the inverse of three times the square of r's first number
---   Filler p g h c u r w       two lists of equal length to be filled from the cube root c; u is the inverse of 3 c²
---   Turned, Made               what one turn, and the whole loop, have done
 --   Listed p l                 a list of coefficients, below a modulus that fits what is stored
 --   Leads p g h                two leading coefficients, for a prime that is accepted
 --   LeadRoot p g h c           c is the cube root of g h²
@@ -15,81 +6,12 @@
 --   Room, Grown                an accepted field with two lists to be filled; the lists filled
 use mathlib.Core.Path.{_≡_}
 use mathlib.Core.List.{List}
-use Prim.Native.Nat.{ℕ, suc, _+_, _*_, _%_, _<_, _≤_}
+use Prim.Native.Nat.{ℕ, _*_, _%_, _<_, _≤_}
 use lib.ListN.{length}
 use Rattle.base_answers.specs.Limits.{longest}
 use Rattle.math_fp.specs.Fp.{Prime}
 use Rattle.field_open.specs.Refusal.{Degree, Accepted}
-use Rattle.field_roots.specs.SeriesOf.{entry, prod, SeriesOf}
-
-pub record Place (p i : ℕ) : Type 0 where
-  pub pos : 0 < p
-  pub near : i < longest
-
-pub record Point (p i : ℕ) : Type 0 where
-  pub pos : 0 < p
-  pub small : p < 65536
-  pub near : i < longest
-
-pub record Entry (s : List ℕ) (i x : ℕ) : Type 0 where
-  pub value : x ≡ entry s i
-  pub small : x < 65536
-
-pub record Rest (p n x : ℕ) : Type 0 where
-  pub value : x ≡ n % p
-  pub below : x < p
-
-pub record Two (p x y : ℕ) : Type 0 where
-  pub pos : 0 < p
-  pub small : p < 65536
-  pub x-below : x < p
-  pub y-below : y < p
-
-pub record Four (p u h a x y : ℕ) : Type 0 where
-  pub pos : 0 < p
-  pub small : p < 65536
-  pub u-below : u < p
-  pub h-stored : h < 65536
-  pub a-stored : a < 65536
-  pub x-below : x < p
-  pub y-below : y < p
-
-pub record Filled (p : ℕ) (g h r w : List ℕ) (n : ℕ) : Type 0 where
-  pub even : length w ≡ length r
-  pub r-below : (i : ℕ) → i < n → entry r i < p
-  pub w-below : (i : ℕ) → i < n → entry w i < p
-  pub square : (i : ℕ) → i < n → prod (entry r) (entry r) i % p ≡ prod (entry h) (entry w) i % p
-  pub product : (i : ℕ) → i < n → prod (entry r) (entry w) i % p ≡ prod (entry g) (entry h) i % p
-
-pub record Filling (p : ℕ) (g h : List ℕ) (u : ℕ) (r w : List ℕ) (i : ℕ) : Type 0 where
-  pub pos : 0 < p
-  pub small : p < 65536
-  pub u-below : u < p
-  pub unit : (3 * (entry r 0 * entry r 0) * u) % p ≡ 1 % p
-  pub some : 0 < i
-  pub inside : i < length r
-  pub near : length r ≤ longest
-  pub done : Filled p g h r w i
-
-pub record Turned (p : ℕ) (g h r w r′ w′ : List ℕ) (i : ℕ) : Type 0 where
-  pub size : length r′ ≡ length r
-  pub first : entry r′ 0 ≡ entry r 0
-  pub done : Filled p g h r′ w′ (i + 1)
-
-pub record Filler (p : ℕ) (g h : List ℕ) (c u : ℕ) (r w : List ℕ) : Type 0 where
-  pub pos : 0 < p
-  pub small : p < 65536
-  pub c-below : c < p
-  pub u-below : u < p
-  pub unit : (3 * (c * c) * u) % p ≡ 1 % p
-  pub cube : (c * c * c) % p ≡ (entry g 0 * (entry h 0 * entry h 0)) % p
-  pub even : length w ≡ length r
-  pub near : length r ≤ longest
-
-pub record Made (p : ℕ) (g h : List ℕ) (c : ℕ) (r r′ w′ : List ℕ) : Type 0 where
-  pub size : length r′ ≡ length r
-  pub first : 0 < length r → entry r′ 0 ≡ c
-  pub done : Filled p g h r′ w′ (length r)
+use Rattle.field_roots.specs.SeriesOf.{SeriesOf}
 
 pub record Listed (p : ℕ) (l : List ℕ) : Type 0 where
   pub small : p < 65536

@@ -8,7 +8,7 @@ use Rattle.basis_accept.proofs.passes.Statement.{statement}
 use Rattle.basis_accept.proofs.passes.Tie as tie
 use Rattle.basis_accept.proofs.passes.Reads as reads
 use Rattle.basis_accept.proofs.passes.Lts as lts
-use Rattle.basis_accept.proofs.no_common_factor.Reads as no-common-factor-reads
+use Rattle.basis_coprime.proofs.no_common_factor.Reads as no-common-factor-reads
 use Rattle.basis_shape.proofs.rows_fit.Reads as rows-fit-reads
 use Rattle.basis_accept.proofs.sizes_right.Reads as sizes-right-reads
 use Rattle.basis_closed.proofs.closed_under_r_and_w.Reads as closed-under-r-and-w-reads

@@ -10,7 +10,7 @@ use Rattle.field_fill.proofs.grow.Statement.{statement}
 use Rattle.field_fill.proofs.grow.Tie as tie
 use Rattle.field_fill.proofs.grow.Reads as reads
 use Rattle.field_fill.proofs.grow.Lts as lts
-use Rattle.field_fill.proofs.fill.Reads as fill-reads
+use Rattle.field_pairs.proofs.fill.Reads as fill-reads
 use Rattle.field_fill.proofs.head.Reads as head-reads
 use Rattle.field_fill.proofs.heads.Reads as heads-reads
 use Rattle.field_fill.proofs.lead_root.Reads as lead-root-reads
