@@ -18,14 +18,14 @@ use Rattle.math_rows.specs.Row.{Row, Size, row}
 use Rattle.math_rows.proofs.Rows.{size-has}
 use Rattle.math_rows.proofs.Floors.{zero-row}
 use Rattle.poly_rows.specs.Polynomial.{polynomial}
-use Rattle.poly_factors.specs.Factors.{Common}
+use Rattle.poly_euclid.specs.Euclid.{Common}
 use Rattle.math_ideals.specs.Setting.{P}
 use Rattle.math_ideals.specs.Basis.{NoFactor}
 use Rattle.math_ideals.proofs.Tests.{AllSeven, no-factor-gcd}
 use Rattle.field_open.specs.Refusal.{Accepted}
 use Rattle.basis_record.specs.Record.{setting, polyOf}
 use Rattle.basis_record.specs.Seven.{Seven, rowsOf}
-use Rattle.poly_factors.proofs.Factors.{size-unit}
+use Rattle.poly_euclid.proofs.Turns.{size-unit}
 use Rattle.base_answers.specs.Decides.{Decides}
 use Rattle.base_answers.proofs.Tests.{answer-yes, answer-no}
 use Rattle.basis_accept.specs.Tests.{Alone}

@@ -10,7 +10,7 @@ use basis_shape::shape;
 use num_mod::Modulus;
 use num_mod::prepare;
 use poly_cross::cross_in;
-use poly_factors::gcd;
+use poly_euclid::gcd;
 use poly_rows::size;
 ghost use Rattle.basis_record.specs.Seven.{seven};
 ghost use Rattle.field_series.specs.Keeps.{Known};

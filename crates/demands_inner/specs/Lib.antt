@@ -6,7 +6,8 @@
 --   base_answers   over_budget, over_longest, no_six_rows: over-unique, no-six-unique (base_answers/proofs/Limits)
 --   poly_rows      size_from, size: size-unique; from_list: from-list-unique; minus, mul: minus-unique, mul-unique (Poly)
 --   poly_cross     scale_in, cross_in: scale-in-unique, cross-in-unique (Poly)
---   poly_factors   squarefree, coprime: squarefree-unique, coprime-unique; gcd, up to a constant: gcd-unique (Poly)
+--   poly_euclid    gcd, up to a constant: gcd-unique (Poly); euclid serves gcd and the tests alone: its divisor is theirs
+--   poly_factors   squarefree, coprime: squarefree-unique, coprime-unique (Poly)
 --   poly_lent      mix_in, both_in, times_in, det_in: mix-in-unique, both-in-unique, times-in-unique, det-in-unique (Sized)
 --   poly_divide    quotient_in, less_in, divide_in: quotient-in-unique, less-in-unique, divide-in-unique (Sized)
 --   poly_content   without_content, up to a constant: taken-off-unique (Lattice)
