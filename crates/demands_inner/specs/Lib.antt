@@ -7,7 +7,7 @@
 --   poly_rows      size_from, size: size-unique; from_list: from-list-unique; minus, mul: minus-unique, mul-unique (Poly)
 --   poly_cross     scale_in, cross_in: scale-in-unique, cross-in-unique (Poly)
 --   poly_euclid    gcd, up to a constant: gcd-unique (Poly); euclid serves gcd and the tests alone: its divisor is theirs
---   poly_factors   squarefree, coprime: squarefree-unique, coprime-unique (Poly)
+--   poly_factors   squarefree, coprime: squarefree-unique, coprime-unique (Poly); both_free: free-unique (poly_factors/proofs/Free)
 --   poly_lent      mix_in, both_in, times_in, det_in: mix-in-unique, both-in-unique, times-in-unique, det-in-unique (Sized)
 --   poly_divide    quotient_in, less_in, divide_in: quotient-in-unique, less-in-unique, divide-in-unique (Sized)
 --   poly_content   without_content, up to a constant: taken-off-unique (Lattice)
@@ -15,7 +15,6 @@
 --   poly_products  mix, times: mix-unique, times-unique; quotient, where there is one that fits: quotient-unique (Long)
 --   field_open     list_length: list-unique (base_lists/proofs/Coefs); refusal: refusal-unique (field_open/proofs/Stages); open:
 --                  opens-unique (field_open/proofs/Opening)
---   field_factors  both_free: free-unique (field_factors/proofs/Tests)
 --   field_fill     grow: grow-unique (Steps)
 --   field_series   series, open_with_series: answer-unique, expands-unique (field_series/proofs/Answer)
 --   pair_lists     agree: decides-unique (base_answers/proofs/Tests)

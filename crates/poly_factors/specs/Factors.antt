@@ -1,8 +1,11 @@
 -- What a greatest common divisor (crate poly_euclid) decides. p is prime.
 --   derivative   Derived: d/dt
 --   squarefree   SquareTest: true, squarefree; false, some non-constant d has d² | x
+--   both_free    FreeTest p x y r: true, the polynomials of x and y are squarefree; false, one of them has a square factor
 --   coprime      CoprimeTest: true, coprime; false, some non-constant d divides both
+-- In proofs/Free: `free-unique`, FreeTest has one answer for each input (for a prime p).
 use mathlib.Core.Path.{_≡_}
+use mathlib.Core.Logic.{_⊎_}
 use mathlib.Core.Bool.{Bool, true, false}
 use mathlib.Core.List.{List}
 use Prim.Native.Nat.{ℕ}
@@ -33,6 +36,10 @@ pub record OverBoth (p : ℕ) (x y : List ℕ) : Type 0 where
 abbrev pub SquareTest : ℕ → List ℕ → Bool → Type 0
 SquareTest p x true = (pr : Prime p) → Squarefree (reading p pr .𝓥) (polynomial p pr x)
 SquareTest p x false = (pr : Prime p) → SquareFactor (reading p pr .𝓥) (polynomial p pr x)
+
+abbrev pub FreeTest : ℕ → List ℕ → List ℕ → Bool → Type 0
+FreeTest p x y true = (pr : Prime p) → Squarefree (reading p pr .𝓥) (polynomial p pr x) × Squarefree (reading p pr .𝓥) (polynomial p pr y)
+FreeTest p x y false = (pr : Prime p) → SquareFactor (reading p pr .𝓥) (polynomial p pr x) ⊎ SquareFactor (reading p pr .𝓥) (polynomial p pr y)
 
 abbrev pub CoprimeTest : ℕ → List ℕ → List ℕ → Bool → Type 0
 CoprimeTest p x y true = (pr : Prime p) → Coprime (reading p pr .𝓥) (polynomial p pr x) (polynomial p pr y)

@@ -3,7 +3,7 @@ use num_mod::prepare;
 use poly_euclid::euclid;
 use poly_rows::size;
 ghost use Rattle.poly_rows.specs.Leaf.{Given};
-ghost use Rattle.poly_factors.specs.Factors.{DeriveAsks, Derived, OverBoth, SquareTest, CoprimeTest};
+ghost use Rattle.poly_factors.specs.Factors.{DeriveAsks, Derived, OverBoth, SquareTest, FreeTest, CoprimeTest};
 
 type Row = [u64; 32];
 
@@ -31,6 +31,18 @@ pub fn squarefree(p: u64, x: &Row) -> bool
     derive(p, x, &mut b);
     let d = euclid(q, &mut a, &mut b);
     if d.terms == 1 { true } else { false }
+}
+
+// Whether neither row has a square factor.
+pub fn both_free(p: u64, x: &Row, y: &Row) -> bool
+    requires { ⌜ OverBoth p (now x) (now y) ⌝ }
+    ensures { λ r. ⌜ FreeTest p (now (x .entry)) (now (y .entry)) r ⌝ }
+{
+    let left = squarefree(p, x);
+    if !left {
+        return false;
+    }
+    squarefree(p, y)
 }
 
 // Whether no polynomial that is not constant divides both.
