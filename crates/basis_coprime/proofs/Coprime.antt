@@ -18,8 +18,8 @@ use Rattle.math_rows.proofs.Rows.{size-has}
 use Rattle.math_rows.proofs.Floors.{zero-row}
 use Rattle.poly_rows.specs.Polynomial.{polynomial}
 use Rattle.num_mod.specs.declared.Modulus.{Modulus}
-use Rattle.poly_factors.specs.Factors.{Common}
-use Rattle.poly_factors.proofs.Factors.{size-unit}
+use Rattle.poly_euclid.specs.Euclid.{Common}
+use Rattle.poly_euclid.proofs.Turns.{size-unit}
 use Rattle.base_answers.proofs.Tests.{answer-yes, answer-no, decides-unique}
 use Rattle.basis_coprime.specs.Coprime.{NoCommonFactorAsks, AllSeven, NoFactor, Alone}
 

@@ -1,7 +1,7 @@
 // Refusal 9: whether seven rows are without a common factor. The test is two-sided. specs/Coprime.antt has what it decides, proofs/Coprime.antt that a
 // chain of greatest common divisors decides it. Crate basis_accept has what it says of an ideal.
 use num_mod::Modulus;
-use poly_factors::gcd;
+use poly_euclid::gcd;
 use poly_rows::size;
 ghost use Rattle.basis_coprime.specs.Coprime.{NoCommonFactorAsks, Alone};
 

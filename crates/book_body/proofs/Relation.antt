@@ -3,11 +3,12 @@
 use mathlib.Core.Path.{refl, sym, _∙_, subst}
 use Prim.Native.Nat.{ℕ}
 use Rattle.field_open.proofs.Accept.{accepted}
-use Rattle.pair_agree.specs.OneField as pairs
+use Rattle.pair_laws.specs.OneField as pairs
+use Rattle.pair_agree.specs.Answer.{Coefficients}
 use Rattle.pair_agree.proofs.Relation as pairs′
 use Rattle.book_body.specs.Body.{Body, FieldSays, OneField}
 
-coefficients : (b : Body) → FieldSays b 0 → pairs.Coefficients (b .p) (b .G) (b .H)
+coefficients : (b : Body) → FieldSays b 0 → Coefficients (b .p) (b .G) (b .H)
 coefficients b f = let s = accepted (b .p) (b .G) (b .H) f in record { degG = s .degG; degH = s .degH; listG = s .listG; listH = s .listH }
 
 pub one-refl : (b : Body) → FieldSays b 0 → OneField b b

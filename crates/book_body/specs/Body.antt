@@ -18,7 +18,7 @@ use Prim.Native.Nat.{ℕ, _-_, _%_, _≤_}
 use lib.ListN.{length, getD}
 use Rattle.base_lists.specs.Coefficients.{Coefficients}
 use Rattle.field_open.specs.Refusal.{Refusal}
-use Rattle.pair_agree.specs.OneField as pairs
+use Rattle.pair_laws.specs.OneField as pairs
 use Rattle.book_bytes.specs.Bytes.{le, words, u2, u4}
 use Rattle.book_bytes.specs.Bytes as bytes
 

@@ -13,7 +13,7 @@ use native.Mathlib.Omega.{arith}
 use lib.ListN.{length}
 use Rattle.field_open.specs.Refusal.{Accepted}
 use Rattle.field_open.proofs.Accept.{accepted}
-use Rattle.pair_agree.specs.OneField as pairs
+use Rattle.pair_laws.specs.OneField as pairs
 use Rattle.pair_agree.specs.Answer.{Both}
 use Rattle.book_bytes.specs.Bytes.{u2}
 use Rattle.base_answers.specs.Decides.{Decides}

@@ -1,4 +1,4 @@
--- Crates num_mod, num_prime, poly_rows, poly_cross and poly_factors. `size-unique` is also for poly_long.
+-- Crates num_mod, num_prime, poly_rows, poly_cross, poly_euclid and poly_factors. `size-unique` is also for poly_long.
 use mathlib.Core.Path.{_≡_, refl, sym, ap, _∙_}
 use mathlib.Core.Logic.{_⊎_, inl, inr}
 use mathlib.Core.Bool.{Bool, true, false}
@@ -28,7 +28,8 @@ use Rattle.num_mod.specs.Prepared.{Added}
 use Rattle.num_mod.specs.declared.Modulus.{Modulus}
 use Rattle.poly_rows.specs.Division.{DivisionAsks, Quotient}
 use Rattle.poly_rows.specs.Polynomial.{polynomial}
-use Rattle.poly_factors.specs.Factors.{OverBoth, Common, SquareTest, CoprimeTest}
+use Rattle.poly_euclid.specs.Euclid.{Common}
+use Rattle.poly_factors.specs.Factors.{OverBoth, SquareTest, CoprimeTest}
 use Rattle.poly_rows.proofs.Leaf as leaf
 use Rattle.poly_rows.proofs.Division.{div-pos}
 use Rattle.demands_inner.proofs.Rows.{by-row}

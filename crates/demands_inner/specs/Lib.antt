@@ -7,7 +7,8 @@
 --   base_answers   over_budget, over_longest, no_six_rows: over-unique, no-six-unique (base_answers/proofs/Limits)
 --   poly_rows      size_from, size: size-unique; from_list: from-list-unique; minus, mul: minus-unique, mul-unique (Poly)
 --   poly_cross     scale_in, cross_in: scale-in-unique, cross-in-unique (Poly)
---   poly_factors   squarefree, coprime: squarefree-unique, coprime-unique; gcd, up to a constant: gcd-unique (Poly)
+--   poly_euclid    gcd, up to a constant: gcd-unique (Poly); euclid serves gcd and the tests alone: its divisor is theirs
+--   poly_factors   squarefree, coprime: squarefree-unique, coprime-unique (Poly); both_free: free-unique (poly_factors/proofs/Free)
 --   poly_sums      gather, settle serve `mix_in` and `both_in` alone: mix-in-unique, both-in-unique are of the whole
 --   poly_lent      mix_in, both_in, times_in, det_in: mix-in-unique, both-in-unique, times-in-unique, det-in-unique (Sized)
 --   poly_divide    quotient_in, less_in, divide_in: quotient-in-unique, less-in-unique, divide-in-unique (Sized)
@@ -18,12 +19,12 @@
 --   poly_quotient  quotient, where there is one that fits: quotient-unique (Long)
 --   field_open     list_length: list-unique (base_lists/proofs/Coefs); refusal: refusal-unique (field_open/proofs/Stages); open:
 --                  opens-unique (field_open/proofs/Opening)
---   field_factors  both_free: free-unique (field_factors/proofs/Tests)
 --   field_next, field_pairs   next_pair, fill serve `grow` alone: grow-unique is of the whole
 --   field_fill     grow: grow-unique (Steps)
 --   field_series   series, open_with_series: answer-unique, expands-unique (field_series/proofs/Answer)
+--   pair_lists     agree: decides-unique (base_answers/proofs/Tests)
 --   pair_agree     one_field: decides-unique (base_answers/proofs/Tests); paired: pairs-unique (pair_agree/proofs/Once)
---   pair_factors   factors: law-unique (pair_agree/proofs/Laws)
+--   pair_factors   factors: law-unique (pair_laws/proofs/Laws)
 --   pair_rows      exchange, multiplied: exchanged-unique, multiplied-unique (door_transfer/proofs/Inner)
 --   pair_carry     carry, carry_swapped: carried-unique, carried-swapped-unique (door_transfer/proofs/Inner)
 --   basis_record   load, stored: load-unique, stored-unique (Bases)

@@ -7,7 +7,7 @@ use native.Mathlib.Omega.{arith}
 use lib.ListN.{length, take}
 use Rattle.field_open.specs.Refusal.{Accepted}
 use Rattle.field_open.proofs.Accept.{accepted-none}
-use Rattle.pair_agree.specs.OneField.{OneField}
+use Rattle.pair_laws.specs.OneField.{OneField}
 use Rattle.door_compare.specs.declared.CompareAnswer.{CompareAnswer}
 use Rattle.door_compare.specs.Answer as pairs
 use Rattle.pair_agree.proofs.Relation as relation

@@ -2,7 +2,7 @@
 -- have the same period and regulator, and say how the rows of the unit carry over: E1 and E2 change places on a swap and take constant
 -- factors, E0 stays. Refusals: inner reason "twice" and refusal 15 now use the wider test; an old book that breaks it is refused."
 --   SameField   the request: the relation, what such pairs share in the theory's words and in the answers, rows carried over, the book
--- How to read it: `OneField` (pair_agree/specs/OneField.antt) has the words of the request, `RowsCarry` and `RecordCarries` (pair_agree/specs/Rows.antt)
+-- How to read it: `OneField` (pair_laws/specs/OneField.antt) has the words of the request, `RowsCarry` and `RecordCarries` (pair_laws/specs/Rows.antt)
 -- say how rows of numbers carry over, `Shared` (pair_theory/specs/Shared.antt) what two such pairs share as fields with their series, and
 -- `Alike` (pair_answers/specs/Alike.antt) what the functions answer for them.
 -- The theorem `same-field` is in proofs/SameField.antt.
@@ -14,7 +14,8 @@ use lib.ListN.{length, getD, take}
 use Rattle.math_fp.specs.Fp.{Prime}
 use Rattle.math_rows.specs.Made.{reading}
 use Rattle.field_open.specs.Refusal.{Accepted}
-use Rattle.pair_agree.specs.OneField.{OneField, Coefficients}
+use Rattle.pair_laws.specs.OneField.{OneField}
+use Rattle.pair_agree.specs.Answer.{Coefficients}
 use Rattle.door_compare.specs.declared.CompareAnswer.{CompareAnswer}
 use Rattle.door_compare.specs.Answer.{Compares}
 use Rattle.basis_record.specs.Setting.{roots}

@@ -22,7 +22,7 @@ use Rattle.math_chain.specs.Unit.{Invertible, UnitOf}
 use Rattle.math_fundamental.specs.Complete.{Completeness}
 use Rattle.math_fundamental.specs.Smallest.{NoneBetween, LeastDegree, Smallest, Fundamental}
 use Rattle.basis_record.specs.Record.{setting}
-use Rattle.pair_agree.specs.OneField.{OneField}
+use Rattle.pair_laws.specs.OneField.{OneField}
 use Rattle.basis_field.specs.First.{IsFirst}
 use Rattle.walk_chain.specs.declared.WalkAnswer.{WalkAnswer}
 use Rattle.walk_chain.specs.Walk.{Walks}

@@ -5,7 +5,7 @@ use mathlib.Core.Path.{_≡_, sym, _∙_}
 use mathlib.Core.List.{List}
 use Prim.Native.Nat.{ℕ}
 use Rattle.base_answers.proofs.Tests.{decides-unique}
-use Rattle.pair_agree.specs.OneField.{OneField}
+use Rattle.pair_laws.specs.OneField.{OneField}
 use Rattle.door_compare.specs.Answer.{Refusals, Compares}
 use Rattle.door_compare.specs.declared.CompareAnswer.{CompareAnswer}
 use Rattle.door_compare.proofs.Doors.{doors-unique}

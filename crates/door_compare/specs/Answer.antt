@@ -11,7 +11,7 @@ use mathlib.Core.List.{List}
 use Prim.Native.Nat.{ℕ}
 use Rattle.base_answers.specs.Decides.{Decides}
 use Rattle.field_open.specs.Door.{Door}
-use Rattle.pair_agree.specs.OneField.{OneField}
+use Rattle.pair_laws.specs.OneField.{OneField}
 use Rattle.door_compare.specs.declared.CompareAnswer.{CompareAnswer}
 
 abbrev pub refused : ℕ → CompareAnswer

@@ -12,7 +12,7 @@ use Rattle.base_answers.specs.Limits.{longest, SixRows, NoSixRows}
 use Rattle.base_answers.proofs.Limits.{no-six, six-of}
 use Rattle.pair_agree.specs.Answer.{Both, Pairs}
 use Rattle.door_compare.specs.Answer.{Refusals}
-use Rattle.pair_agree.specs.Rows.{straight, crossed}
+use Rattle.pair_laws.specs.Rows.{straight, crossed}
 use Rattle.pair_agree.specs.declared.Pairing.{Pairing}
 use Rattle.pair_agree.specs.declared.Pairing.the-variants.{Straight, Swapped, Apart}
 use Rattle.pair_agree.proofs.Outcomes.{apart-none}

@@ -16,14 +16,14 @@ use Rattle.math_valued.specs.Val.{Valued}
 use Rattle.math_rows.specs.Reading.{Reading}
 use Rattle.math_rows.specs.Made.{reading}
 use Rattle.math_rows.proofs.Unique.{cast-inj}
-use Rattle.pair_agree.specs.OneField.{leading}
-use Rattle.pair_agree.specs.Rows.{Stays, Times, Straight, Crossed, RowsCarry, straight, crossed}
+use Rattle.pair_laws.specs.OneField.{leading}
+use Rattle.pair_laws.specs.Rows.{Stays, Times, Straight, Crossed, RowsCarry, straight, crossed}
 use Rattle.pair_agree.specs.Answer.{Both}
-use Rattle.pair_agree.proofs.Lists.{agree-sym, leading-not}
+use Rattle.pair_laws.proofs.Lists.{agree-sym, leading-not}
 use Rattle.pair_agree.proofs.Relation.{not-both, one-sym}
 use Rattle.door_compare.proofs.Doors.{doors-out, doors-through}
 use Rattle.door_transfer.specs.Transfer.{Lent, Goes, unfit, carried, Transfers}
-use Rattle.pair_agree.proofs.Laws.{law-swap, law-back}
+use Rattle.pair_laws.proofs.Laws.{law-swap, law-back}
 use Rattle.door_transfer.proofs.Rows.{Three, six-ext, one-of}
 use Rattle.door_transfer.proofs.Once.{lent-unique}
 

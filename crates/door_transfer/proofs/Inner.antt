@@ -1,4 +1,4 @@
--- One outcome for each input of the functions that `transfer` rests on; of the factors it is `law-unique` of crate pair_agree.
+-- One outcome for each input of the functions that `transfer` rests on; of the factors it is `law-unique` of crate pair_laws.
 --   exchanged-unique                        two parts exchanged
 --   multiplied-unique                       six rows times their factors
 --   carried-unique, carried-swapped-unique  six rows carried over, in the one order and in the other
@@ -9,8 +9,8 @@ use native.Mathlib.Omega.{arith}
 use native.Mathlib.Decide.{decLt}
 use lib.ListN.{length, getD}
 use lib.Seq.{ext-getD}
-use Rattle.pair_agree.proofs.Lists.{leading-not}
-use Rattle.pair_agree.proofs.Laws.{law-unique}
+use Rattle.pair_laws.proofs.Lists.{leading-not}
+use Rattle.pair_laws.proofs.Laws.{law-unique}
 use Rattle.pair_rows.specs.Code.{Exchanged, Multiplied}
 use Rattle.pair_carry.specs.Code.{CarryAsks, Carried, CarriedSwapped}
 use Rattle.door_transfer.proofs.Rows.{six-ext, straight-unique, crossed-unique}

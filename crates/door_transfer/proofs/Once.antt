@@ -6,7 +6,7 @@ use mathlib.Core.List.{List}
 use Prim.Native.Nat.{ℕ, _*_}
 use native.Mathlib.Omega.{arith}
 use lib.ListN.{length}
-use Rattle.pair_agree.specs.Rows.{RowsCarry}
+use Rattle.pair_laws.specs.Rows.{RowsCarry}
 use Rattle.pair_agree.specs.Answer.{Both}
 use Rattle.door_compare.proofs.Doors.{doors-unique}
 use Rattle.door_transfer.specs.Transfer.{Lent, Refused, Goes, unfit, carried, Transfers}

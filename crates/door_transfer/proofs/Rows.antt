@@ -16,12 +16,12 @@ use lib.Seq.{ext-getD}
 use Rattle.base_lists.proofs.Pieces.{six}
 pub use Rattle.base_lists.proofs.Pieces.{three}
 use Rattle.field_open.specs.Refusal.{Accepted}
-use Rattle.pair_agree.specs.OneField.{OneField}
-use Rattle.pair_agree.specs.Rows.{Stays, Times, Straight, Crossed, RowsCarry, straight, crossed}
+use Rattle.pair_laws.specs.OneField.{OneField}
+use Rattle.pair_laws.specs.Rows.{Stays, Times, Straight, Crossed, RowsCarry, straight, crossed}
 use Rattle.pair_agree.specs.Answer.{Both}
-use Rattle.pair_agree.proofs.Lists.{leading-not}
+use Rattle.pair_laws.proofs.Lists.{leading-not}
 use Rattle.pair_agree.proofs.Relation.{not-both}
-use Rattle.pair_agree.proofs.Laws.{law-unique}
+use Rattle.pair_laws.proofs.Laws.{law-unique}
 
 abbrev pub Three : ℕ → List ℕ → ℕ → List ℕ → Type 0
 Three c l at l′ = Stays c l at l′ × Stays c l (at + c) l′ × Stays c l (at + c + c) l′

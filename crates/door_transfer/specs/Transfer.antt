@@ -3,7 +3,7 @@
 --   Transfers p G H G′ H′ rows n rows′   the number handed out and the slice after it: 1 to 8 of the first pair, 1 to 8 of the second, 14
 --                                        where the slice has another length or the pairs are not of one field, 0 where the rows are carried
 --                                        over; a refusal leaves the slice as it was
--- How rows carry over is `RowsCarry` of crate pair_agree. The rows may hold any numbers: that the rows of the one pair's unit become
+-- How rows carry over is `RowsCarry` of crate pair_laws. The rows may hold any numbers: that the rows of the one pair's unit become
 -- those of the other's is a theorem about `RowsCarry` alone.
 -- In proofs/: Once (`transfers-unique`: one outcome for each input), Back (`there-and-back`, `transfers-back`: rows carried over and back are the
 -- rows), Rows (`rows-unique`: the pairs settle the rows; `carried-below`, `carried-each`: numbers below p).
@@ -12,8 +12,8 @@ use mathlib.Core.List.{List}
 use Prim.Native.Nat.{ℕ, _*_, _≤_}
 use lib.ListN.{length}
 use Rattle.base_answers.specs.Limits.{longest}
-use Rattle.pair_agree.specs.OneField.{OneField}
-use Rattle.pair_agree.specs.Rows.{RowsCarry}
+use Rattle.pair_laws.specs.OneField.{OneField}
+use Rattle.pair_laws.specs.Rows.{RowsCarry}
 use Rattle.door_compare.specs.Answer.{Doors}
 
 pub record Lent (c : ℕ) (rows : List ℕ) : Type 0 where

@@ -1,19 +1,6 @@
-// The tests behind refusals 7 and 8, on rows. specs/Factors.antt says what they tell.
+// Refusals 7 and 8: which one, from the answers of the tests of crate poly_factors.
 ghost use mathlib.Core.Path.{_≡_};
-ghost use Rattle.poly_factors.specs.Factors.{OverBoth};
-ghost use Rattle.field_factors.specs.Factors.{FreeTest, factorNumber};
-
-// Whether neither row has a square factor.
-pub fn both_free(p: u64, x: &[u64; 32], y: &[u64; 32]) -> bool
-    requires { ⌜ OverBoth p (now x) (now y) ⌝ }
-    ensures { λ r. ⌜ FreeTest p (now (x .entry)) (now (y .entry)) r ⌝ }
-{
-    let left = poly_factors::squarefree(p, x);
-    if !left {
-        return false;
-    }
-    poly_factors::squarefree(p, y)
-}
+ghost use Rattle.field_factors.specs.Factors.{factorNumber};
 
 // 7 comes before 8.
 pub fn first_factor(free: bool, apart: bool) -> u32

@@ -17,9 +17,9 @@ use Rattle.math_rows.specs.Made.{reading}
 use Rattle.num_prime.specs.Table.{largest}
 use Rattle.poly_rows.specs.Leaf.{Listed}
 use Rattle.poly_rows.specs.Polynomial.{polynomial}
-use Rattle.poly_factors.specs.Factors.{OverBoth, CoprimeTest}
+use Rattle.poly_factors.specs.Factors.{OverBoth, FreeTest, CoprimeTest}
 use Rattle.field_open.specs.Refusal.{Fault7, Fault8, Rows78}
-use Rattle.field_factors.specs.Factors.{FreeTest, factorNumber}
+use Rattle.field_factors.specs.Factors.{factorNumber}
 use Rattle.field_open.specs.Parts.{Shaped}
 use Rattle.field_open.proofs.Rows.{row-of}
 

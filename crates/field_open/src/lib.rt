@@ -83,7 +83,7 @@ fn check_factors(p: u64, g: &[u64], h: &[u64]) -> u32
 {
     let x = poly_rows::from_list(g);
     let y = poly_rows::from_list(h);
-    let free = field_factors::both_free(p, &x, &y);
+    let free = poly_factors::both_free(p, &x, &y);
     let apart = poly_factors::coprime(p, &x, &y);
     field_factors::first_factor(free, apart)
 }

@@ -1,7 +1,4 @@
-pub mod Lists
-pub mod Agreeing
+pub mod Polynomials
 pub mod Relation
 pub mod Outcomes
 pub mod Once
-pub mod Laws
-pub mod Example

@@ -8,14 +8,15 @@ use mathlib.Core.List.{List}
 use Prim.Native.Nat.{ℕ}
 use native.Mathlib.Omega.{arith}
 use Rattle.field_open.specs.Refusal.{Degree, Accepted}
-use Rattle.pair_agree.specs.OneField.{Agree, OneField}
-use Rattle.pair_agree.specs.Answer.{AgreeAsks, Both, Pairs}
+use Rattle.pair_laws.specs.OneField.{Agree, OneField}
+use Rattle.pair_lists.specs.Code.{AgreeAsks}
+use Rattle.pair_agree.specs.Answer.{Both, Pairs}
 use Rattle.pair_agree.specs.declared.Pairing.{Pairing}
 use Rattle.pair_agree.specs.declared.Pairing.the-variants.{Straight, Swapped, Apart}
 use Rattle.pair_agree.proofs.Relation.{not-both}
 
 pub lists-in : {p n n′ : ℕ} {G H l l′ : List ℕ} → Accepted p G H → Degree p l n → Degree p l′ n′ → AgreeAsks p l l′
-lists-in s h h′ = record { prime = s .prime; small = omega (arith, s .high); d = _; d′ = _; list = h; list′ = h′ }
+lists-in s h h′ = record { prime = s .prime; small = omega (arith, s .high); most = _; d = _; d′ = _; list = h; list′ = h′ }
 
 module _ {p : ℕ} {G H G′ H′ : List ℕ} where
   pub first-apart : Both p G H G′ H′ → Agree p G G′ → (Agree p H H′ → ⊥) → OneField p G H G′ H′ → ⊥

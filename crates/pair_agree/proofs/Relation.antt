@@ -1,58 +1,39 @@
 -- To be of one field is an equivalence on pairs of lists of coefficients.
---   monic-unique   a list is made monic in one way
---   agree-refl, agree-trans
 --   one-refl, one-sym, one-trans   equal pairs are of one field; in either order; and with a third
 --   apart-lists   the two lists of an accepted pair never agree: the one would divide the other
 --   not-both      no list agrees with both lists of an accepted pair, so that two pairs agree in one order only
-use mathlib.Core.Path.{_≡_, refl, sym, _∙_, subst}
+use mathlib.Core.Path.{_≡_, sym, _∙_}
 use mathlib.Core.Logic.{inl, inr}
 use mathlib.Core.List.{List}
 use Prim.Native.Nat.{ℕ}
 use native.Mathlib.Omega.{arith}
-use lib.ListN.{getD}
-use lib.Seq.{ext-getD}
 use Rattle.math_fp.specs.Fp.{Prime}
 use Rattle.math_valued.specs.Polynomial.{polys, IsUnit}
-use Rattle.math_valued.proofs.Degree.{same, k-cancel}
+use Rattle.math_valued.proofs.Degree.{same}
 use Rattle.math_valued.proofs.Polynomial.{unit-const}
-use Rattle.math_rows.specs.Reading.{Reading}
 use Rattle.math_rows.specs.Made.{reading}
-use Rattle.math_rows.proofs.Unique.{cast-inj, same-cast}
 use Rattle.poly_rows.specs.Polynomial.{polynomial}
 use Rattle.field_open.specs.Refusal.{Degree, Accepted}
 use Rattle.field_open.proofs.Accept.{degree-has}
-use Rattle.pair_agree.specs.OneField.{leading, Monic, Agree, OneField, Coefficients}
-use Rattle.pair_agree.proofs.Lists.{agree-sym, agree-degree, agree-poly, leading-not, agree-of}
+use Rattle.pair_laws.specs.OneField.{Agree, OneField}
+use Rattle.pair_laws.proofs.Lists.{agree-sym, agree-degree}
+use Rattle.pair_laws.proofs.Relation.{agree-refl, agree-trans}
+use Rattle.pair_agree.specs.Answer.{Coefficients}
+use Rattle.pair_agree.proofs.Polynomials.{agree-poly}
 
 pub one-sym : {p : ℕ} {G H G′ H′ : List ℕ} → OneField p G H G′ H′ → OneField p G′ H′ G H
 one-sym (inl (a, b)) = inl (agree-sym a, agree-sym b)
 one-sym (inr (a, b)) = inr (agree-sym b, agree-sym a)
 
 module _ (p : ℕ) (pr : Prime p) where
-  abbrev ρ : Reading p
-  ρ = reading p pr
-
-  open Reading ρ using (𝓥, cast)
-
-  pub monic-unique : {l m m′ : List ℕ} {n : ℕ} → Degree p l n → Monic p l m → Monic p l m′ → m ≡ m′
-  monic-unique {l} {m} {m′} h a b = ext-getD 0 m m′ (a .long ∙ sym (b .long)) (λ i k. cast-inj ρ (getD m i 0) (getD m′ i 0) (a .below i) (b .below i)
-      (k-cancel 𝓥 (cast (leading l)) (cast (getD m i 0)) (cast (getD m′ i 0)) (leading-not p pr h)
-      (sym (ρ .cast-mul (leading l) (getD m i 0)) ∙ same-cast ρ _ _ (a .times i ∙ sym (b .times i)) ∙ ρ .cast-mul (leading l) (getD m′ i 0))))
-
-  pub agree-trans : {l l′ l″ : List ℕ} {n : ℕ} → Degree p l′ n → Agree p l l′ → Agree p l′ l″ → Agree p l l″
-  agree-trans {l″ = l″} h (m, a, b) (m′, c, d) = (m, a, subst (λ z. Monic p l″ z) (sym (monic-unique h b c)) d)
-
-  pub agree-refl : {l : List ℕ} {n : ℕ} → Degree p l n → Agree p l l
-  agree-refl {l} h = agree-of p pr h l (record { long = refl; cross = λ i. refl })
-
   pub one-refl : {G H : List ℕ} → Coefficients p G H → OneField p G H G H
-  one-refl s = inl (agree-refl (s .listG), agree-refl (s .listH))
+  one-refl s = inl (agree-refl p pr (s .listG), agree-refl p pr (s .listH))
 
   pub one-trans : {G H G′ H′ G″ H″ : List ℕ} → Coefficients p G′ H′ → OneField p G H G′ H′ → OneField p G′ H′ G″ H″ → OneField p G H G″ H″
-  one-trans s (inl (a, b)) (inl (c, d)) = inl (agree-trans (s .listG) a c, agree-trans (s .listH) b d)
-  one-trans s (inl (a, b)) (inr (c, d)) = inr (agree-trans (s .listG) a c, agree-trans (s .listH) b d)
-  one-trans s (inr (a, b)) (inl (c, d)) = inr (agree-trans (s .listH) a d, agree-trans (s .listG) b c)
-  one-trans s (inr (a, b)) (inr (c, d)) = inl (agree-trans (s .listH) a d, agree-trans (s .listG) b c)
+  one-trans s (inl (a, b)) (inl (c, d)) = inl (agree-trans p pr (s .listG) a c, agree-trans p pr (s .listH) b d)
+  one-trans s (inl (a, b)) (inr (c, d)) = inr (agree-trans p pr (s .listG) a c, agree-trans p pr (s .listH) b d)
+  one-trans s (inr (a, b)) (inl (c, d)) = inr (agree-trans p pr (s .listH) a d, agree-trans p pr (s .listG) b c)
+  one-trans s (inr (a, b)) (inr (c, d)) = inl (agree-trans p pr (s .listH) a d, agree-trans p pr (s .listG) b c)
 
 -- H = αG, so that G divides both: G is constant, and so is H
 pub apart-lists : {p : ℕ} {G H : List ℕ} → Accepted p G H → Agree p G H → ⊥

@@ -1,23 +1,22 @@
 -- What the functions ask and answer.
---   AgreeAsks p l l′            two lists of coefficients over one prime
---   Both p G H G′ H′          two accepted pairs over one p
---   Pairs p G H G′ H′ k       k is the order in which the pairs agree: straight, swapped, or apart, that is, not at all
--- In proofs/Once.antt: `pairs-unique`, two outcomes that meet it are equal.
+--   Coefficients p G H   G and H are lists of coefficients: what refusal 3 leaves
+--   Both p G H G′ H′     two accepted pairs over one p
+--   Pairs p G H G′ H′ k  k is the order in which the pairs agree: straight, swapped, or apart, that is, not at all
+-- `Agree` and `OneField` are those of crate pair_laws. In proofs/: Relation (`one-refl`, `one-sym`, `one-trans`: to be of one field is an
+-- equivalence; `not-both`: accepted pairs agree in one order only), Polynomials (`agree-poly`: the polynomials of lists that agree differ
+-- by a constant that is not 0), Once (`pairs-unique`: two outcomes that meet Pairs are equal).
 use mathlib.Core.List.{List}
-use Prim.Native.Nat.{ℕ, _<_}
-use Rattle.math_fp.specs.Fp.{Prime}
+use Prim.Native.Nat.{ℕ}
 use Rattle.field_open.specs.Refusal.{Degree, Accepted}
-use Rattle.pair_agree.specs.OneField.{Agree, OneField}
+use Rattle.pair_laws.specs.OneField.{Agree, OneField}
 use Rattle.pair_agree.specs.declared.Pairing.{Pairing}
 use Rattle.pair_agree.specs.declared.Pairing.the-variants.{Straight, Swapped, Apart}
 
-pub record AgreeAsks (p : ℕ) (l l′ : List ℕ) : Type 0 where
-  pub prime : Prime p
-  pub small : p < 65536
-  pub d : ℕ
-  pub d′ : ℕ
-  pub list : Degree p l d
-  pub list′ : Degree p l′ d′
+pub record Coefficients (p : ℕ) (G H : List ℕ) : Type 0 where
+  pub degG : ℕ
+  pub degH : ℕ
+  pub listG : Degree p G degG
+  pub listH : Degree p H degH
 
 pub record Both (p : ℕ) (G H G′ H′ : List ℕ) : Type 0 where
   pub first : Accepted p G H

@@ -1,37 +1,14 @@
 // Two accepted pairs of lists over one p: whether they are of one field. The door, which refuses, is crate door_compare.
+use pair_lists::agree;
 ghost use Rattle.base_answers.specs.Decides.{Decides};
-ghost use Rattle.pair_agree.specs.OneField.{Agree, OneField};
-ghost use Rattle.pair_agree.specs.Answer.{AgreeAsks, Both, Pairs};
+ghost use Rattle.pair_laws.specs.OneField.{OneField};
+ghost use Rattle.pair_agree.specs.Answer.{Both, Pairs};
 
 // The order in which two pairs agree after all lists are made monic.
 pub enum Pairing {
     Straight,
     Swapped,
     Apart,
-}
-
-// Do two lists agree after both are made monic? Each is multiplied by the other's leading coefficient, so that no inverse is needed.
-fn agree(p: u64, a: &[u64], b: &[u64]) -> bool
-    requires { ⌜ AgreeAsks p (now a) (now b) ⌝ }
-    ensures { λ r. ⌜ Decides r (Agree p (now (a .entry)) (now (b .entry))) ⌝ }
-{
-    let n = a.len();
-    if n != b.len() {
-        return false;
-    }
-    let top = n - 1;
-    let x = a[top];
-    let y = b[top];
-    let mut i: usize = 0;
-    while i < n {
-        let u = y * a[i] % p;
-        let v = x * b[i] % p;
-        if u != v {
-            return false;
-        }
-        i += 1;
-    }
-    true
 }
 
 // The order in which two accepted pairs agree.

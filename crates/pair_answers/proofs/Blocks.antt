@@ -12,7 +12,7 @@ use native.Mathlib.Decide.{decLt}
 use lib.ListN.{length, getD, List·getD-eq-default}
 use Rattle.math_rows.specs.Row.{tab}
 use Rattle.math_rows.proofs.Tab.{length-tab, at-tab}
-use Rattle.pair_agree.specs.Rows.{Stays, Straight, Crossed, Turned}
+use Rattle.pair_laws.specs.Rows.{Stays, Straight, Crossed, Turned}
 use Rattle.door_transfer.proofs.Rows.{three, times-below}
 
 -- ---- numbers below p

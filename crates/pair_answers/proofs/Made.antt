@@ -13,8 +13,9 @@ use Rattle.door_unit.specs.declared.UnitAnswer.{UnitAnswer}
 use Rattle.door_unit.specs.Unit.{Lent, Refused, Goes, bad, spent, narrow, made, Makes}
 use Rattle.base_answers.specs.Limits.{longest}
 use Rattle.door_unit.proofs.Once.{makes-unique}
-use Rattle.pair_agree.specs.OneField.{OneField, Coefficients}
-use Rattle.pair_agree.specs.Rows.{RowsCarry}
+use Rattle.pair_laws.specs.OneField.{OneField}
+use Rattle.pair_agree.specs.Answer.{Coefficients}
+use Rattle.pair_laws.specs.Rows.{RowsCarry}
 use Rattle.pair_answers.specs.Alike.{MadeSame}
 use Rattle.pair_answers.proofs.Way.{Way, way, split}
 use Rattle.pair_answers.proofs.UnitRows.{rows-in, over, holds-over, finds-over, misses-over}

@@ -20,10 +20,10 @@ use Rattle.math_rows.specs.Made.{reading}
 use Rattle.poly_rows.specs.Polynomial.{polynomial}
 use Rattle.field_open.specs.Refusal.{Degree}
 use Rattle.field_open.proofs.Accept.{degree-leads}
-use Rattle.pair_agree.specs.OneField.{leading}
-use Rattle.pair_agree.specs.Rows.{Law}
-use Rattle.pair_agree.proofs.Lists.{leading-at, leading-not}
-use Rattle.pair_agree.proofs.Laws.{law-of, law-unique}
+use Rattle.pair_laws.specs.OneField.{leading}
+use Rattle.pair_laws.specs.Rows.{Law}
+use Rattle.pair_laws.proofs.Lists.{leading-at, leading-not}
+use Rattle.pair_laws.proofs.Laws.{law-of, law-unique}
 use Rattle.pair_theory.specs.Carries.{Factors}
 
 module _ (p : ℕ) (pr : Prime p) where

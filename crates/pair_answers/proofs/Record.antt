@@ -19,7 +19,7 @@ use Rattle.math_ideals.specs.Ideal.{Basis}
 use Rattle.math_ideals.specs.Basis.{Good}
 use Rattle.basis_record.specs.Record.{part, setting, basisOf, IsRecord}
 use Rattle.basis_record.proofs.Unique.{basis-unique}
-use Rattle.pair_agree.specs.Rows.{Stays, RecordCarries, straight, crossed}
+use Rattle.pair_laws.specs.Rows.{Stays, RecordCarries, straight, crossed}
 use Rattle.math_ideals.specs.Setting.{at}
 use Rattle.basis_record.specs.Setting.{roots}
 use Rattle.pair_theory.specs.Carries.{carry}

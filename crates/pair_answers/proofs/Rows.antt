@@ -23,7 +23,7 @@ use Rattle.field_open.specs.Refusal.{Accepted}
 use Rattle.unit_rows.specs.Six.{cut}
 use Rattle.math_ideals.specs.Element.{O, sc}
 use Rattle.math_ideals.proofs.Sizes.{O-path, sc-a, sc-b, sc-c}
-use Rattle.pair_agree.specs.Rows.{Stays, Times, Straight, Crossed, Turned}
+use Rattle.pair_laws.specs.Rows.{Stays, Times, Straight, Crossed, Turned}
 use Rattle.math_ideals.specs.Setting.{Roots, at}
 use Rattle.basis_record.specs.Setting.{roots}
 use Rattle.pair_theory.specs.Carries.{El, stretch, exchange}

@@ -21,7 +21,8 @@ use Rattle.door_step.proofs.Answers.{answers-unique}
 use Rattle.walk_chain.specs.declared.WalkAnswer.{WalkAnswer}
 use Rattle.walk_chain.specs.Walk as walk
 use Rattle.walk_chain.proofs.Walk.{walks-unique}
-use Rattle.pair_agree.specs.OneField.{OneField, Coefficients}
+use Rattle.pair_laws.specs.OneField.{OneField}
+use Rattle.pair_agree.specs.Answer.{Coefficients}
 use Rattle.pair_answers.specs.Alike.{Counterpart, OrderSame, StepSame, WalkSame}
 use Rattle.pair_answers.proofs.Way.{Way, way, one-of, split}
 use Rattle.pair_answers.proofs.Record.{record-way, record-in, record-below, Over, over, record-over, record-back}

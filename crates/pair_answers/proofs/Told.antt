@@ -8,7 +8,8 @@ use Rattle.field_open.specs.Refusal.{Accepted}
 use Rattle.door_walk.specs.declared.PeriodAnswer.{PeriodAnswer}
 use Rattle.door_walk.specs.Order.{Goes, budget, closed, spent, FromOrder}
 use Rattle.door_walk.proofs.Order.{from-order-unique}
-use Rattle.pair_agree.specs.OneField.{OneField, Coefficients}
+use Rattle.pair_laws.specs.OneField.{OneField}
+use Rattle.pair_agree.specs.Answer.{Coefficients}
 use Rattle.pair_answers.proofs.Way.{Way, way, split}
 use Rattle.pair_answers.proofs.Record.{over}
 use Rattle.pair_answers.proofs.Chains.{first-over, open-over, closes-over}

@@ -11,9 +11,9 @@ use Rattle.field_open.proofs.Door.{door-out}
 use Rattle.door_unit.specs.declared.UnitAnswer.{UnitAnswer}
 use Rattle.door_unit.specs.Unit.{Makes}
 use Rattle.unit_finish.specs.Rows.{Holds}
-use Rattle.pair_agree.specs.OneField.{OneField, Coefficients}
-use Rattle.pair_agree.specs.Rows.{RowsCarry}
-use Rattle.pair_agree.specs.Answer.{Both}
+use Rattle.pair_laws.specs.OneField.{OneField}
+use Rattle.pair_laws.specs.Rows.{RowsCarry}
+use Rattle.pair_agree.specs.Answer.{Coefficients, Both}
 use Rattle.door_compare.proofs.Doors.{doors-goes, doors-out}
 use Rattle.door_transfer.specs.Transfer.{Goes, unfit, carried, Transfers}
 use Rattle.door_transfer.proofs.Once.{transfers-unique}

@@ -16,7 +16,7 @@ use Rattle.math_chain.proofs.Exists.{order-exists}
 use Rattle.basis_record.specs.Record.{setting}
 use Rattle.door_unit.specs.Unit.{Finds, Misses}
 use Rattle.unit_finish.specs.Rows.{six, Holds}
-use Rattle.pair_agree.specs.Rows.{RowsCarry, straight, crossed}
+use Rattle.pair_laws.specs.Rows.{RowsCarry, straight, crossed}
 use Rattle.door_transfer.proofs.Rows.{carried-each}
 use Rattle.pair_theory.proofs.Same as theory
 use Rattle.pair_answers.proofs.Way.{Way, same, swapped, map}

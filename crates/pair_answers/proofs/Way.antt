@@ -16,8 +16,9 @@ use Rattle.math_valued.specs.Polynomial.{polys}
 use Rattle.math_rows.specs.Made.{reading}
 use Rattle.field_open.specs.Refusal.{Refusal, Accepted}
 use Rattle.field_open.proofs.Accept.{accepted}
-use Rattle.pair_agree.specs.OneField.{leading, Agree, OneField, Coefficients}
-use Rattle.pair_agree.specs.Rows.{Law}
+use Rattle.pair_laws.specs.OneField.{leading, Agree, OneField}
+use Rattle.pair_agree.specs.Answer.{Coefficients}
+use Rattle.pair_laws.specs.Rows.{Law}
 use Rattle.basis_record.specs.Setting.{roots}
 use Rattle.pair_theory.specs.Carries.{El, Carries, stretch, exchange}
 use Rattle.pair_theory.proofs.OneField as one

@@ -24,8 +24,9 @@ use Rattle.door_walk.specs.Order.{FromOrder}
 use Rattle.door_unit.specs.declared.UnitAnswer.{UnitAnswer}
 use Rattle.door_unit.specs.Unit.{Makes}
 use Rattle.unit_finish.specs.Rows.{Holds}
-use Rattle.pair_agree.specs.OneField.{OneField, Coefficients}
-use Rattle.pair_agree.specs.Rows.{RowsCarry, RecordCarries}
+use Rattle.pair_laws.specs.OneField.{OneField}
+use Rattle.pair_agree.specs.Answer.{Coefficients}
+use Rattle.pair_laws.specs.Rows.{RowsCarry, RecordCarries}
 use Rattle.door_transfer.specs.Transfer.{Transfers}
 
 module _ (p : ℕ) (G H G′ H′ : List ℕ) where

@@ -10,9 +10,9 @@ use Prim.Native.Nat.{ℕ, _+_, _*_, _%_, _<_}
 use native.Mathlib.Omega.{arith}
 use lib.ListN.{length}
 use Rattle.field_open.specs.Refusal.{Degree}
-use Rattle.pair_agree.specs.OneField.{leading}
-use Rattle.pair_agree.specs.Rows.{Law, Crossed}
-use Rattle.pair_agree.proofs.Lists.{leading-below, leading-some}
+use Rattle.pair_laws.specs.OneField.{leading}
+use Rattle.pair_laws.specs.Rows.{Law, Crossed}
+use Rattle.pair_laws.proofs.Lists.{leading-below, leading-some}
 use Rattle.pair_factors.specs.Code.{Kind, Lead}
 use Rattle.pair_rows.specs.Code.{Exchanged, MultipliedAsks, Multiplied}
 use Rattle.pair_carry.specs.Code.{CarryAsks, Carried, CarriedSwapped}

@@ -5,8 +5,9 @@ use mathlib.Core.Path.{_≡_}
 use mathlib.Core.List.{List}
 use Prim.Native.Nat.{ℕ, _+_, _*_}
 use lib.ListN.{length}
-use Rattle.pair_agree.specs.OneField.{leading, Coefficients}
-use Rattle.pair_agree.specs.Rows.{Law, Straight, Crossed}
+use Rattle.pair_laws.specs.OneField.{leading}
+use Rattle.pair_agree.specs.Answer.{Coefficients}
+use Rattle.pair_laws.specs.Rows.{Law, Straight, Crossed}
 use Rattle.pair_factors.specs.Code.{Kind}
 
 pub record CarryAsks (p : ℕ) (G H G′ H′ : List ℕ) (c : ℕ) (l : List ℕ) : Type 0 where

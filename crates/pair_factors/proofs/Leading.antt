@@ -17,9 +17,9 @@ use Rattle.math_rows.specs.Made.{reading}
 use Rattle.math_rows.proofs.Numbers.{cast-product, product-some}
 use Rattle.num_mod.specs.Residue.{IsModulus}
 use Rattle.num_power.specs.Powers.{Two, Nonzero, Rooted, Inverse, CubeRoot}
-use Rattle.pair_agree.specs.Rows.{Law}
+use Rattle.pair_laws.specs.Rows.{Law}
 use Rattle.pair_factors.specs.Code.{Kind, Lead}
-use Rattle.pair_agree.proofs.Laws.{law-of}
+use Rattle.pair_laws.proofs.Laws.{law-of}
 
 module _ (p : ℕ) (k : Kind p) where
   abbrev pr : Prime p

@@ -1,4 +1,4 @@
--- What `factors` asks; the factors x and y are `Law` of crate pair_agree, whose `law-unique` says that there is one pair of them.
+-- What `factors` asks; the factors x and y are `Law` of crate pair_laws, whose `law-unique` says that there is one pair of them.
 --   Kind p   a prime with p mod 3 = 2 whose remainders are stored in 16 bits
 --   Lead p a   a number from 1 to p − 1: a leading coefficient
 use mathlib.Core.Path.{_≡_}

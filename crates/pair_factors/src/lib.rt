@@ -2,7 +2,7 @@
 use num_power::cube_root;
 use num_power::inverse;
 use num_power::mul;
-ghost use Rattle.pair_agree.specs.Rows.{Law};
+ghost use Rattle.pair_laws.specs.Rows.{Law};
 ghost use Rattle.pair_factors.specs.Code.{FactorsAsks};
 
 // What the rows E1 and F1 are multiplied by, and E2 and F2.

@@ -12,7 +12,7 @@ use Rattle.poly_long.specs.Long.{Scaled}
 use Rattle.base_lists.specs.Pieces.{between}
 use Rattle.base_lists.proofs.Pieces.{between-length}
 use Rattle.base_lists.proofs.Puts.{Around, put-back}
-use Rattle.pair_agree.specs.Rows.{Straight}
+use Rattle.pair_laws.specs.Rows.{Straight}
 use Rattle.pair_rows.specs.Code.{PartAsks, Part, Multiplied}
 
 module _ (p k at c : ℕ) (l : List ℕ) (h : PartAsks p k at c l) where

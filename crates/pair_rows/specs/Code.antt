@@ -7,7 +7,7 @@ use mathlib.Core.List.{List}
 use Prim.Native.Nat.{ℕ, _+_, _*_, _<_, _≤_}
 use lib.ListN.{length, getD}
 use Rattle.poly_long.specs.Long.{Storable}
-use Rattle.pair_agree.specs.Rows.{Times, Straight}
+use Rattle.pair_laws.specs.Rows.{Times, Straight}
 
 pub record ExchangeAsks (a b c : ℕ) (l : List ℕ) : Type 0 where
   pub apart : a + c ≤ b

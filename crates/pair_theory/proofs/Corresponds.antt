@@ -11,7 +11,7 @@ use Rattle.math_valued.proofs.Degree.{has-eq}
 use Rattle.math_rows.specs.Made.{reading}
 use Rattle.field_open.specs.Refusal.{Accepted}
 use Rattle.basis_record.specs.Setting.{roots, setting}
-use Rattle.pair_agree.specs.OneField.{OneField}
+use Rattle.pair_laws.specs.OneField.{OneField}
 use Rattle.pair_theory.specs.Corresponds.{Corresponds}
 use Rattle.math_ideals.specs.Setting.{Roots, at}
 use Rattle.pair_theory.specs.Carries.{Carries}

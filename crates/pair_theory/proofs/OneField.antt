@@ -13,13 +13,13 @@ use Rattle.math_valued.specs.Val.{Valued}
 use Rattle.math_valued.specs.Polynomial.{polys, Poly, IsUnit}
 use Rattle.math_rows.specs.Made.{reading}
 use Rattle.field_open.specs.Refusal.{Accepted}
-use Rattle.pair_agree.specs.OneField.{Agree, OneField}
+use Rattle.pair_laws.specs.OneField.{Agree, OneField}
 use Rattle.math_ideals.specs.Setting.{Roots}
 use Rattle.basis_record.specs.Setting.{roots}
 use Rattle.pair_theory.specs.Carries.{Carries, Stretched, Exchanged}
 use Rattle.pair_theory.proofs.Inverse.{after}
 use Rattle.pair_theory.proofs.Pairs.{turned, exchanged, swap, scale, scaled, stretched}
-use Rattle.pair_agree.proofs.Lists.{agree-poly}
+use Rattle.pair_agree.proofs.Polynomials.{agree-poly}
 
 pub record Meets (𝓥 : Valued) (s s′ : Roots 𝓥) : Type 0 where
   pub carries : Carries s s′

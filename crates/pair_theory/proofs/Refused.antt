@@ -17,8 +17,10 @@ use Rattle.math_rows.specs.Made.{reading}
 use Rattle.poly_rows.specs.Polynomial.{polynomial}
 use Rattle.field_open.specs.Refusal.{highest, Degree, Fault3, Fault4, Fault5, Fault6, Fault7, Fault8, Refusal, Accepted}
 use Rattle.field_open.proofs.Accept.{accepted, accepted-none}
-use Rattle.pair_agree.specs.OneField.{Agree, Coefficients, OneField}
-use Rattle.pair_agree.proofs.Lists.{agree-degree, agree-poly}
+use Rattle.pair_laws.specs.OneField.{Agree, OneField}
+use Rattle.pair_agree.specs.Answer.{Coefficients}
+use Rattle.pair_laws.proofs.Lists.{agree-degree}
+use Rattle.pair_agree.proofs.Polynomials.{agree-poly}
 use Rattle.pair_agree.proofs.Relation.{one-sym}
 
 module _ (𝓥 : Valued) where

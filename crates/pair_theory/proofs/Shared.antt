@@ -6,7 +6,7 @@ use Rattle.math_fp.specs.Fp.{Prime}
 use Rattle.math_valued.specs.Val.{Valued}
 use Rattle.math_rows.specs.Made.{reading}
 use Rattle.field_open.specs.Refusal.{Accepted}
-use Rattle.pair_agree.specs.OneField.{OneField}
+use Rattle.pair_laws.specs.OneField.{OneField}
 use Rattle.math_ideals.specs.Setting.{Roots}
 use Rattle.basis_record.specs.Setting.{roots}
 use Rattle.pair_theory.specs.Shared.{Shared}

@@ -26,8 +26,8 @@ use Rattle.math_rows.proofs.Rows.{size-has}
 use Rattle.math_rows.proofs.Floors.{zero-row}
 use Rattle.poly_rows.specs.Division.{DivisionAsks, Exact}
 use Rattle.poly_rows.specs.Polynomial.{polynomial}
-use Rattle.poly_factors.specs.Factors.{Common}
-use Rattle.poly_factors.proofs.Factors.{size-unit}
+use Rattle.poly_euclid.specs.Euclid.{Common}
+use Rattle.poly_euclid.proofs.Turns.{size-unit}
 use Rattle.poly_lent.specs.Sized.{DetInGives}
 use Rattle.poly_rows.proofs.Leaf.{size-unique}
 use Rattle.poly_content.specs.Common.{Content, Four, fourDet, CutAsks, CutOff}

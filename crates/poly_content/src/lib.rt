@@ -2,7 +2,7 @@
 use num_mod::Modulus;
 use num_power::inverse;
 use poly_divide::quotient_in;
-use poly_factors::gcd;
+use poly_euclid::gcd;
 use poly_lent::det_in;
 use poly_rows::size;
 ghost use Rattle.poly_content.specs.Common.{ContentAsks, Content, four, ShortenAsks, Shortened, WithoutContentAsks, Taken};

@@ -2,8 +2,6 @@
 --   agree-sym, agree-degree   in either order; equally long
 --   leading-at, leading-below, leading-some, leading-not   of a list of coefficients: its leading coefficient
 --   cross-of, agree-of        agreeing is cross multiplication; `cross-from`: only the entries that are there need be looked at
---   monic-poly                the polynomial of a list is its leading coefficient times that of the list made monic
---   agree-poly                the polynomials of two lists that agree differ by a constant that is not 0
 use mathlib.Core.Path.{_≡_, sym, ap, _∙_, subst}
 use mathlib.Core.Logic.{_≢_}
 use mathlib.Core.List.{List, [], _∷_}
@@ -13,23 +11,19 @@ use native.Mathlib.Nat.{mod-lt, mul-comm, mul-zero}
 use native.Mathlib.Omega.{arith}
 use native.Mathlib.Decide.{decLt}
 use lib.ListN.{length, getD, List·getD-eq-default}
+use Rattle.base_lists.specs.Coefficients.{Coefficients}
 use Rattle.math_ring.specs.Ring.{Ops}
 use Rattle.math_ring.proofs.Laws as rg
-use Rattle.math_ring.proofs.Solve.{var, one, minus, _:*_, _:=_, hyp, solve-by, ring₃}
+use Rattle.math_ring.proofs.Solve.{var, one, _:*_, _:=_, hyp, solve-by, ring₃}
 use Rattle.math_fp.specs.Fp.{Prime, powMod}
 use Rattle.math_fp.proofs.Value.{inverse-value}
 use Rattle.math_valued.specs.Val.{Valued}
-use Rattle.math_valued.specs.Polynomial.{polys, Poly, IsUnit}
-use Rattle.math_valued.proofs.Polynomial.{P-path, const-unit}
 use Rattle.math_rows.specs.Reading.{Reading}
 use Rattle.math_rows.specs.Made.{reading}
-use Rattle.math_rows.specs.Row.{tab, psum, coefs, row}
-use Rattle.math_rows.proofs.Rows.{psum-ext, psum-scale}
+use Rattle.math_rows.specs.Row.{tab}
 use Rattle.math_rows.proofs.Tab.{length-tab, at-tab, past-tab}
 use Rattle.math_rows.proofs.Unique.{same-cast, mod-of}
-use Rattle.poly_rows.specs.Polynomial.{polynomial}
-use Rattle.field_open.specs.Refusal.{Degree}
-use Rattle.pair_agree.specs.OneField.{leading, Monic, Agree, Cross}
+use Rattle.pair_laws.specs.OneField.{leading, Monic, Agree, Cross}
 
 pub cross-from : (p : ℕ) (l l′ : List ℕ) → length l ≡ length l′ → ((i : ℕ) → i < length l → (N._*_ (leading l′) (getD l i 0)) % p ≡ (N._*_ (leading l) (getD l′ i 0)) % p) → Cross p l l′
 cross-from p l l′ e h = record {
@@ -46,7 +40,7 @@ cross-from p l l′ e h = record {
 pub agree-sym : {p : ℕ} {l l′ : List ℕ} → Agree p l l′ → Agree p l′ l
 agree-sym (m, a, b) = (m, b, a)
 
-pub agree-degree : {p : ℕ} {l l′ : List ℕ} {n n′ : ℕ} → Degree p l n → Degree p l′ n′ → Agree p l l′ → n ≡ n′
+pub agree-degree : {p : ℕ} {l l′ : List ℕ} {n n′ most : ℕ} → Coefficients most p l n → Coefficients most p l′ n′ → Agree p l l′ → n ≡ n′
 agree-degree {l} {l′} {n} {n′} h h′ (m, a, b) =
     let e : length l ≡ suc n = h .whole in
     let e′ : length l′ ≡ suc n′ = h′ .whole in
@@ -59,12 +53,10 @@ module _ (p : ℕ) (pr : Prime p) where
   ρ = reading p pr
 
   open Reading ρ using (𝓥, cast)
-  open Valued 𝓥 using (K, L, const)
+  open Valued 𝓥 using (K)
   open Ops (K .ops) using (mul as _*ᵏ_, 𝟎 as 0ᵏ, 𝟏 as 1ᵏ)
-  open Ops (L .ops) using (mul as _*_)
-  open Ops (polys 𝓥 .ops) using (mul as _⊠_)
 
-  infixl 70 _*_ _⊠_ _*ᵏ_
+  infixl 70 _*ᵏ_
   -- lc(l) · x = y, at numbers
   product-of : (a b c : ℕ) → (N._*_ a b) % p ≡ c % p → cast a *ᵏ cast b ≡ cast c
   product-of a b c e = sym (ρ .cast-mul a b) ∙ same-cast ρ (N._*_ a b) c e
@@ -80,7 +72,7 @@ module _ (p : ℕ) (pr : Prime p) where
         ∙ sym (ρ .cast-mul (leading l) (getD l′ i 0)));
   }
 
-  module _ {l : List ℕ} {n : ℕ} (h : Degree p l n) where
+  module _ {l : List ℕ} {n most : ℕ} (h : Coefficients most p l n) where
     pub leading-at : leading l ≡ getD l n 0
     leading-at = let e : length l ≡ suc n = h .whole in let f : N._-_ (length l) 1 ≡ n = omega arith in ap (λ i. getD l i 0) f
 
@@ -94,7 +86,7 @@ module _ (p : ℕ) (pr : Prime p) where
     leading-not z = leading-some (ρ .cast-small (leading l) leading-below z)
 
   -- ---- made monic
-  module _ {l : List ℕ} {n : ℕ} (h : Degree p l n) where
+  module _ {l : List ℕ} {n most : ℕ} (h : Coefficients most p l n) where
     abbrev i₀ : ℕ
     i₀ = powMod p (leading l) (N._-_ p 2)
 
@@ -155,37 +147,3 @@ module _ (p : ℕ) (pr : Prime p) where
             (sym (ρ .cast-mul (leading l′) (getD l i 0)) ∙ same-cast ρ _ _ (c .cross i) ∙ ρ .cast-mul (leading l) (getD l′ i 0), (i₀-one, tt)));
       },
     )
-
-  -- ---- the leading coefficient
-  abbrev lc : List ℕ → Poly 𝓥
-  lc l = (const (cast (leading l)), 𝓥 .const-poly (cast (leading l)))
-
-  lc-unit : {l : List ℕ} {n : ℕ} → Degree p l n → IsUnit 𝓥 (lc l)
-  lc-unit {l} h = const-unit 𝓥 (lc l) (cast (leading l), leading-not h, 𝓥 .const-lead (cast (leading l)))
-
-  -- ---- made monic
-  monic-poly : (l m : List ℕ) → Monic p l m → polynomial p pr l ≡ lc l ⊠ polynomial p pr m
-  unfolding row
-  monic-poly l m h = P-path 𝓥
-      (ap (λ n. psum ρ n (coefs ρ l)) (sym (h .long))
-      ∙ psum-ext ρ (length m) (coefs ρ l) (λ i. cast (leading l) *ᵏ coefs ρ m i)
-      (λ i u. sym (same-cast ρ (N._*_ (leading l) (getD m i 0)) (getD l i 0) (h .times i)) ∙ ρ .cast-mul (leading l) (getD m i 0))
-      ∙ psum-scale ρ (length m) (cast (leading l)) (coefs ρ m))
-
-  -- l′ = (lc l′ / lc l) l, where q and q′ are the inverses of lc l and lc l′
-  pub agree-poly : {l l′ : List ℕ} {n n′ : ℕ} → Degree p l n → Degree p l′ n′ → Agree p l l′
-      → (α : Poly 𝓥) × IsUnit 𝓥 α × (polynomial p pr l′ ≡ α ⊠ polynomial p pr l)
-  agree-poly {l} {l′} h h′ (m, a, b) =
-      let (q, e) = lc-unit h in
-      let (q′, e′) = lc-unit h′ in (
-        lc l′ ⊠ q,
-        (
-          lc l ⊠ q′,
-          solve-by (polys 𝓥) one (var 2 :* var 1 :* (var 0 :* var 3)) (hyp one one (var 0 :* var 1) ∷ hyp (var 0 :* var 1) one (var 2 :* var 3) ∷ []) tt
-              (lc l ∷ q ∷ lc l′ ∷ q′ ∷ []) (e, (e′, tt)),
-        ),
-        solve-by (polys 𝓥) (var 4) (var 2 :* var 1 :* var 3)
-            (hyp one (var 4) (var 2 :* var 5) ∷ hyp (var 2 :* var 5) one (var 0 :* var 1) ∷ hyp (minus (var 2 :* var 1)) (var 3) (var 0 :* var 5) ∷ []) tt
-            (lc l ∷ q ∷ lc l′ ∷ polynomial p pr l ∷ polynomial p pr l′ ∷ polynomial p pr m ∷ [])
-            (monic-poly l′ m b, (e, (monic-poly l m a, tt))),
-      )

@@ -1,9 +1,9 @@
--- `poly_factors::euclid` meets its contract: each turn is `euclid-turn`, of the exchanged rows where the second is longer.
+-- `poly_euclid::euclid` meets its contract: each turn is `euclid-turn`, of the exchanged rows where the second is longer.
 use Prim.Native.Nat.{_+_, _<_}
 use native.Mathlib.Omega.{arith}
-use Rattle.poly_factors.proofs.Factors.{Euclid, euclid-start, euclid-swap, euclid-asks, euclid-turn, found-first, found-second}
-use Rattle.poly_factors.proofs.euclid.Statement.{statement}
-use Rattle.poly_factors.proofs.euclid.Tie as tie
+use Rattle.poly_euclid.proofs.Turns.{Euclid, euclid-start, euclid-swap, euclid-asks, euclid-turn, found-first, found-second}
+use Rattle.poly_euclid.proofs.euclid.Statement.{statement}
+use Rattle.poly_euclid.proofs.euclid.Tie as tie
 
 abbrev Inv-loop : tie.InvT-loop
 Inv-loop q x₀ y₀ n₀ m₀ x y n m = Euclid (q .p) x₀ y₀ x y n m

@@ -15,7 +15,7 @@ use mathlib.Core.Path.{_≡_}
 use mathlib.Core.List.{List}
 use Prim.Native.Nat.{ℕ, _+_, _*_, _-_, _%_, _<_}
 use lib.ListN.{getD}
-use Rattle.pair_agree.specs.OneField.{leading, Agree}
+use Rattle.pair_laws.specs.OneField.{leading, Agree}
 
 pub record Law (p x y g h g′ h′ : ℕ) : Type 0 where
   pub x-below : x < p

@@ -18,7 +18,7 @@ use Rattle.math_rows.specs.Made.{reading}
 use Rattle.math_rows.proofs.Unique.{cast-inj, same-cast, mod-of}
 use Rattle.math_rows.proofs.Numbers.{cast-square, cast-cube}
 use Rattle.math_rows.proofs.Constants.{cube-inj}
-use Rattle.pair_agree.specs.Rows.{Law}
+use Rattle.pair_laws.specs.Rows.{Law}
 
 -- x, y, g, h, g′, h′ and the two equations of the law, for the solver
 abbrev X : Expr

@@ -7,10 +7,11 @@ use mathlib.Core.List.{List, [], _∷_}
 use Prim.Native.Nat.{ℕ, zero, suc, _*_, _%_, _<_}
 use native.Mathlib.Omega.{arith}
 use lib.ListN.{getD}
+use Rattle.base_lists.specs.Coefficients.{Coefficients}
 use Rattle.math_fp.specs.Fp.{Prime}
 use Rattle.math_fp.proofs.Trial.{prime}
-use Rattle.pair_agree.specs.OneField.{Coefficients, OneField}
-use Rattle.pair_agree.proofs.Lists.{cross-of, agree-of}
+use Rattle.pair_laws.specs.OneField.{OneField}
+use Rattle.pair_laws.proofs.Lists.{cross-of, agree-of}
 
 five : Prime 5
 five = prime 5 1 tt
@@ -45,16 +46,14 @@ below-H : (i : ℕ) → i < 1 → getD H i 0 < 5
 below-H zero l = omega arith
 below-H (suc i) l = absurd (omega arith)
 
-listed : Coefficients 5 G H
-listed = record {
-  degG = 3;
-  degH = 0;
-  listG = record { whole = refl; short = omega arith; each = below-G; last = λ e. omega arith };
-  listH = record { whole = refl; short = omega arith; each = below-H; last = λ e. omega arith };
-}
+listed-G : Coefficients 13 5 G 3
+listed-G = record { whole = refl; short = omega arith; each = below-G; last = λ e. omega arith }
+
+listed-H : Coefficients 13 5 H 0
+listed-H = record { whole = refl; short = omega arith; each = below-H; last = λ e. omega arith }
 
 pub twice-in-the-table : OneField 5 G H H twice-G
-twice-in-the-table = inr (agree-of 5 five (listed .listG) twice-G (record { long = refl; cross = at-G }), agree-of 5 five (listed .listH) H (record { long = refl; cross = λ i. refl }))
+twice-in-the-table = inr (agree-of 5 five listed-G twice-G (record { long = refl; cross = at-G }), agree-of 5 five listed-H H (record { long = refl; cross = λ i. refl }))
 
 pub not-one : OneField 5 G H other-G H → ⊥
 not-one (inl (a, b)) = let e : _≡_ {A = ℕ} 1 2 = cross-of 5 five G other-G a .cross 1 in omega arith

@@ -5,16 +5,14 @@
 --   Agree p l l′         l and l′ agree after both are made monic
 --   OneField             the pairs G, H and G′, H′ agree, in one order or the other
 --   Cross p l l′         the same of two lists without an inverse: equally long, and lc(l′) · l = lc(l) · l′ mod p
---   Coefficients p G H   G and H are lists of coefficients: what refusal 3 leaves
--- In proofs/: Relation (`one-refl`, `one-sym`, `one-trans`: an equivalence; `not-both`: accepted pairs agree in one order only), Lists
--- (`cross-of`, `agree-of`: for lists of coefficients Agree is Cross; `agree-poly`: their polynomials differ by a constant that is not 0),
--- Example (`twice-in-the-table`: the field that stood in a table twice; `not-one`: two fields).
+-- In proofs/: Lists (`cross-of`, `agree-of`: for lists of coefficients Agree is Cross), Relation (`agree-refl`, `agree-sym`, `agree-trans`:
+-- an equivalence on them), Example (`twice-in-the-table`: the field that stood in a table twice; `not-one`: two fields). What needs an
+-- accepted field is in crate pair_agree.
 use mathlib.Core.Path.{_≡_}
 use mathlib.Core.List.{List}
 use mathlib.Core.Logic.{_⊎_}
 use Prim.Native.Nat.{ℕ, _*_, _-_, _%_, _<_}
 use lib.ListN.{length, getD}
-use Rattle.field_open.specs.Refusal.{Degree}
 
 abbrev pub leading : List ℕ → ℕ
 leading l = getD l (length l - 1) 0
@@ -34,9 +32,3 @@ OneField p G H G′ H′ = (Agree p G G′ × Agree p H H′) ⊎ (Agree p G H�
 pub record Cross (p : ℕ) (l l′ : List ℕ) : Type 0 where
   pub long : length l ≡ length l′
   pub cross : (i : ℕ) → (leading l′ * getD l i 0) % p ≡ (leading l * getD l′ i 0) % p
-
-pub record Coefficients (p : ℕ) (G H : List ℕ) : Type 0 where
-  pub degG : ℕ
-  pub degH : ℕ
-  pub listG : Degree p G degG
-  pub listH : Degree p H degH

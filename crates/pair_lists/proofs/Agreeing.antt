@@ -11,12 +11,12 @@ use native.Mathlib.Omega.{arith}
 use mir.Syntax.{w64}
 use mir.Val.{Fits}
 use lib.ListN.{length, getD}
-use Rattle.pair_agree.specs.OneField.{leading, Agree}
-use Rattle.pair_agree.specs.Answer.{AgreeAsks}
-use Rattle.pair_agree.proofs.Lists.{cross-from, cross-of, agree-of}
+use Rattle.pair_laws.specs.OneField.{leading, Agree}
+use Rattle.pair_laws.proofs.Lists.{cross-from, cross-of, agree-of}
+use Rattle.pair_lists.specs.Code.{AgreeAsks}
 
 pub swap-in : {p : ℕ} {a b : List ℕ} → AgreeAsks p a b → AgreeAsks p b a
-swap-in s = record { prime = s .prime; small = s .small; d = s .d′; d′ = s .d; list = s .list′; list′ = s .list }
+swap-in s = record { prime = s .prime; small = s .small; most = s .most; d = s .d′; d′ = s .d; list = s .list′; list′ = s .list }
 
 pub some-in : {p : ℕ} {a b : List ℕ} → AgreeAsks p a b → 1 ≤ length a
 some-in {a} s = let e : length a ≡ suc (s .d) = s .list .whole in omega arith

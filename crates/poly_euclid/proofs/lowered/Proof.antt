@@ -1,11 +1,11 @@
--- `poly_factors::lowered` meets its contract: the leading terms cancel.
+-- `poly_euclid::lowered` meets its contract: the leading terms cancel.
 use mathlib.Core.Path.{_≡_}
 use Prim.Native.Nat.{_≤_, _<_}
 use native.Mathlib.Omega.{arith}
 use lib.ListN.{length}
-use Rattle.poly_factors.proofs.Factors.{lowered-asks, lowered-cut, lowered-made}
-use Rattle.poly_factors.proofs.lowered.Statement.{statement}
-use Rattle.poly_factors.proofs.lowered.Tie as tie
+use Rattle.poly_euclid.proofs.Turns.{lowered-asks, lowered-cut, lowered-made}
+use Rattle.poly_euclid.proofs.lowered.Statement.{statement}
+use Rattle.poly_euclid.proofs.lowered.Tie as tie
 
 sub-s : tie.Need-sub-s
 sub-s c = let u : 0 < c .args .m = c .pre .some in omega arith

@@ -1,13 +1,13 @@
--- `pair_agree::agree` meets its contract. The loop's invariant: the products passed are equal.
+-- `pair_lists::agree` meets its contract. The loop's invariant: the products passed are equal.
 use mathlib.Core.Path.{_≡_}
 use Prim.Native.Nat.{ℕ, _≤_, _<_, _-_, _*_, _%_}
 use native.Mathlib.Omega.{arith}
 use lib.ListN.{length, getD}
 use borrow.Author.Count.{below-more}
 use Rattle.base_answers.proofs.Tests.{answer-yes, answer-no}
-use Rattle.pair_agree.proofs.Agreeing.{some-in, entries-in, product-fits, long-no, entry-no, agree-yes}
-use Rattle.pair_agree.proofs.agree.Statement.{statement}
-use Rattle.pair_agree.proofs.agree.Tie as tie
+use Rattle.pair_lists.proofs.Agreeing.{some-in, entries-in, product-fits, long-no, entry-no, agree-yes}
+use Rattle.pair_lists.proofs.agree.Statement.{statement}
+use Rattle.pair_lists.proofs.agree.Tie as tie
 
 abbrev Inv-loop : tie.InvT-loop
 Inv-loop p a b n top x y i₀ i = (i ≤ length a) × ((k : ℕ) → k < i → (y * getD a k 0) % p ≡ (x * getD b k 0) % p)

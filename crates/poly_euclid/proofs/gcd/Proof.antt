@@ -1,7 +1,7 @@
--- `poly_factors::gcd` meets its contract: the row in which Euclid found it.
-use Rattle.poly_factors.proofs.Factors.{in-first, in-second}
-use Rattle.poly_factors.proofs.gcd.Statement.{statement}
-use Rattle.poly_factors.proofs.gcd.Tie as tie
+-- `poly_euclid::gcd` meets its contract: the row in which Euclid found it.
+use Rattle.poly_euclid.proofs.Turns.{in-first, in-second}
+use Rattle.poly_euclid.proofs.gcd.Statement.{statement}
+use Rattle.poly_euclid.proofs.gcd.Tie as tie
 
 euclid-requires : tie.Need-euclid-requires
 euclid-requires c κs = c .before .before .before .before .pre

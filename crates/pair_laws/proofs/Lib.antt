@@ -1,0 +1,4 @@
+pub mod Lists
+pub mod Relation
+pub mod Laws
+pub mod Example

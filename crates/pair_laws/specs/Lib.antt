@@ -1,0 +1,2 @@
+pub mod OneField
+pub mod Rows
