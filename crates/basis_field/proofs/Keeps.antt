@@ -12,6 +12,7 @@ use Prim.Native.Nat.{ℕ, _+_, _*_, _%_, _<_, _≤_}
 use native.Mathlib.Omega.{arith}
 use native.Mathlib.Decide.{decLt}
 use lib.ListN.{length, getD, List·getD-eq-default}
+use Rattle.base_lists.specs.Sums.{entry}
 use Rattle.num_mod.specs.Residue.{IsModulus}
 use Rattle.math_rows.specs.Reading.{Reading}
 use Rattle.math_rows.specs.Made.{reading}
@@ -21,7 +22,6 @@ use Rattle.math_rows.proofs.Rows.{row-tab, row-upto}
 use Rattle.field_open.specs.Refusal.{Degree, Accepted}
 use Rattle.field_open.specs.Opening.{pad}
 use Rattle.field_open.specs.Opening as F
-use Rattle.field_roots.specs.SeriesOf.{entry}
 use Rattle.field_roots.proofs.Only.{series-of-reads}
 use Rattle.basis_record.specs.Record.{setting}
 use Rattle.field_series.specs.Keeps.{Keeps}

@@ -4,10 +4,10 @@
 --   table-whole   the lines are those of P1 to P12: each number is there, in order, and no other
 use mathlib.Core.Path.{_≡_, refl}
 use mathlib.Core.List.{List, [], _∷_}
+use Rattle.base_lists.specs.Sums.{conv}
 use Rattle.math_fp.specs.Trial.{primeb}
 use Rattle.math_rows.specs.Row.{tab, fallAt}
 use Rattle.math_rows.specs.Sum.{sumTo}
-use Rattle.field_roots.specs.First.{conv}
 use Rattle.field_roots.specs.Prefix.{partAt, plusPart, minusPart}
 use Rattle.examples.specs.Lines.{element, AllHold, labels}
 use Rattle.examples.specs.Table.{num, t, b₁, b₂, b₃, b₄, e₃, f₃, table}

@@ -12,9 +12,10 @@ use native.Mathlib.Omega.{arith}
 use native.Mathlib.Decide.{ℕ-discrete}
 use lib.Dec.{T, eqb, ltb, leb, eqb→eq, ltb→lt, leb→le, eqb-refl, T-not}
 use lib.ListN.{length, getD}
+use Rattle.base_lists.specs.Sums.{entry, prod}
 use Rattle.math_fp.proofs.Trial.{and-l, and-r, primeb-sound}
 use Rattle.field_open.specs.Refusal.{Degree, Accepted}
-use Rattle.field_roots.specs.SeriesOf.{top, entry, prod, SeriesOf}
+use Rattle.field_roots.specs.SeriesOf.{top, SeriesOf}
 use Rattle.examples_lists.specs.Lists.{slope}
 use Rattle.examples_lists.specs.Quotients.{bezout}
 use Rattle.examples_lists.proofs.Meaning.{coprime-list, squarefree-list}

@@ -15,13 +15,14 @@ use mathlib.Core.List.{List, [], _∷_}
 use Prim.Native.Nat.{ℕ, zero, suc, _+_, _*_, _-_, _%_}
 use lib.Dec.{eqb, ltb, leb}
 use lib.ListN.{length, getD}
+use Rattle.base_lists.specs.Sums.{entry, prod}
 use Rattle.math_ring.specs.Ring.{Ops}
 use Rattle.math_triple.specs.Tri.{Tri, cofT, normT}
 use Rattle.math_triple.specs.Order.{triops}
 use Rattle.math_fp.specs.Trial.{primeb}
 use Rattle.num_prime.specs.Table.{largest}
 use Rattle.field_open.specs.Refusal.{longest, highest}
-use Rattle.field_roots.specs.SeriesOf.{top, entry, prod}
+use Rattle.field_roots.specs.SeriesOf.{top}
 use Rattle.field_roots.specs.Prefix.{enough, plusPart, minusPart}
 use Rattle.field_roots.specs.Pair.{degR, degW}
 use Rattle.basis_record.specs.Record.{part}

@@ -8,10 +8,11 @@ use mathlib.Core.List.{List}
 use Prim.Native.Nat.{ℕ, suc, _*_, _%_, _≤_, _<_}
 use native.Mathlib.Omega.{arith}
 use lib.ListN.{length, getD}
+use Rattle.base_lists.specs.Sums.{entry, prod}
 use Rattle.math_fp.proofs.Field.{ppos}
 use Rattle.math_rows.specs.Row.{tab}
 use Rattle.field_open.specs.Refusal.{Degree, Accepted}
-use Rattle.field_roots.specs.SeriesOf.{top, entry, prod, SeriesOf}
+use Rattle.field_roots.specs.SeriesOf.{top, SeriesOf}
 use Rattle.field_roots.proofs.Only.{top-lead}
 use Rattle.field_next.specs.Next.{Filled}
 use Rattle.field_pairs.specs.Pairs.{Filler, Made}

@@ -8,11 +8,12 @@ use Prim.Native.Nat.{ℕ, zero, suc, _-_, _≤_, _<_}
 use native.Mathlib.Decide.{decLt}
 use native.Mathlib.Omega.{arith}
 use lib.ListN.{length, getD, List·getD-eq-default}
+use Rattle.base_lists.specs.Sums.{entry}
 use Rattle.math_rows.specs.Row.{tab, fallAt}
 use Rattle.math_rows.proofs.Tab.{at-tab, past-tab}
 use Rattle.math_rows.proofs.Floors.{fall-in, fall-out}
 use Rattle.field_open.specs.Refusal.{Degree}
-use Rattle.field_roots.specs.SeriesOf.{top, entry}
+use Rattle.field_roots.specs.SeriesOf.{top}
 
 pub top-in : (l : List ℕ) (i : ℕ) → i < length l → top l i ≡ getD l (length l - 1 - i) 0
 top-in l i h = fall-in l (length l - 1) i (omega arith)

@@ -6,10 +6,9 @@ use mathlib.Core.Path.{_≡_, refl, sym, ap, ap₂, _∙_}
 use Prim.Native.Nat.{ℕ, zero, suc, _+_, _*_, _-_, _≤_, _<_}
 use native.Mathlib.Nat.{zero-add, add-assoc, mul-le-mul}
 use native.Mathlib.Omega.{arith}
+use Rattle.base_lists.specs.Sums.{conv, prod}
 use Rattle.math_rows.specs.Sum.{sumTo}
 use Rattle.math_rows.proofs.Product.{sum-ext}
-use Rattle.field_roots.specs.First.{conv}
-use Rattle.field_roots.specs.SeriesOf.{prod}
 
 -- two stored coefficients
 pub product-small : (a b : ℕ) → a < 65536 → b < 65536 → a * b ≤ 4294836225

@@ -9,8 +9,7 @@ use native.Mathlib.Decide.{ℕ-discrete}
 use native.Mathlib.Omega.{arith}
 use lib.ListN.{length, getD, set, length-set}
 use lib.Seq.{getD-set-same, getD-set-other}
-use Rattle.field_roots.specs.First.{conv}
-use Rattle.field_roots.specs.SeriesOf.{entry, prod}
+use Rattle.base_lists.specs.Sums.{entry, conv, prod}
 use Rattle.field_next.specs.Next.{Filled, Filling, Turned}
 use Rattle.field_next.proofs.Sums.{prod-ext, prod-change}
 use Rattle.field_next.proofs.Step.{lack, r-next, w-next, r-next-below, w-next-below, next-square, next-product}

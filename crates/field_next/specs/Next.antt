@@ -11,8 +11,8 @@ use mathlib.Core.Path.{_≡_}
 use mathlib.Core.List.{List}
 use Prim.Native.Nat.{ℕ, _+_, _*_, _%_, _<_, _≤_}
 use lib.ListN.{length}
+use Rattle.base_lists.specs.Sums.{entry, prod}
 use Rattle.base_answers.specs.Limits.{longest}
-use Rattle.field_roots.specs.SeriesOf.{entry, prod}
 
 pub record Place (p i : ℕ) : Type 0 where
   pub pos : 0 < p

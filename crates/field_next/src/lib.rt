@@ -1,7 +1,7 @@
 // The next pair of coefficients of the series of r and w, from two linear equations, where those before it are there. Crate field_fill has the loop.
 use base_lists::wide;
 ghost use Prim.Native.Nat.{_+_, _*_, _-_, _%_};
-ghost use Rattle.field_roots.specs.SeriesOf.{entry, prod};
+ghost use Rattle.base_lists.specs.Sums.{entry, prod};
 ghost use Rattle.field_next.specs.Next.{Place, Point, Entry, Rest, Two, Four, Filling, Turned};
 
 // The entry i of a series, 0 past its end.

@@ -6,8 +6,7 @@ use native.Mathlib.Nat.{mod-lt}
 use native.Mathlib.Omega.{arith}
 use lib.ListN.{length, set, length-set}
 use lib.Seq.{getD-set-same}
-use Rattle.field_roots.specs.First.{conv}
-use Rattle.field_roots.specs.SeriesOf.{entry}
+use Rattle.base_lists.specs.Sums.{entry, conv}
 use Rattle.field_next.specs.Next.{Filled}
 use Rattle.field_next.proofs.Step.{w-first, start-square, start-product}
 use Rattle.field_next.proofs.Turns.{more}

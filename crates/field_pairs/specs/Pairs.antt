@@ -5,8 +5,8 @@ use mathlib.Core.Path.{_≡_}
 use mathlib.Core.List.{List}
 use Prim.Native.Nat.{ℕ, _*_, _%_, _<_, _≤_}
 use lib.ListN.{length}
+use Rattle.base_lists.specs.Sums.{entry}
 use Rattle.base_answers.specs.Limits.{longest}
-use Rattle.field_roots.specs.SeriesOf.{entry}
 use Rattle.field_next.specs.Next.{Filled}
 
 pub record Filler (p : ℕ) (g h : List ℕ) (c u : ℕ) (r w : List ℕ) : Type 0 where

@@ -16,6 +16,7 @@ use native.Mathlib.Nat.{zero-add, add-zero, suc-add}
 use native.Mathlib.Decide.{decLe}
 use native.Mathlib.Omega.{arith}
 use lib.ListN.{length, getD}
+use Rattle.base_lists.specs.Sums.{conv}
 use Rattle.math_ring.specs.Ring.{Ops, CRing}
 use Rattle.math_ring.proofs.Laws as r
 use Rattle.math_ring.proofs.Solve.{var, one, zer, minus, _:+_, _:*_, _:-_, hyp, solve, solve-by}
@@ -27,7 +28,7 @@ use Rattle.math_rows.specs.Row.{tab, tpow, psum, coefs, row, fallAt, Floor}
 use Rattle.math_rows.proofs.Rows.{tpow-add, tpow-lead, psum-cut, row-tab}
 use Rattle.math_rows.proofs.Floors.{fall-in, fall-out}
 use Rattle.math_valued.proofs.Compare.{lt-mul-sharp}
-use Rattle.field_roots.specs.First.{conv, fall, Begins}
+use Rattle.field_roots.specs.First.{fall, Begins}
 use Rattle.field_roots.proofs.First.{convᵏ, fall-ext, fall-poly, fall-lt, fall-lead, fall-split, fall-zero, fall-psum, fall-inj, fall-mul}
 
 module _ {p : ℕ} (ρ : Reading p) where

@@ -11,6 +11,7 @@ use Prim.Native.Nat.{ℕ, zero, suc, _≤_, _<_}
 use Prim.Native.Nat as N
 use native.Mathlib.Nat.{zero-add, add-zero, suc-add}
 use native.Mathlib.Omega.{arith}
+use Rattle.base_lists.specs.Sums.{conv}
 use Rattle.math_ring.specs.Ring.{Ops, CRing}
 use Rattle.math_ring.proofs.Laws as r
 use Rattle.math_ring.proofs.Solve.{var, one, zer, minus, _:+_, _:*_, _:-_, hyp, solve, solve-by}
@@ -22,7 +23,7 @@ use Rattle.math_rows.specs.Row.{tpow, psum}
 use Rattle.math_rows.proofs.Rows.{const-zero, tpow-add, tpow-lead}
 use Rattle.math_rows.proofs.Turn.{lt-scale, lead-scale}
 use Rattle.math_rows.proofs.Unique.{psum-unique}
-use Rattle.field_roots.specs.First.{conv, fall}
+use Rattle.field_roots.specs.First.{fall}
 
 module _ {p : ℕ} (ρ : Reading p) where
   open Reading ρ using (𝓥)

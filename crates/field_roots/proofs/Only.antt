@@ -9,6 +9,7 @@ use Prim.Native.Nat as N
 use native.Mathlib.Omega.{arith}
 use lib.ListN.{length, getD}
 use lib.Seq.{ext-getD}
+use Rattle.base_lists.specs.Sums.{entry, conv, prod}
 use Rattle.math_ring.specs.Ring.{Ops, CRing}
 use Rattle.math_fp.specs.Fp.{Prime}
 use Rattle.math_valued.specs.Val.{Valued}
@@ -18,8 +19,8 @@ use Rattle.math_rows.specs.Row.{fallAt, Reads}
 use Rattle.math_rows.proofs.Unique.{cast-inj, same-cast}
 use Rattle.math_rows.proofs.Numbers.{cast-cube}
 use Rattle.field_open.specs.Refusal.{Degree, Accepted}
-use Rattle.field_roots.specs.First.{conv, Begins}
-use Rattle.field_roots.specs.SeriesOf.{top, entry, prod, SeriesOf}
+use Rattle.field_roots.specs.First.{Begins}
+use Rattle.field_roots.specs.SeriesOf.{top, SeriesOf}
 use Rattle.field_roots.proofs.First.{convᵏ}
 use Rattle.field_roots.proofs.Begin.{begins-row, begins-unique, begins-floor, cast-conv}
 use Rattle.field_roots.proofs.Near.{pair-begins}

@@ -9,6 +9,7 @@ use Prim.Native.Nat as N
 use native.Mathlib.Nat.{mod-lt}
 use native.Mathlib.Omega.{arith}
 use lib.ListN.{length, getD}
+use Rattle.base_lists.specs.Sums.{entry}
 use Rattle.math_ring.specs.Ring.{Ops, CRing}
 use Rattle.math_ring.proofs.Laws as r₀
 use Rattle.math_ring.proofs.Solve.{var, one, zer, minus, _:+_, _:*_, solve}
@@ -26,7 +27,7 @@ use Rattle.math_rows.proofs.Floors.{floor-add, floor-sub}
 use Rattle.math_rows.proofs.Turn.{lt-scale}
 use Rattle.field_open.specs.Refusal.{Accepted}
 use Rattle.field_roots.specs.First.{Begins}
-use Rattle.field_roots.specs.SeriesOf.{entry, SeriesOf}
+use Rattle.field_roots.specs.SeriesOf.{SeriesOf}
 use Rattle.field_roots.specs.Prefix.{enough, partAt, plusPart, minusPart}
 use Rattle.field_roots.proofs.Begin.{begins-floor}
 use Rattle.field_roots.specs.Pair.{degR, degW}

@@ -1,7 +1,7 @@
 -- The first coefficients of a series.
 --   fall n f         f₀ t^(n − 1) + f₁ t^(n − 2) + .. + f_(n − 1)
 --   Begins n f d z   z, a series of degree at most d, begins f₀ t^d + f₁ t^(d − 1) + .. + f_(n − 1) t^(d − n + 1)
---   conv f g n       the coefficient n of the product of two series: f₀ g_n + f₁ g_(n − 1) + .. + f_n g₀
+-- The coefficient n of the product of two series is `conv` of crate base_lists.
 -- In proofs/First.antt: products and differences of series that begin so, that a series has one beginning, and that a row begins with its
 -- coefficients, read from the top.
 use Prim.Native.Nat.{ℕ, zero, suc}
@@ -10,11 +10,6 @@ use Rattle.math_valued.specs.Val.{Valued}
 use Rattle.math_valued.specs.Degree.{Lt}
 use Rattle.math_rows.specs.Reading.{Reading}
 use Rattle.math_rows.specs.Row.{tpow}
-
--- over any sum and product, so that it is read at numbers and at the elements of a field
-unfoldable pub conv : {A : Type 0} (add mul : A → A → A) → (ℕ → A) → (ℕ → A) → ℕ → A
-conv add mul f g zero = mul (f 0) (g 0)
-conv add mul f g (suc n) = add (mul (f 0) (g (suc n))) (conv add mul (λ i. f (suc i)) g n)
 
 module _ {p : ℕ} (ρ : Reading p) where
   open Reading ρ using (𝓥)

@@ -5,9 +5,9 @@
 -- `prefix-is-enough` in proofs/Prefix.antt: for all b, c of degree at most 16 these are the polynomial parts of the true series.
 use mathlib.Core.List.{List}
 use Prim.Native.Nat.{ℕ, _+_, _*_, _-_, _%_}
+use Rattle.base_lists.specs.Sums.{entry}
 use Rattle.math_rows.specs.Row.{tab, fallAt}
 use Rattle.math_rows.specs.Sum.{sumTo}
-use Rattle.field_roots.specs.SeriesOf.{entry}
 
 abbrev pub enough : ℕ
 enough = 26

@@ -1,26 +1,19 @@
 -- The numbers that are the first coefficients of r and w, highest power first.
 --   top l i              the entry of a polynomial's list (lowest coefficient first) i places below its leading one; 0 past its end
---   entry l i            the entry i of a list; 0 past its end
---   prod f g n           f 0 · g n + f 1 · g (n − 1) + .. + f n · g 0: the coefficient n of a product of two series
 --   SeriesOf p G H r w   r and w are equally long and their numbers below p; the first of r is a cube root of the leading coefficient of
 --                        D = G·H²; and r² = H·w and r·w = G·H, mod p, in each coefficient as far as the lists reach
+-- `entry` and `prod` are those of crate base_lists.
 -- One list of each length for r and one for w meet this (`series-of-unique` in proofs/Only.antt), and they are the coefficients of the two series
 -- (`series-of-begins` in proofs/Only.antt).
 use mathlib.Core.Path.{_≡_}
 use mathlib.Core.List.{List}
 use Prim.Native.Nat.{ℕ, _+_, _*_, _-_, _%_, _<_}
-use lib.ListN.{length, getD}
+use lib.ListN.{length}
 use Rattle.math_rows.specs.Row.{fallAt}
-use Rattle.field_roots.specs.First.{conv}
+use Rattle.base_lists.specs.Sums.{entry, prod}
 
 abbrev pub top : List ℕ → ℕ → ℕ
 top l = fallAt l (length l - 1)
-
-abbrev pub entry : List ℕ → ℕ → ℕ
-entry l i = getD l i 0
-
-abbrev pub prod : (ℕ → ℕ) → (ℕ → ℕ) → ℕ → ℕ
-prod = conv _+_ _*_
 
 pub record SeriesOf (p : ℕ) (G H r w : List ℕ) : Type 0 where
   pub even : length w ≡ length r

@@ -4,7 +4,7 @@ use mathlib.Core.Path.{_≡_, _∙_, ap₂}
 use native.Mathlib.Omega.{arith}
 use lib.ListN.{length, length-set, set}
 use borrow.Author.Needs.{needs}
-use Rattle.field_roots.specs.SeriesOf.{entry}
+use Rattle.base_lists.specs.Sums.{entry}
 use Rattle.field_next.specs.Next.{Filling}
 use Rattle.field_next.proofs.Step.{r-next, w-next}
 use Rattle.field_next.proofs.Turns.{short-a, short-b, turned}

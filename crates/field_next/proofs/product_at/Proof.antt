@@ -8,7 +8,7 @@ use lib.ListN.{length, length-set, getD, List·getD-eq-default}
 use native.Mathlib.Nat.{zero-mul, mod-lt}
 use mathlib.Core.Logic.{_⊎_, inl, inr, ⊎-elim}
 use borrow.Author.Needs.{needs}
-use Rattle.field_roots.specs.SeriesOf.{entry, prod}
+use Rattle.base_lists.specs.Sums.{entry, prod}
 use Rattle.field_next.proofs.Sums.{prod-sum, product-small}
 use Rattle.math_rows.specs.Sum.{sumTo}
 use Rattle.math_rows.proofs.Product.{sum-more, sum-skip, sum-none}

@@ -5,7 +5,7 @@ use native.Mathlib.Omega.{arith}
 use lib.Seq.{getD-set-same}
 use lib.ListN.{length, length-set}
 use borrow.Author.Needs.{needs}
-use Rattle.field_roots.specs.SeriesOf.{entry}
+use Rattle.base_lists.specs.Sums.{entry}
 use Rattle.field_next.specs.Next.{Filled, Filling}
 use Rattle.field_pairs.specs.Pairs.{Filler, Made}
 use Rattle.field_pairs.proofs.Filling.{started, made-none}

@@ -5,8 +5,8 @@ use native.Mathlib.Omega.{arith}
 use lib.ListN.{length, getD}
 use lib.Seq.{ext-getD}
 use borrow.Author.Needs.{needs}
+use Rattle.base_lists.specs.Sums.{entry}
 use Rattle.math_rows.proofs.Tab.{Filled, filled-start, filled-more, filled-end, length-tab, at-tab}
-use Rattle.field_roots.specs.SeriesOf.{entry}
 use Rattle.field_series.proofs.widened.Statement.{statement}
 use Rattle.field_series.proofs.widened.Tie as tie
 use Rattle.field_series.proofs.widened.Reads as reads
