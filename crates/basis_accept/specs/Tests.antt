@@ -1,5 +1,5 @@
--- What the tests of refusal 9 on seven rows ask and decide. The tests of numbers and lengths are in crate basis_shape, specs/Lengths.antt, that of a
--- common factor is in crate basis_coprime.
+-- What the tests of refusal 9 on seven rows ask and decide. The tests of numbers and lengths are in crates basis_bounds and basis_shape,
+-- that of a common factor is in crate basis_coprime.
 --   Numbers μ b       the sizes of a scaled reduced basis of a reduced ideal (crate math_ideals)
 --   Shaped            a test of these, at each meaning of the series
 use mathlib.Core.Bool.{Bool}

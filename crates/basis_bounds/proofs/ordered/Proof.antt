@@ -1,11 +1,11 @@
--- `basis_shape::ordered` meets its contract: one comparison at a time.
+-- `basis_bounds::ordered` meets its contract: one comparison at a time.
 use mathlib.Core.Logic.{_⊎_, inl, inr}
 use native.Mathlib.Omega.{arith}
 use Rattle.base_answers.proofs.Tests.{answer-yes, answer-no}
-use Rattle.basis_shape.proofs.ordered.Statement.{statement}
-use Rattle.basis_shape.proofs.ordered.Tie as tie
-use Rattle.basis_shape.proofs.ordered.Reads as reads
-use Rattle.basis_shape.proofs.ordered.Lts as lts
+use Rattle.basis_bounds.proofs.ordered.Statement.{statement}
+use Rattle.basis_bounds.proofs.ordered.Tie as tie
+use Rattle.basis_bounds.proofs.ordered.Reads as reads
+use Rattle.basis_bounds.proofs.ordered.Lts as lts
 
 returns : tie.Need-returns
 returns c = answer-no (λ s. omega (arith, s .Y-M, s .Z-M, s .Z-N, s .Y-N, s .X-M, s .X-N))
