@@ -23,29 +23,9 @@ pub fn below(p: u64, b: [u16; 119]) -> bool
 pub fn ordered(lu: usize, lx: usize, ly: usize, ln: usize, lm: usize, a: usize, b: usize) -> bool
     ensures { λ o. ⌜ Decides o (Ordered lu lx ly ln lm a b) ⌝ }
 {
-    if lu <= lm {
-        return false;
+    if lm < lu && a < lu && b < lu && lu <= ly && lu < lx && ln < lx {
+        lu < ly || lu < ln
+    } else {
+        false
     }
-    if lu <= a {
-        return false;
-    }
-    if lu <= b {
-        return false;
-    }
-    if ly < lu {
-        return false;
-    }
-    if lx <= lu {
-        return false;
-    }
-    if lx <= ln {
-        return false;
-    }
-    if ly > lu {
-        return true;
-    }
-    if ln > lu {
-        return true;
-    }
-    false
 }
