@@ -12,7 +12,6 @@ use Rattle.math_ideals.specs.Tests.{ReducedInNumbers}
 use Rattle.base_answers.specs.Decides.{Decides}
 use Rattle.basis_record.specs.Seven.{Seven, AreRows}
 use Rattle.basis_parts.specs.Frame.{Frame, Fine, Meaning, Short, rd, Ser, rowμ}
-use Rattle.basis_scale.specs.Based.{Z}
 
 pub record SizesRightAsks (F : Frame) (top : ℕ) (b : Seven) : Type 0 where
   pub fine : Fine F
