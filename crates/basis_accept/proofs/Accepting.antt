@@ -40,7 +40,8 @@ use Rattle.base_answers.specs.Decides.{Decides}
 use Rattle.base_answers.proofs.Tests.{answer-no, decides-unique}
 use Rattle.basis_closed.specs.Closed.{Closed, Given, Room, longest, ClosedUnderRAndWAsks, Under}
 use Rattle.basis_coprime.specs.Coprime.{NoCommonFactorAsks, Alone}
-use Rattle.basis_shape.specs.Lengths.{Below, Narrow, RowsFitAsks}
+use Rattle.basis_bounds.specs.Bounds.{Below}
+use Rattle.basis_shape.specs.Lengths.{Narrow, RowsFitAsks}
 use Rattle.basis_accept.specs.Tests.{SizesRightAsks, Shaped, Numbers}
 use Rattle.basis_accept.specs.Answer.{Seventeen, PassesAsks, Passes, Accepts}
 

@@ -1,5 +1,5 @@
--- What the tests of refusal 9 on seven rows ask and decide. The tests of numbers and lengths are in crate basis_shape, specs/Lengths.antt, that of a
--- common factor is in crate basis_coprime.
+-- What the tests of refusal 9 on seven rows ask and decide. The tests of numbers and lengths are in crates basis_bounds and basis_shape,
+-- that of a common factor is in crate basis_coprime.
 --   Numbers μ b       the sizes of a scaled reduced basis of a reduced ideal (crate math_ideals)
 --   Shaped            a test of these, at each meaning of the series
 use mathlib.Core.Bool.{Bool}
@@ -12,7 +12,6 @@ use Rattle.math_ideals.specs.Tests.{ReducedInNumbers}
 use Rattle.base_answers.specs.Decides.{Decides}
 use Rattle.basis_record.specs.Seven.{Seven, AreRows}
 use Rattle.basis_parts.specs.Frame.{Frame, Fine, Meaning, Short, rd, Ser, rowμ}
-use Rattle.basis_scale.specs.Based.{Z}
 
 pub record SizesRightAsks (F : Frame) (top : ℕ) (b : Seven) : Type 0 where
   pub fine : Fine F

@@ -1,11 +1,11 @@
 // Refusal 9: all tests of a record. Each is two-sided. specs/Tests.antt has what they decide; proofs/ has that lengths of polynomial parts decide
-// the sizes (Shapes). Crate basis_shape has the tests of numbers and lengths, crate basis_coprime that of a common factor, crate basis_closed those of closure.
+// the sizes (Shapes). Crates basis_bounds and basis_shape have the tests of numbers and lengths, crate basis_coprime that of a common factor, crate basis_closed those of closure.
+use basis_bounds::below;
 use basis_closed::closed_under_r_and_w;
 use basis_coprime::no_common_factor;
 use basis_parts::Bounds;
 use basis_parts::floor;
 use basis_record::load;
-use basis_shape::below;
 use basis_shape::rows_fit;
 use basis_shape::shape;
 use num_mod::prepare;

@@ -15,7 +15,7 @@ use Rattle.basis_record.proofs.Unique.{basis-unique}
 use Rattle.num_mod.specs.Prepared.{PreparedOf, ready}
 use Rattle.num_mod.specs.declared.Modulus.{Modulus}
 use Rattle.basis_parts.specs.Frame.{frame}
-use Rattle.basis_scale.specs.Based.{Based}
+use Rattle.basis_finish.specs.Based.{Based}
 use Rattle.basis_scale.specs.First.{OrderAsks, units, unit, nothing}
 use Rattle.basis_scale.proofs.Start.{order-start}
 use Rattle.field_series.specs.Keeps.{Keeps}

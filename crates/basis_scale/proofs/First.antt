@@ -19,7 +19,7 @@ use Rattle.math_turns.specs.Points.{Pt}
 use Rattle.basis_parts.specs.Frame.{Frame, Meaning, Short, rd, Ser, pt, X, Y, D, Hasμ}
 use Rattle.basis_clear.specs.Clear.{ClearYAsks, Room, Rows}
 use Rattle.basis_parts.proofs.Laid.{zeros-at, zeros-row, zeros-size}
-use Rattle.basis_scale.specs.Based.{BasisAsks, ReducedBasisAsks}
+use Rattle.basis_finish.specs.Based.{BasisAsks, ReducedBasisAsks}
 use Rattle.basis_scale.specs.First.{unit, nothing, units, OrderAsks}
 
 -- ---- the rows of 1 and 0

@@ -1,3 +1,2 @@
-pub mod Based
 pub mod First
 pub mod Start

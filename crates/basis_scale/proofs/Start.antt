@@ -21,7 +21,7 @@ use Rattle.math_chain.proofs.Frame.{pair}
 use Rattle.math_chain.proofs.Correct.{order-correct}
 use Rattle.basis_record.specs.Record.{part, setting, polyOf, basisOf}
 use Rattle.basis_parts.specs.Frame.{Frame, frame, Meaning, pt}
-use Rattle.basis_scale.specs.Based.{BasedAt, Based, Mpt, Npt, at}
+use Rattle.basis_finish.specs.Based.{BasedAt, Based, Mpt, Npt, at}
 use Rattle.basis_scale.specs.First.{unit, nothing, units}
 use Rattle.basis_scale.proofs.First.{unit-is, nothing-is}
 

@@ -1,2 +1,2 @@
-pub mod Based
+pub mod Gives
 pub mod First

@@ -1,6 +1,5 @@
 -- Lengths are settled.
 --   too-long, ends-at        a length against a bound
---   below-end                all 119 numbers are passed, and past the end stands 0
 --   not-ordered, not-units   no shape, where lengths or leading coefficients are not in order
 --   shape-from               the shape, where the lengths are in order
 use mathlib.Core.Path.{_≡_, ap, _∙_}
@@ -9,24 +8,18 @@ use mathlib.Core.Bool.{Bool}
 use mathlib.Core.List.{List}
 use Prim.Native.Nat.{ℕ, _-_, _<_, _≤_}
 use native.Mathlib.Omega.{arith}
-use native.Mathlib.Decide.{decLt}
-use lib.ListN.{length, getD, List·getD-eq-default}
+use lib.ListN.{getD}
 use Rattle.math_rows.specs.Row.{Size}
 use Rattle.poly_rows.proofs.Leaf.{size-unique}
 use Rattle.base_answers.specs.Decides.{Decides}
-use Rattle.basis_shape.specs.Lengths.{Ends, Ordered, Units, Shape}
+use Rattle.basis_bounds.specs.Bounds.{Ordered}
+use Rattle.basis_shape.specs.Lengths.{Ends, Units, Shape}
 
 pub too-long : {l : List ℕ} {n k : ℕ} → Size l n → k < n → Ends l k → ⊥
 too-long {l} {n} {k} s h e = s .top (omega arith) (e (n - 1) (omega arith))
 
 pub ends-at : {l : List ℕ} {n k : ℕ} → Size l n → n ≤ k → Ends l k
 ends-at s h i g = s .above i (omega arith)
-
-pub below-end : (p : ℕ) (B : List ℕ) (i : ℕ) → ((k : ℕ) → k < i → getD B k 0 < p) → length B ≡ 119 → 119 ≤ i → (k : ℕ) → getD B k 0 < p
-below-end p B i h s l k = elim (decLt k 119) [
-  | yes g ↦ h k (omega arith)
-  | no g ↦ let e : getD B k 0 ≡ 0 = List·getD-eq-default B 0 {n = k} (omega arith) in let z : getD B 0 0 < p = h 0 (omega arith) in omega arith
-]
 
 -- lengths are settled
 pub not-ordered : {u mx my nx ny zm zn : List ℕ} {lu lx ly ln lm a b : ℕ} → Size u lu → Size mx lx → Size ny ly → Size nx ln → Size my lm → Size zm a → Size zn b

@@ -1,22 +1,17 @@
--- What the tests of numbers, lengths and leading coefficients ask and decide.
---   Below p B         every number is below p
+-- What the tests of lengths and leading coefficients ask and decide.
 --   Ends l n          a row ends before n
 --   Narrow            rows b end before kb, rows c before kc
---   Ordered, Units    the inequalities of lengths; the leading coefficients
---   Shape             both, of rows
--- A statement settles the answer of its test: `settled`, in crate base_answers. What the shape of polynomial parts says of a basis: `shaped-of`, in
+--   Units             the leading coefficients
+--   Shape             the inequalities of lengths (crate basis_bounds) and the leading coefficients, of rows
+-- A statement settles the answer of its test: `decides-unique`, in crate base_answers. What the shape of polynomial parts says of a basis: `shaped-of`, in
 -- crate basis_accept.
 use mathlib.Core.Path.{_≡_}
-use mathlib.Core.Logic.{_⊎_}
 use mathlib.Core.List.{List}
-use Prim.Native.Nat.{ℕ, _-_, _<_, _≤_}
+use Prim.Native.Nat.{ℕ, _-_, _≤_}
 use lib.ListN.{length, getD}
 use Rattle.math_rows.specs.Row.{Size}
+use Rattle.basis_bounds.specs.Bounds.{Ordered}
 
-abbrev pub Below : ℕ → List ℕ → Type 0
-Below p B = (i : ℕ) → getD B i 0 < p
-
--- ---- lengths
 pub record RowsFitAsks (m1 m2 n1 n2 : List ℕ) : Type 0 where
   pub h1 : length m1 ≡ 32
   pub h2 : length m2 ≡ 32
@@ -31,16 +26,6 @@ pub record Narrow (kb kc : ℕ) (m1 m2 n1 n2 : List ℕ) : Type 0 where
   pub h2 : Ends m2 kc
   pub k1 : Ends n1 kb
   pub k2 : Ends n2 kc
-
--- "deg X(m) > deg X(n); deg Y(m) < 0 ≤ deg Y(n); deg Z(m) < 0 and deg Z(n) < 0", "deg X(m) > 0, and deg X(n) > 0 or deg Y(n) > 0"
-pub record Ordered (lu lx ly ln lm a b : ℕ) : Type 0 where
-  pub Y-M : lm < lu
-  pub Z-M : a < lu
-  pub Z-N : b < lu
-  pub Y-N : lu ≤ ly
-  pub X-M : lu < lx
-  pub X-N : ln < lx
-  pub N-large : (lu < ly) ⊎ (lu < ln)
 
 -- "X(m) has leading coefficient 2, Y(n) has 1 .. U is monic"
 pub record Units (u x y : ℕ) : Type 0 where

@@ -1,25 +1,9 @@
-// Refusal 9: the tests of a record that look at numbers, lengths and leading coefficients alone. Each is two-sided. specs/Lengths.antt has what
-// they decide, proofs/Lengths.antt that lengths are settled. Crate accepts has what they say of an ideal.
-use base_lists::wide;
+// Refusal 9: the tests of a record that look at lengths and leading coefficients alone. Each is two-sided. specs/Lengths.antt has what they decide,
+// proofs/Lengths.antt that lengths are settled. Crate basis_bounds compares the lengths, crate basis_accept has what they say of an ideal.
+use basis_bounds::ordered;
 use poly_rows::size;
-ghost use mathlib.Core.Path.{_≡_};
 ghost use Rattle.base_answers.specs.Decides.{Decides};
-ghost use Rattle.basis_shape.specs.Lengths.{Below, Narrow, RowsFitAsks, Ordered, Units, Shape, ShapeAsks};
-
-// Whether every number is below p.
-pub fn below(p: u64, b: [u16; 119]) -> bool
-    ensures { λ o. ⌜ Decides o (Below p b) ⌝ }
-{
-    let mut i: usize = 0;
-    while i < 119 {
-        let v = wide(b[i]);
-        if v >= p {
-            return false;
-        }
-        i += 1;
-    }
-    true
-}
+ghost use Rattle.basis_shape.specs.Lengths.{Narrow, RowsFitAsks, Units, Shape, ShapeAsks};
 
 // Whether m1 and n1 end before kb, and m2 and n2 before kc.
 pub fn rows_fit(
@@ -50,37 +34,6 @@ pub fn rows_fit(
         return false;
     }
     true
-}
-
-// The inequalities of a reduced basis of a reduced ideal, in lengths: of u, X(M), Y(N), X(N), Y(M), Z(M), Z(N).
-fn ordered(lu: usize, lx: usize, ly: usize, ln: usize, lm: usize, a: usize, b: usize) -> bool
-    ensures { λ o. ⌜ Decides o (Ordered lu lx ly ln lm a b) ⌝ }
-{
-    if lu <= lm {
-        return false;
-    }
-    if lu <= a {
-        return false;
-    }
-    if lu <= b {
-        return false;
-    }
-    if ly < lu {
-        return false;
-    }
-    if lx <= lu {
-        return false;
-    }
-    if lx <= ln {
-        return false;
-    }
-    if ly > lu {
-        return true;
-    }
-    if ln > lu {
-        return true;
-    }
-    false
 }
 
 // The leading coefficients of a scaled basis.

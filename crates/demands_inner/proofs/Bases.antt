@@ -34,7 +34,8 @@ use Rattle.basis_clear.specs.Clear.{Pair, pair, swapIf}
 use Rattle.basis_record.specs.Store.{Stored, Loaded}
 use Rattle.basis_scale.specs.First.{nothing, unit, units, OrderAsks}
 use Rattle.basis_store.specs.Place.{padded}
-use Rattle.basis_scale.specs.Based.{ReducedBasisAsks, ReducedBasisGives, BasedAt, Based, Z, at, Mpt, Npt}
+use Rattle.basis_scale.specs.Gives.{ReducedBasisGives}
+use Rattle.basis_finish.specs.Based.{ReducedBasisAsks, BasedAt, Based, Z, at, Mpt, Npt}
 use Rattle.demands_inner.proofs.Rows.{by-row}
 use Rattle.demands_inner.proofs.Poly.{scaled-at}
 use Rattle.demands_inner.specs.UpTo.{Scaled}

@@ -33,9 +33,11 @@
 --   basis_clear    canceled, clear_y serve `reduced` alone: reduced-unique is of the whole
 --   basis_reduce   reduced, up to constants and the order of its elements: reduced-unique (Reduction)
 --   basis_store    factors_of, filled serve `reduced_basis` alone: reduced-basis-unique is of the whole
+--   basis_finish   finished serves `reduced_basis` alone: reduced-basis-unique is of the whole
 --   basis_scale    reduced_basis, up to the order of two lent elements: reduced-basis-unique; order: order-unique (Bases)
 --   basis_lattice  lengths_of, coordinates, member: lengths-of-unique, coordinates-unique, member-unique (Lattice)
---   basis_shape    below, rows_fit, shape: decides-unique (base_answers/proofs/Tests)
+--   basis_bounds   below, ordered: decides-unique (base_answers/proofs/Tests)
+--   basis_shape    rows_fit, shape: decides-unique (base_answers/proofs/Tests)
 --   basis_coprime  no_common_factor: alone-unique (basis_coprime/proofs/Coprime)
 --   basis_closed   closed_under_r_and_w: under-unique (Tests)
 --   basis_accept   accepts: accepts-unique (Tests)

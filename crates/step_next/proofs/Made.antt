@@ -23,7 +23,7 @@ use Rattle.step_divide.specs.Generated.{Generators, Generated, AreGenerators}
 use Rattle.basis_parts.specs.Frame.{frame}
 use Rattle.basis_clear.specs.Clear as reduced
 use Rattle.basis_record.specs.Store.{SevenLoaded}
-use Rattle.basis_scale.specs.Based.{BasisAsks, BasedAt, Based}
+use Rattle.basis_finish.specs.Based.{BasisAsks, BasedAt, Based}
 use Rattle.basis_record.proofs.Loads.{rows-are, rows-path, rows-good}
 use Rattle.field_series.specs.Keeps.{Keeps}
 use Rattle.basis_field.proofs.Keeps.{holds-of}

@@ -31,7 +31,7 @@ use Rattle.step_coordinates.proofs.Coordinates.{r-narrow, w-narrow}
 use Rattle.step_coordinates.proofs.Products.{sizes}
 use Rattle.basis_parts.specs.Frame.{frame, Meaning, Short}
 use Rattle.basis_clear.specs.Clear.{Pair, pair, ClearYAsks}
-use Rattle.basis_scale.specs.Based.{BasisAsks}
+use Rattle.basis_finish.specs.Based.{BasisAsks}
 use Rattle.poly_rows.proofs.Lengths.{row-short, size-of, odd-prime}
 use Rattle.field_series.specs.Keeps.{Keeps}
 use Rattle.basis_field.proofs.Keeps.{dr-is, dw-is, degrees, r-reads, w-reads, r-row, w-row}

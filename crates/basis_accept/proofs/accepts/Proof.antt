@@ -5,7 +5,7 @@ use Rattle.basis_accept.proofs.accepts.Statement.{statement}
 use Rattle.basis_accept.proofs.accepts.Tie as tie
 use Rattle.basis_accept.proofs.accepts.Reads as reads
 use Rattle.basis_accept.proofs.accepts.Lts as lts
-use Rattle.basis_shape.proofs.below.Reads as below-reads
+use Rattle.basis_bounds.proofs.below.Reads as below-reads
 use Rattle.basis_accept.proofs.passes.Reads as passes-reads
 use Rattle.basis_record.proofs.load.Reads as load-reads
 

@@ -6,7 +6,7 @@ use Prim.Native.Nat.{ℕ}
 use Rattle.basis_parts.specs.Frame.{Frame}
 use Rattle.basis_clear.specs.Clear.{Pair}
 use Rattle.basis_reduce.specs.Reduction.{Reduced, ends, endsIf}
-use Rattle.basis_scale.proofs.Based.{based-clear}
+use Rattle.basis_finish.proofs.Based.{based-clear}
 use Rattle.basis_scale.proofs.basis_in.Statement.{statement}
 use Rattle.basis_scale.proofs.basis_in.Tie as tie
 

@@ -1,16 +1,14 @@
 -- The scaled basis that the reduction of two elements over a denominator gives, as a record.
 --   BasisAsks F q top d x1 y1   two elements within the bounds of the reduction, the denominator d, and the polynomials x1, y1: the element
 --                             of the lattice over b r + c w has the first coordinate −(b x1 + c y1) modulo d
---   ReducedBasisAsks, BasisInAsks          the same for code: with the lengths, what a quick remainder needs, and rows for the polynomial parts
+--   ReducedBasisAsks          the same for code: with the lengths, what a quick remainder needs
 --   M, N, U of a record B     its rows, as series
 --   BasedAt                   a reduced basis in numbers (crate math_ideals), scaled; M and N span what q does; row 0 is as above
 --   Based                     the same at each meaning of the series
 --   Left                      what the lent rows hold in the end: M1, M2, N1, N2, U of the record, and x1 and y1 doubled
---   ReducedBasisGives         Based, and Left, with m and n exchanged where `swap` is true
 --   FinishedAsks, Finished        from a pair o that the reduction made: Based for every q that it is the reduction of, and Left
 use mathlib.Core.Path.{_≡_}
 use mathlib.Core.Logic.{_≢_}
-use mathlib.Core.Bool.{Bool}
 use mathlib.Core.List.{List}
 use Prim.Native.Nat.{ℕ, suc, _%_, _<_, _≤_}
 use lib.ListN.{length, getD}
@@ -25,7 +23,7 @@ use Rattle.math_ideals.specs.Tests.{InNumbers}
 use Rattle.math_turns.specs.Points.{Pt, Moved}
 use Rattle.basis_record.specs.Record.{part}
 use Rattle.basis_parts.specs.Frame.{Frame, Meaning, Short, rd, Ser, rowμ, pt}
-use Rattle.basis_clear.specs.Clear.{Pair, pair, swapIf, ClearYAsks}
+use Rattle.basis_clear.specs.Clear.{Pair, pair, ClearYAsks}
 use Rattle.basis_reduce.specs.Reduction.{Ends, Reduced}
 use Rattle.basis_store.specs.Place.{off, padded}
 
@@ -46,12 +44,6 @@ pub record ReducedBasisAsks (F : Frame) (q : Pair) (top : ℕ) (d : List ℕ) (l
   pub size : Size d lu
   pub size-1 : Size x1 n1
   pub size-2 : Size y1 n2
-
--- the same with the rows that X(m), X(n) go into
-pub record BasisInAsks (F : Frame) (q : Pair) (top : ℕ) (d : List ℕ) (lu : ℕ) (x1 : List ℕ) (n1 : ℕ) (y1 : List ℕ) (n2 : ℕ) (mx nx : List ℕ) : Type 0 where
-  pub by : ReducedBasisAsks F q top d lu x1 n1 y1 n2
-  pub hmx : Short (F .m .p) mx top
-  pub hnx : Short (F .m .p) nx top
 
 module _ {F : Frame} (μ : Meaning F) where
   -- 2a − b r − c w
@@ -101,11 +93,6 @@ pub record Left (p : ℕ) (x1 y1 B : List ℕ) (o′ : Pair) (d′ x1′ y1′ :
   pub u : d′ ≡ padded 6 B
   pub twice-x : Scaled p 2 x1 x1′
   pub twice-y : Scaled p 2 y1 y1′
-
-pub record ReducedBasisGives (F : Frame) (q : Pair) (d x1 y1 : List ℕ) (o′ : Pair) (d′ x1′ y1′ B : List ℕ) : Type 0 where
-  pub based : Based F q d x1 y1 B
-  pub swap : Bool
-  pub left : Left (F .m .p) x1 y1 B (swapIf swap o′) d′ x1′ y1′
 
 -- ---- from a reduced pair o on
 pub record FinishedAsks (F : Frame) (top : ℕ) (o : Ends) (d : List ℕ) (lu : ℕ) (x1 : List ℕ) (n1 : ℕ) (y1 : List ℕ) (n2 : ℕ) : Type 0 where

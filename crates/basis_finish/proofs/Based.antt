@@ -38,7 +38,7 @@ use Rattle.basis_clear.proofs.Clearing.{part-in, rows-of}
 use Rattle.basis_store.specs.Levels.{Monic}
 use Rattle.basis_store.specs.Place.{off, ElementAsks, PlacedAt, FilledAsks, Filled}
 use Rattle.basis_store.specs.Scales.{FactorsOfAsks, Scaling}
-use Rattle.basis_scale.specs.Based.{BasisAsks, BasedAt, Based, Left, Z, at, Mpt, Npt}
+use Rattle.basis_finish.specs.Based.{BasisAsks, BasedAt, Based, Left, Z, at, Mpt, Npt}
 use Rattle.basis_record.proofs.Store.{stored-part, stored-other, stored-each, part-same}
 use Rattle.poly_rows.proofs.Lengths.{size-below, scaled-size}
 use Rattle.basis_store.proofs.Place.{stored-padded}

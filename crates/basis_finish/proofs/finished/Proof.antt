@@ -1,8 +1,8 @@
--- `basis_scale::finished` meets its contract: the lemmas of Based.
-use Rattle.basis_scale.proofs.Based.{double-x, double-y, based-lu, based-part, lx-pos, based-scales, based-u, based-fill, based, left}
+-- `basis_finish::finished` meets its contract: the lemmas of Based.
+use Rattle.basis_finish.proofs.Based.{double-x, double-y, based-lu, based-part, lx-pos, based-scales, based-u, based-fill, based, left}
 use borrow.Author.Needs.{needs}
-use Rattle.basis_scale.proofs.finished.Statement.{statement}
-use Rattle.basis_scale.proofs.finished.Tie as tie
+use Rattle.basis_finish.proofs.finished.Statement.{statement}
+use Rattle.basis_finish.proofs.finished.Tie as tie
 
 lead-of-requires : tie.Need-lead-of-requires
 lead-of-requires c κs = based-part (c .before .before .before .pre .by .inp) (c .before .before .before .pre .by .size) (c .before .before .before .pre .from)

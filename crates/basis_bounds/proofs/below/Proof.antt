@@ -1,4 +1,4 @@
--- `basis_shape::below` meets its contract: the invariant is that the numbers passed are below p.
+-- `basis_bounds::below` meets its contract: the invariant is that the numbers passed are below p.
 use mathlib.Core.Path.{_≡_}
 use Prim.Native.Nat.{ℕ, _-_, _≤_, _<_}
 use lib.ListN.{length, getD}
@@ -6,12 +6,12 @@ use borrow.Author.Count.{below-more}
 use native.Mathlib.Omega.{arith}
 use borrow.Author.Needs.{needs}
 use Rattle.base_answers.proofs.Tests.{answer-yes, answer-no}
-use Rattle.basis_shape.proofs.Lengths.{below-end}
+use Rattle.basis_bounds.proofs.Bounds.{below-end}
 use Rattle.base_lists.proofs.wide.Reads as wide-reads
-use Rattle.basis_shape.proofs.below.Statement.{statement}
-use Rattle.basis_shape.proofs.below.Tie as tie
-use Rattle.basis_shape.proofs.below.Reads as reads
-use Rattle.basis_shape.proofs.below.Lts as lts
+use Rattle.basis_bounds.proofs.below.Statement.{statement}
+use Rattle.basis_bounds.proofs.below.Tie as tie
+use Rattle.basis_bounds.proofs.below.Reads as reads
+use Rattle.basis_bounds.proofs.below.Lts as lts
 
 abbrev Inv-loop : tie.InvT-loop
 Inv-loop p b i₀ i = (i ≤ 119) × (length b ≡ 119) × ((k : ℕ) → k < i → getD b k 0 < p)
