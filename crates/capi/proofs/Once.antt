@@ -14,8 +14,8 @@ use Rattle.book_write.proofs.One.{write-unique}
 use Rattle.book_add.proofs.One.{add-unique}
 use Rattle.book_attest.proofs.One.{attest-unique}
 use Rattle.book_numbers.proofs.Same.{same-numbers}
-use Rattle.door_basis.specs.declared.OrderAnswer.{OrderAnswer}
-use Rattle.door_basis.proofs.Answer.{orders-unique}
+use Rattle.door_order.specs.declared.OrderAnswer.{OrderAnswer}
+use Rattle.door_order.proofs.Answer.{orders-unique}
 use Rattle.door_step.specs.declared.StepAnswer.{StepAnswer}
 use Rattle.door_step.proofs.Answers.{answers-unique}
 use Rattle.walk_chain.proofs.Walk.{walks-unique}

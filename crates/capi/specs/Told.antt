@@ -13,8 +13,8 @@ use mathlib.Core.Logic.{_≢_}
 use mathlib.Core.Bool.{Bool, true, false}
 use mathlib.Core.List.{List}
 use Prim.Native.Nat.{ℕ}
-use Rattle.door_basis.specs.declared.OrderAnswer.{OrderAnswer}
-use Rattle.door_basis.specs.Answer.{Orders}
+use Rattle.door_order.specs.declared.OrderAnswer.{OrderAnswer}
+use Rattle.door_order.specs.Answer.{Orders}
 use Rattle.door_step.specs.declared.StepAnswer.{StepAnswer}
 use Rattle.door_step.specs.Answer.{Answers}
 use Rattle.walk_chain.specs.declared.WalkAnswer.{WalkAnswer}

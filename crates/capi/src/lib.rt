@@ -2,7 +2,7 @@
 // The contracts are those of the functions behind them.
 ghost use Rattle.field_open.specs.Refusal.{Refusal};
 ghost use Rattle.field_series.specs.Answer.{Answer};
-ghost use Rattle.door_basis.specs.Answer.{Checks};
+ghost use Rattle.door_check.specs.Answer.{Checks};
 ghost use mathlib.Core.Path.{_≡_};
 ghost use Rattle.book_check.specs.Book.{count};
 ghost use Rattle.book_write.specs.Write.{bodyFrom};
@@ -35,7 +35,7 @@ pub extern "C" fn zaminuk_series(p: u64, g: &[u64], h: &[u64], r: &mut [u16], w:
 pub extern "C" fn zaminuk_order(p: u64, g: &[u64], h: &[u64], rows: &mut [u16; 119]) -> u32
     ensures { λ n. ⌜ OrderTells p (now (g .entry)) (now (h .entry)) (now (rows .entry)) n (now (rows .exit)) ⌝ }
 {
-    let o = door_basis::order(p, g, h);
+    let o = door_order::order(p, g, h);
     let n = o.refusal;
     if n == 0 {
         let b = o.basis;
@@ -50,7 +50,7 @@ pub extern "C" fn zaminuk_check(p: u64, g: &[u64], h: &[u64], rows: &[u16; 119])
     ensures { λ n. ⌜ Checks p (now (g .entry)) (now (h .entry)) (now (rows .entry)) n ⌝ }
 {
     let b = *rows;
-    door_basis::check(p, g, h, b)
+    door_check::check(p, g, h, b)
 }
 
 // One step, in place: the next record, and the degree of the m divided by, 0 beside a refusal.

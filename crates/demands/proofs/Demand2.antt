@@ -15,7 +15,7 @@ use Rattle.math_chain.proofs.Exists.{order-exists}
 use Rattle.math_chain.proofs.Unit.{unit-degree}
 use Rattle.basis_record.specs.Record.{setting, basisOf}
 use Rattle.basis_record.proofs.Unique.{record-unique}
-use Rattle.door_basis.proofs.Answer.{orders-first}
+use Rattle.door_order.proofs.Answer.{orders-first}
 use Rattle.step_next.specs.Steps.{Steps}
 use Rattle.door_step.specs.declared.StepAnswer.{StepAnswer}
 use Rattle.door_step.specs.Answer as stepped

@@ -23,8 +23,9 @@ use Rattle.math_ideals.specs.Next.{Next, Same, Start}
 use Rattle.math_chain.specs.Chain.{Degree, Chain}
 use Rattle.math_chain.specs.Unit.{UnitOf}
 use Rattle.basis_record.specs.Record.{setting, basisOf, IsRecord}
-use Rattle.door_basis.specs.declared.OrderAnswer.{OrderAnswer}
-use Rattle.door_basis.specs.Answer.{Orders, Checks}
+use Rattle.door_order.specs.declared.OrderAnswer.{OrderAnswer}
+use Rattle.door_order.specs.Answer.{Orders}
+use Rattle.door_check.specs.Answer.{Checks}
 use Rattle.basis_field.specs.First.{IsFirst}
 use Rattle.door_step.specs.declared.StepAnswer.{StepAnswer}
 use Rattle.door_step.specs.Answer.{Answers}

@@ -18,8 +18,9 @@ use Rattle.field_open.specs.Opening.{Opens}
 use Rattle.field_open.specs.declared.FieldAnswer.{FieldAnswer}
 use Rattle.field_series.specs.Answer as series
 use Rattle.field_series.specs.declared.OpenedAnswer.{OpenedAnswer}
-use Rattle.door_basis.specs.declared.OrderAnswer.{OrderAnswer}
-use Rattle.door_basis.specs.Answer.{Orders, Checks}
+use Rattle.door_order.specs.declared.OrderAnswer.{OrderAnswer}
+use Rattle.door_order.specs.Answer.{Orders}
+use Rattle.door_check.specs.Answer.{Checks}
 use Rattle.door_step.specs.declared.StepAnswer.{StepAnswer}
 use Rattle.door_step.specs.Answer.{Answers}
 use Rattle.walk_chain.specs.declared.WalkAnswer.{WalkAnswer}

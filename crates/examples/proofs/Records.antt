@@ -15,9 +15,9 @@ use Rattle.math_ideals.specs.Next.{Next, Start}
 use Rattle.math_chain.specs.Chain.{Degree, Chain, Closing, Open}
 use Rattle.basis_record.specs.Record.{setting, basisOf, IsRecord}
 use Rattle.field_open.proofs.Door.{door-goes}
-use Rattle.door_basis.specs.Answer.{Orders}
+use Rattle.door_order.specs.Answer.{Orders}
 use Rattle.basis_field.specs.First.{IsFirst}
-use Rattle.door_basis.proofs.Answer.{orders-unique}
+use Rattle.door_order.proofs.Answer.{orders-unique}
 use Rattle.door_step.specs.Answer as stepped
 use Rattle.door_step.specs.Answer.{Answers}
 use Rattle.door_step.proofs.Answers.{answers-unique}

@@ -9,7 +9,7 @@
 --   AllHold          all of a list of lines hold
 --   labels           the numbers that stand before the lines, each once where lines in a row share it
 -- A polynomial is a list of coefficients, lowest first. The contracts' definitions are those of crates field_open, field_series,
--- door_basis, door_step, walk_chain, door_walk, door_unit and book_check; `Rows` and `stored` (crate examples_tests) write a basis and its
+-- door_order, door_step, walk_chain, door_walk, door_unit and book_check; `Rows` and `stored` (crate examples_tests) write a basis and its
 -- record of 119 numbers.
 use mathlib.Core.Path.{_≡_}
 use mathlib.Core.Bool.{Bool, true, false}
@@ -23,7 +23,7 @@ use Rattle.field_open.specs.Refusal.{Accepted}
 use Rattle.field_open.specs.Opening.{Opens, nothing}
 use Rattle.basis_record.specs.Record.{setting, polyOf}
 use Rattle.field_series.specs.Answer as filled
-use Rattle.door_basis.specs.Answer.{Orders}
+use Rattle.door_order.specs.Answer.{Orders}
 use Rattle.door_step.specs.Answer.{Answers}
 use Rattle.walk_chain.specs.Walk.{Walks}
 use Rattle.base_answers.specs.Limits.{most}

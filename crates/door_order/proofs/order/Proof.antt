@@ -1,15 +1,15 @@
--- `door_basis::order` meets its contract: zeros beside a refusal, the record of the order beside 0.
+-- `door_order::order` meets its contract: zeros beside a refusal, the record of the order beside 0.
 use mathlib.Core.Path.{refl}
 use native.Mathlib.Omega.{arith}
 use borrow.Author.Needs.{needs}
 use Rattle.field_open.proofs.Door.{door-refused}
 use Rattle.field_series.proofs.Answer.{expands-number}
 use Rattle.basis_field.proofs.Known.{known-of}
-use Rattle.door_basis.proofs.Answer.{orders-made}
-use Rattle.door_basis.proofs.order.Statement.{statement}
-use Rattle.door_basis.proofs.order.Tie as tie
-use Rattle.door_basis.proofs.order.Reads as reads
-use Rattle.door_basis.proofs.order.Lts as lts
+use Rattle.door_order.proofs.Answer.{orders-made}
+use Rattle.door_order.proofs.order.Statement.{statement}
+use Rattle.door_order.proofs.order.Tie as tie
+use Rattle.door_order.proofs.order.Reads as reads
+use Rattle.door_order.proofs.order.Lts as lts
 use Rattle.field_series.proofs.open_with_series.Reads as open-with-series-reads
 use Rattle.basis_field.proofs.order_basis.Reads as order-basis-reads
 

@@ -1,15 +1,15 @@
--- `door_basis::check` meets its contract: the test of the record in the opened field.
+-- `door_check::check` meets its contract: the test of the record in the opened field.
 use mathlib.Core.Path.{_≡_, refl}
 use native.Mathlib.Omega.{arith}
 use borrow.Author.Needs.{needs}
 use Rattle.field_open.proofs.Door.{door-refused}
 use Rattle.field_series.proofs.Answer.{expands-number}
 use Rattle.basis_field.proofs.Known.{known-of}
-use Rattle.door_basis.proofs.Answer.{checks-yes, checks-no}
-use Rattle.door_basis.proofs.check.Statement.{statement}
-use Rattle.door_basis.proofs.check.Tie as tie
-use Rattle.door_basis.proofs.check.Reads as reads
-use Rattle.door_basis.proofs.check.Lts as lts
+use Rattle.door_check.proofs.Answer.{checks-yes, checks-no}
+use Rattle.door_check.proofs.check.Statement.{statement}
+use Rattle.door_check.proofs.check.Tie as tie
+use Rattle.door_check.proofs.check.Reads as reads
+use Rattle.door_check.proofs.check.Lts as lts
 use Rattle.field_series.proofs.open_with_series.Reads as open-with-series-reads
 use Rattle.basis_accept.proofs.accepts.Reads as accepts-reads
 
