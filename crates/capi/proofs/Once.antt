@@ -20,8 +20,8 @@ use Rattle.door_step.specs.declared.StepAnswer.{StepAnswer}
 use Rattle.door_step.proofs.Answers.{answers-unique}
 use Rattle.walk_chain.proofs.Walk.{walks-unique}
 use Rattle.capi_walk.proofs.Once.{puts-unique}
-use Rattle.door_walk.specs.declared.PeriodAnswer.{PeriodAnswer}
-use Rattle.door_walk.proofs.Order.{from-order-unique}
+use Rattle.door_period.specs.declared.PeriodAnswer.{PeriodAnswer}
+use Rattle.door_period.proofs.Order.{from-order-unique}
 use Rattle.door_unit.proofs.Once.{makes-unique}
 use Rattle.door_compare.specs.declared.CompareAnswer.{CompareAnswer}
 use Rattle.door_compare.proofs.Once.{compares-unique}

@@ -110,7 +110,7 @@ pub extern "C" fn zaminuk_from_order(
 ) -> u32
     ensures { λ n. ⌜ FromOrderTells p (now (g .entry)) (now (h .entry)) budget n (now (period .exit)) (now (regulator .exit)) ⌝ }
 {
-    let o = door_walk::from_order(p, g, h, budget);
+    let o = door_period::from_order(p, g, h, budget);
     let t = o.period;
     let r = o.regulator;
     *period = t.0;

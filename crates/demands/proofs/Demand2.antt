@@ -21,8 +21,8 @@ use Rattle.door_step.specs.declared.StepAnswer.{StepAnswer}
 use Rattle.door_step.specs.Answer as stepped
 use Rattle.walk_chain.specs.Walk.{Closes}
 use Rattle.basis_field.specs.First.{IsFirst}
-use Rattle.door_walk.specs.declared.PeriodAnswer.{PeriodAnswer}
-use Rattle.door_walk.specs.Order.{FromOrder}
+use Rattle.door_period.specs.declared.PeriodAnswer.{PeriodAnswer}
+use Rattle.door_period.specs.Order.{FromOrder}
 use Rattle.door_unit.specs.declared.UnitAnswer.{UnitAnswer}
 use Rattle.door_unit.specs.Unit.{Makes}
 use Rattle.book_check.proofs.Value.{book-back, book-obeys}

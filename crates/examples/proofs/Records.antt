@@ -24,9 +24,9 @@ use Rattle.door_step.proofs.Answers.{answers-unique}
 use Rattle.walk_chain.specs.Walk as walk
 use Rattle.walk_chain.specs.Walk.{Walks}
 use Rattle.walk_chain.proofs.Walk.{walks-unique}
-use Rattle.door_walk.specs.Order as told
-use Rattle.door_walk.specs.Order.{FromOrder}
-use Rattle.door_walk.proofs.Order.{from-order-unique}
+use Rattle.door_period.specs.Order as told
+use Rattle.door_period.specs.Order.{FromOrder}
+use Rattle.door_period.proofs.Order.{from-order-unique}
 use Rattle.examples_lists.specs.Lists.{alike}
 use Rattle.examples_tests.specs.Rows.{Rows, stored}
 use Rattle.examples_tests.specs.Tests.{every, goes}

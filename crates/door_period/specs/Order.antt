@@ -11,7 +11,7 @@ use Rattle.base_answers.specs.Limits.{most}
 use Rattle.field_open.specs.Door.{Door}
 use Rattle.basis_field.specs.First.{IsFirst}
 use Rattle.walk_chain.specs.Walk.{Closes, StaysOpen}
-use Rattle.door_walk.specs.declared.PeriodAnswer.{PeriodAnswer}
+use Rattle.door_period.specs.declared.PeriodAnswer.{PeriodAnswer}
 
 abbrev pub refusal : ℕ → PeriodAnswer
 refusal n = record { refusal = n; period = record { 0 = 0 }; regulator = record { 0 = 0 } }

@@ -4,10 +4,10 @@ use Rattle.base_answers.proofs.Limits.{over-yes, over-no}
 use Rattle.field_open.proofs.Door.{door-refused, door-goes}
 use Rattle.field_series.proofs.Answer.{expands-number}
 use Rattle.basis_field.proofs.Known.{known-of}
-use Rattle.door_walk.specs.Order.{budget}
-use Rattle.door_walk.proofs.Order.{walked-at, from-spent, from-closed}
-use Rattle.door_walk.proofs.from_order.Statement.{statement}
-use Rattle.door_walk.proofs.from_order.Tie as tie
+use Rattle.door_period.specs.Order.{budget}
+use Rattle.door_period.proofs.Order.{walked-at, from-spent, from-closed}
+use Rattle.door_period.proofs.from_order.Statement.{statement}
+use Rattle.door_period.proofs.from_order.Tie as tie
 
 open-with-series-requires : tie.Need-open-with-series-requires
 open-with-series-requires c κs = search needs

@@ -7,7 +7,6 @@ use native.Mathlib.Omega.{arith}
 use Rattle.base_answers.specs.Limits.{most}
 use Rattle.field_open.specs.Refusal.{Accepted}
 use Rattle.field_open.proofs.Door.{door-goes, door-unique}
-use Rattle.basis_record.specs.Record.{IsRecord}
 use Rattle.field_series.specs.Answer.{Expands}
 use Rattle.field_series.specs.declared.OpenedAnswer.{OpenedAnswer}
 use Rattle.field_series.proofs.Answer.{expands-number}
@@ -19,8 +18,8 @@ use Rattle.walk_chain.specs.Walk.{Closes, StaysOpen, Closed, Spent}
 use Rattle.walk_chain.specs.InField.{WalkInFieldAsks, WalkInFieldGives}
 use Rattle.walk_chain.proofs.Walk.{closes-unique, not-both}
 use Rattle.walk_chain.proofs.Even.{sum-even}
-use Rattle.door_walk.specs.declared.PeriodAnswer.{PeriodAnswer}
-use Rattle.door_walk.specs.Order.{refusal, Periodic, Goes, budget, closed, spent, FromOrder}
+use Rattle.door_period.specs.declared.PeriodAnswer.{PeriodAnswer}
+use Rattle.door_period.specs.Order.{refusal, Periodic, Goes, budget, closed, spent, FromOrder}
 
 told-eq : (v w : PeriodAnswer) → v .refusal ≡ w .refusal → v .period .0 ≡ w .period .0 → v .regulator .0 ≡ w .regulator .0 → v ≡ w
 told-eq v w a b c = λ i. record { refusal = a i; period = record { 0 = b i }; regulator = record { 0 = c i } }
