@@ -179,7 +179,7 @@ pub extern "C" fn zaminuk_book_check(book: &[u8], said: &mut [u64; 5])
     ensures { λ _. ⌜ CheckSays (now (book .entry)) (now (said .exit)) ⌝ }
 {
     let a = book_check::check(book);
-    let o = book_numbers::answer_row(a);
+    let o = book_told::answer_row(a);
     *said = o;
 }
 
@@ -211,7 +211,7 @@ pub extern "C" fn zaminuk_book_attest(book: &[u8], i: usize, said: &mut [u64; 5]
     ensures { λ _. ⌜ AttestSays (now (book .entry)) i (now (said .exit)) ⌝ }
 {
     let a = book_attest::attest(book, i);
-    let o = book_numbers::attest_row(a);
+    let o = book_told::attest_row(a);
     *said = o;
 }
 
@@ -294,6 +294,6 @@ pub extern "C" fn zaminuk_book_add(out: &mut [u8], n: usize, body: &[u8], said: 
     ensures { λ _. ⌜ AddSays (now (out .entry)) n (now (body .entry)) (now (out .exit)) (now (said .exit)) ⌝ }
 {
     let a = book_add::add(out, n, body);
-    let o = book_numbers::added_row(a);
+    let o = book_told::added_row(a);
     *said = o;
 }

@@ -1,10 +1,10 @@
 -- `added_row` gives the numbers of document 01.
 use mathlib.Core.Path.{_∙_, sym, ap}
 use Rattle.book_add.specs.Add.{addedSays}
 use Rattle.book_numbers.specs.Numbers.{numbers}
 use borrow.Author.Needs.{needs}
-use Rattle.book_numbers.proofs.added_row.Statement.{statement}
-use Rattle.book_numbers.proofs.added_row.Tie as tie
+use Rattle.book_told.proofs.added_row.Statement.{statement}
+use Rattle.book_told.proofs.added_row.Tie as tie
 
 enum-known-a : tie.Need-enum-known-a
 enum-known-a c = search needs
