@@ -1,11 +1,9 @@
 // What the functions of a book answer, in document 01's numbers: five in a row, the refusal, the inner reason, its entry, its other number,
-// the result.
+// the result. Of reasons, lists and bodies written; the other answers are in crate book_told.
 ghost use mathlib.Core.Path.{_≡_};
 ghost use Rattle.book_body.specs.Code.{gotSays};
-ghost use Rattle.book_check.specs.Answer.{reasonSays, answerSays, requestSays};
+ghost use Rattle.book_judge.specs.Reasons.{reasonSays};
 ghost use Rattle.book_write.specs.Write.{wroteSays};
-ghost use Rattle.book_add.specs.Add.{addedSays};
-ghost use Rattle.book_attest.specs.Attest.{attestSays};
 ghost use Rattle.book_numbers.specs.Numbers.{numbers};
 
 // A reason in numbers.
@@ -18,27 +16,6 @@ pub fn reason_row(why: book_judge::Reason) -> [u64; 5]
         book_judge::Reason::BodyRule(i) => [13, 3, i as u64, 0, 0],
         book_judge::Reason::Field(i, n) => [13, 4, i as u64, n as u64, 0],
         book_judge::Reason::Twice(i, j) => [13, 5, i as u64, j as u64, 0],
-    }
-}
-
-// The answer of the check.
-pub fn answer_row(a: book_check::Answer) -> [u64; 5]
-    ensures { λ o. ⌜ o ≡ numbers (answerSays a) ⌝ }
-{
-    match a {
-        book_check::Answer::Yes => [0, 0, 0, 0, 0],
-        book_check::Answer::Refused(why) => reason_row(why),
-    }
-}
-
-// The answer to asking for an entry.
-pub fn request_row(a: book_check::Request) -> [u64; 5]
-    ensures { λ o. ⌜ o ≡ numbers (requestSays a) ⌝ }
-{
-    match a {
-        book_check::Request::There => [0, 0, 0, 0, 0],
-        book_check::Request::Refused(why) => reason_row(why),
-        book_check::Request::NoEntry => [14, 0, 0, 0, 0],
     }
 }
 
@@ -62,30 +39,5 @@ pub fn wrote_row(a: book_write::Wrote) -> [u64; 5]
         book_write::Wrote::FieldRefused(k) => [k as u64, 0, 0, 0, 0],
         book_write::Wrote::RuleBroken => [13, 3, 0, 0, 0],
         book_write::Wrote::Short => [11, 0, 0, 0, 0],
-    }
-}
-
-// The answer of adding a body.
-pub fn added_row(a: book_add::Added) -> [u64; 5]
-    ensures { λ o. ⌜ o ≡ numbers (addedSays a) ⌝ }
-{
-    match a {
-        book_add::Added::Length(n) => [0, 0, 0, 0, n as u64],
-        book_add::Added::LengthOut => [14, 0, 0, 0, 0],
-        book_add::Added::Refused(why) => reason_row(why),
-        book_add::Added::Known => [15, 0, 0, 0, 0],
-        book_add::Added::Short => [11, 0, 0, 0, 0],
-    }
-}
-
-// The answer of attesting an entry.
-pub fn attest_row(a: book_attest::Attestation) -> [u64; 5]
-    ensures { λ o. ⌜ o ≡ numbers (attestSays a) ⌝ }
-{
-    match a {
-        book_attest::Attestation::Yes => [0, 0, 0, 0, 1],
-        book_attest::Attestation::No => [0, 0, 0, 0, 0],
-        book_attest::Attestation::Refused(why) => reason_row(why),
-        book_attest::Attestation::NoEntry => [14, 0, 0, 0, 0],
     }
 }

@@ -6,7 +6,7 @@ pub fn ask(book: &[u8], i: usize, start: &mut usize, size: &mut usize, said: &mu
     ensures { λ _. ⌜ AskSays (now (book .entry)) i (now (start .exit)) (now (size .exit)) (now (said .exit)) ⌝ }
 {
     let a = book_check::ask_answer(book, i);
-    let o = book_numbers::request_row(a);
+    let o = book_told::request_row(a);
     if o[0] == 0 {
         *start = book_bytes::four(book, 6 + 8 * i);
         *size = book_bytes::four(book, 10 + 8 * i);

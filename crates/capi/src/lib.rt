@@ -2,7 +2,7 @@
 // The contracts are those of the functions behind them.
 ghost use Rattle.field_open.specs.Refusal.{Refusal};
 ghost use Rattle.field_series.specs.Answer.{Answer};
-ghost use Rattle.door_basis.specs.Answer.{Checks};
+ghost use Rattle.door_check.specs.Answer.{Checks};
 ghost use mathlib.Core.Path.{_≡_};
 ghost use Rattle.book_check.specs.Book.{count};
 ghost use Rattle.book_write.specs.Write.{bodyFrom};
@@ -35,7 +35,7 @@ pub extern "C" fn zaminuk_series(p: u64, g: &[u64], h: &[u64], r: &mut [u16], w:
 pub extern "C" fn zaminuk_order(p: u64, g: &[u64], h: &[u64], rows: &mut [u16; 119]) -> u32
     ensures { λ n. ⌜ OrderTells p (now (g .entry)) (now (h .entry)) (now (rows .entry)) n (now (rows .exit)) ⌝ }
 {
-    let o = door_basis::order(p, g, h);
+    let o = door_order::order(p, g, h);
     let n = o.refusal;
     if n == 0 {
         let b = o.basis;
@@ -50,7 +50,7 @@ pub extern "C" fn zaminuk_check(p: u64, g: &[u64], h: &[u64], rows: &[u16; 119])
     ensures { λ n. ⌜ Checks p (now (g .entry)) (now (h .entry)) (now (rows .entry)) n ⌝ }
 {
     let b = *rows;
-    door_basis::check(p, g, h, b)
+    door_check::check(p, g, h, b)
 }
 
 // One step, in place: the next record, and the degree of the m divided by, 0 beside a refusal.
@@ -110,7 +110,7 @@ pub extern "C" fn zaminuk_from_order(
 ) -> u32
     ensures { λ n. ⌜ FromOrderTells p (now (g .entry)) (now (h .entry)) budget n (now (period .exit)) (now (regulator .exit)) ⌝ }
 {
-    let o = door_walk::from_order(p, g, h, budget);
+    let o = door_period::from_order(p, g, h, budget);
     let t = o.period;
     let r = o.regulator;
     *period = t.0;
@@ -179,7 +179,7 @@ pub extern "C" fn zaminuk_book_check(book: &[u8], said: &mut [u64; 5])
     ensures { λ _. ⌜ CheckSays (now (book .entry)) (now (said .exit)) ⌝ }
 {
     let a = book_check::check(book);
-    let o = book_numbers::answer_row(a);
+    let o = book_told::answer_row(a);
     *said = o;
 }
 
@@ -211,7 +211,7 @@ pub extern "C" fn zaminuk_book_attest(book: &[u8], i: usize, said: &mut [u64; 5]
     ensures { λ _. ⌜ AttestSays (now (book .entry)) i (now (said .exit)) ⌝ }
 {
     let a = book_attest::attest(book, i);
-    let o = book_numbers::attest_row(a);
+    let o = book_told::attest_row(a);
     *said = o;
 }
 
@@ -294,6 +294,6 @@ pub extern "C" fn zaminuk_book_add(out: &mut [u8], n: usize, body: &[u8], said: 
     ensures { λ _. ⌜ AddSays (now (out .entry)) n (now (body .entry)) (now (out .exit)) (now (said .exit)) ⌝ }
 {
     let a = book_add::add(out, n, body);
-    let o = book_numbers::added_row(a);
+    let o = book_told::added_row(a);
     *said = o;
 }

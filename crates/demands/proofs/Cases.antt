@@ -19,8 +19,8 @@ use Rattle.basis_record.specs.Record.{setting}
 use Rattle.basis_field.specs.First.{IsFirst}
 use Rattle.walk_chain.specs.declared.WalkAnswer.{WalkAnswer}
 use Rattle.walk_chain.specs.Walk as walk
-use Rattle.door_walk.specs.declared.PeriodAnswer.{PeriodAnswer}
-use Rattle.door_walk.specs.Order as walks
+use Rattle.door_period.specs.declared.PeriodAnswer.{PeriodAnswer}
+use Rattle.door_period.specs.Order as walks
 use Rattle.door_unit.specs.declared.UnitAnswer.{UnitAnswer}
 use Rattle.door_unit.specs.Unit as unit
 use Rattle.door_unit.proofs.Once.{refused-number}

@@ -15,14 +15,14 @@ use Rattle.math_chain.proofs.Exists.{order-exists}
 use Rattle.math_chain.proofs.Unit.{unit-degree}
 use Rattle.basis_record.specs.Record.{setting, basisOf}
 use Rattle.basis_record.proofs.Unique.{record-unique}
-use Rattle.door_basis.proofs.Answer.{orders-first}
+use Rattle.door_order.proofs.Answer.{orders-first}
 use Rattle.step_next.specs.Steps.{Steps}
 use Rattle.door_step.specs.declared.StepAnswer.{StepAnswer}
 use Rattle.door_step.specs.Answer as stepped
 use Rattle.walk_chain.specs.Walk.{Closes}
 use Rattle.basis_field.specs.First.{IsFirst}
-use Rattle.door_walk.specs.declared.PeriodAnswer.{PeriodAnswer}
-use Rattle.door_walk.specs.Order.{FromOrder}
+use Rattle.door_period.specs.declared.PeriodAnswer.{PeriodAnswer}
+use Rattle.door_period.specs.Order.{FromOrder}
 use Rattle.door_unit.specs.declared.UnitAnswer.{UnitAnswer}
 use Rattle.door_unit.specs.Unit.{Makes}
 use Rattle.book_check.proofs.Value.{book-back, book-obeys}

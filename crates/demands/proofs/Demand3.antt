@@ -14,7 +14,7 @@ use Rattle.math_chain.proofs.Exists.{order-exists, chain-exists}
 use Rattle.math_chain.proofs.Closing.{start-unique}
 use Rattle.math_chain.proofs.Passed.{chain-theorem}
 use Rattle.basis_record.specs.Record.{setting, basisOf, IsRecord}
-use Rattle.door_basis.proofs.Answer.{orders-first}
+use Rattle.door_order.proofs.Answer.{orders-first}
 use Rattle.demands.specs.Chain.{After, HandedOut, by-order, by-step, by-walk, Demand3}
 use Rattle.demands.proofs.Cases.{walk-reaches}
 use Rattle.demands.proofs.Demand2.{step-taken, unit-is}

@@ -24,14 +24,15 @@ use Rattle.math_chain.proofs.Walk.{closing-unique}
 use Rattle.math_chain.proofs.Unit.{unit-exists, unit-degree}
 use Rattle.basis_record.specs.Record.{setting, basisOf, IsRecord}
 use Rattle.basis_field.specs.First.{IsFirst}
-use Rattle.door_basis.specs.declared.OrderAnswer.{OrderAnswer}
-use Rattle.door_basis.specs.Answer as bases
+use Rattle.door_order.specs.declared.OrderAnswer.{OrderAnswer}
+use Rattle.door_order.specs.Answer.{Orders}
+use Rattle.door_check.specs.Answer as checks
 use Rattle.door_step.specs.declared.StepAnswer.{StepAnswer}
 use Rattle.door_step.specs.Answer as stepped
 use Rattle.walk_chain.specs.declared.WalkAnswer.{WalkAnswer}
 use Rattle.walk_chain.specs.Walk as walk
-use Rattle.door_walk.specs.declared.PeriodAnswer.{PeriodAnswer}
-use Rattle.door_walk.specs.Order as walks
+use Rattle.door_period.specs.declared.PeriodAnswer.{PeriodAnswer}
+use Rattle.door_period.specs.Order as walks
 use Rattle.door_unit.specs.declared.UnitAnswer.{UnitAnswer}
 use Rattle.door_unit.specs.Unit as unit
 use Rattle.door_unit.proofs.Once.{refused-number}
@@ -74,7 +75,7 @@ module _ (p : ℕ) (G H : List ℕ) where
   order-passed : Accepted p G H → OrderTabled p G H 0
   order-passed A = record { field = field-passed 0 A (λ k lo hi e. omega arith); passes = both refl A; only = omega arith }
 
-  pub order-tabled : (o : OrderAnswer) → bases.Orders p G H o → OrderTabled p G H (o .refusal)
+  pub order-tabled : (o : OrderAnswer) → Orders p G H o → OrderTabled p G H (o .refusal)
   order-tabled o =
       door-tabled (OrderTabled p G H) (λ k. ap (λ a. a .refusal)) order-refused
       (λ A (z, f). subst (OrderTabled p G H) (sym z) (order-passed A))
@@ -144,12 +145,12 @@ module _ (p : ℕ) (G H : List ℕ) where
       only = omega arith;
     }
 
-    pub check-tabled : (x : ℕ) → bases.Checks p G H B x → AtRecord x
+    pub check-tabled : (x : ℕ) → checks.Checks p G H B x → AtRecord x
     check-tabled x = door-tabled AtRecord (λ k e. e) record-refused case
       where
-        case : Accepted p G H → bases.Goes p G H B x → AtRecord x
-        case A (bases.no-record f e) = subst AtRecord (sym e) (record-none A f)
-        case A (bases.is-record r e) = subst AtRecord (sym e) (record-passed A r)
+        case : Accepted p G H → checks.Goes p G H B x → AtRecord x
+        case A (checks.no-record f e) = subst AtRecord (sym e) (record-none A f)
+        case A (checks.is-record r e) = subst AtRecord (sym e) (record-passed A r)
 
     pub step-tabled : (s : StepAnswer) → stepped.Answers p G H B s → AtRecord (s .refusal)
     step-tabled s = door-tabled AtRecord (λ k. ap (λ a. a .refusal)) record-refused case

@@ -12,8 +12,8 @@ use Rattle.walk_chain.specs.declared.WalkAnswer.{WalkAnswer}
 use Rattle.walk_chain.specs.Walk.{Reaches, StaysOpen, Closes}
 use Rattle.walk_chain.proofs.Walk.{closes-unique}
 use Rattle.walk_chain.proofs.TakenUp.{reaches-then, stays-then, closes-then}
-use Rattle.door_walk.specs.declared.PeriodAnswer.{PeriodAnswer}
-use Rattle.door_walk.specs.Order.{FromOrder}
+use Rattle.door_period.specs.declared.PeriodAnswer.{PeriodAnswer}
+use Rattle.door_period.specs.Order.{FromOrder}
 use Rattle.demands.specs.TakenUp.{TakenUp, once, again, Together}
 use Rattle.demands.proofs.Cases.{walk-closed, walk-reaches, walk-stays, told-accepted, told-closed}
 use Rattle.demands.proofs.Tabled.{walk-tabled}

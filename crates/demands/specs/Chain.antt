@@ -24,8 +24,8 @@ use Rattle.math_ideals.specs.Next.{Start}
 use Rattle.math_chain.specs.Chain.{Chain, Product}
 use Rattle.math_chain.specs.Unit.{UnitOf}
 use Rattle.basis_record.specs.Record.{setting, basisOf, IsRecord}
-use Rattle.door_basis.specs.declared.OrderAnswer.{OrderAnswer}
-use Rattle.door_basis.specs.Answer.{Orders}
+use Rattle.door_order.specs.declared.OrderAnswer.{OrderAnswer}
+use Rattle.door_order.specs.Answer.{Orders}
 use Rattle.door_step.specs.declared.StepAnswer.{StepAnswer}
 use Rattle.door_step.specs.Answer.{Answers}
 use Rattle.walk_chain.specs.declared.WalkAnswer.{WalkAnswer}

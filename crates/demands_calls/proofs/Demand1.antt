@@ -3,10 +3,11 @@ use Rattle.base_lists.proofs.Puts.{placed-unique}
 use Rattle.field_open.proofs.Stages.{refusal-unique}
 use Rattle.field_open.proofs.Opening.{opens-unique}
 use Rattle.field_series.proofs.Answer as series
-use Rattle.door_basis.proofs.Answer.{orders-unique, checks-unique}
+use Rattle.door_order.proofs.Answer.{orders-unique}
+use Rattle.door_check.proofs.Answer.{checks-unique}
 use Rattle.door_step.proofs.Answers.{answers-unique}
 use Rattle.walk_chain.proofs.Walk.{walks-unique}
-use Rattle.door_walk.proofs.Order.{from-order-unique}
+use Rattle.door_period.proofs.Order.{from-order-unique}
 use Rattle.door_unit.proofs.Once.{makes-unique}
 use Rattle.door_compare.proofs.Once.{refusals-unique, compares-unique}
 use Rattle.door_transfer.proofs.Once.{transfers-unique}

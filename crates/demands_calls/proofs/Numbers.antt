@@ -14,14 +14,15 @@ use Rattle.field_open.proofs.Stages as stages
 use Rattle.field_open.proofs.Door.{door-out}
 use Rattle.field_series.specs.Answer as ser
 use Rattle.field_series.specs.declared.OpenedAnswer.{OpenedAnswer}
-use Rattle.door_basis.specs.declared.OrderAnswer.{OrderAnswer}
-use Rattle.door_basis.specs.Answer as basis
+use Rattle.door_order.specs.declared.OrderAnswer.{OrderAnswer}
+use Rattle.door_order.specs.Answer.{Orders}
+use Rattle.door_check.specs.Answer as checks
 use Rattle.door_step.specs.declared.StepAnswer.{StepAnswer}
 use Rattle.door_step.specs.Answer as stepped
 use Rattle.walk_chain.specs.declared.WalkAnswer.{WalkAnswer}
 use Rattle.walk_chain.specs.Walk as walks
-use Rattle.door_walk.specs.declared.PeriodAnswer.{PeriodAnswer}
-use Rattle.door_walk.specs.Order as told
+use Rattle.door_period.specs.declared.PeriodAnswer.{PeriodAnswer}
+use Rattle.door_period.specs.Order as told
 use Rattle.door_unit.specs.declared.UnitAnswer.{UnitAnswer}
 use Rattle.door_unit.specs.Unit as made
 use Rattle.door_unit.proofs.Once.{refused-number}
@@ -133,16 +134,16 @@ add-numbered (added.added l a t u h k e q) = zero-of (number-of e)
 refused-of : {k m n : ℕ} {A : Type 0} → 8 ≤ k → n ≤ 8 → m ≡ n → (m ≤ k) ⊎ A
 refused-of a h e = inl (omega (arith, e))
 
-order-numbered : {p : ℕ} {G H : List ℕ} (o : OrderAnswer) → basis.Orders p G H o → Numbered 8 [] (o .refusal)
+order-numbered : {p : ℕ} {G H : List ℕ} (o : OrderAnswer) → Orders p G H o → Numbered 8 [] (o .refusal)
 order-numbered o = door-out (λ k f l e. refused-of (omega arith) l (ap (λ (x : OrderAnswer). x .refusal) e)) (λ A g. zero-of (g .0))
 
 series-goes : {p n : ℕ} {G H r w r′ w′ : List ℕ} → ser.Goes p G H r w r′ w′ n → Numbered 8 (14 ∷ []) n
 series-goes (ser.unfit f e) = inr (inl (e .number))
 series-goes (ser.filled f e l s) = zero-of e
 
-check-goes : {p n : ℕ} {G H B : List ℕ} → basis.Goes p G H B n → Numbered 9 [] n
-check-goes (basis.no-record f e) = inl (omega (arith, e))
-check-goes (basis.is-record r e) = zero-of e
+check-goes : {p n : ℕ} {G H B : List ℕ} → checks.Goes p G H B n → Numbered 9 [] n
+check-goes (checks.no-record f e) = inl (omega (arith, e))
+check-goes (checks.is-record r e) = zero-of e
 
 step-goes : {p : ℕ} {G H B : List ℕ} (s : StepAnswer) → stepped.Goes p G H B s → Numbered 9 [] (s .refusal)
 step-goes s (stepped.no-record f e) = inl (omega (arith, ap (λ (x : StepAnswer). x .refusal) e))

@@ -8,10 +8,10 @@
 --   field_open::refusal, open               0 to 8              book_check::check                   0, 13
 --   field_series::series                    0 to 8, 14          book_check::ask_answer              0, 13, 14
 --   field_series::open_with_series          0 to 8              book_attest::attest                 0, 13, 14
---   door_basis::order                       0 to 8              book_body::list_of                  0, 11, 14
---   door_basis::check, door_step::step      0 to 9              book_write::write_body              0 to 8, 11, 13
+--   door_order::order                       0 to 8              book_body::list_of                  0, 11, 14
+--   door_check::check, door_step::step      0 to 9              book_write::write_body              0 to 8, 11, 13
 --   door_walk::walk                         0 to 10, 14         book_add::add                       0, 11, 13, 14, 15
---   door_walk::from_order                   0 to 8, 10, 14      text_read::parse                    0, 12
+--   door_period::from_order                 0 to 8, 10, 14      text_read::parse                    0, 12
 --   door_unit::unit                         0 to 8, 10, 11, 14  lister::answer                      0 to 8, 10, 11, 12
 --   door_compare::refusal, compare          0 to 8              text_end::finish                    0, 12
 --   door_transfer::transfer                 0 to 8, 14          book_begin::begin                   0, 11
@@ -30,14 +30,15 @@ use Rattle.field_open.specs.Opening.{Opens}
 use Rattle.field_open.specs.declared.FieldAnswer.{FieldAnswer}
 use Rattle.field_series.specs.Answer.{Answer, Expands}
 use Rattle.field_series.specs.declared.OpenedAnswer.{OpenedAnswer}
-use Rattle.door_basis.specs.declared.OrderAnswer.{OrderAnswer}
-use Rattle.door_basis.specs.Answer.{Orders, Checks}
+use Rattle.door_order.specs.declared.OrderAnswer.{OrderAnswer}
+use Rattle.door_order.specs.Answer.{Orders}
+use Rattle.door_check.specs.Answer.{Checks}
 use Rattle.door_step.specs.declared.StepAnswer.{StepAnswer}
 use Rattle.door_step.specs.Answer.{Answers}
 use Rattle.walk_chain.specs.declared.WalkAnswer.{WalkAnswer}
 use Rattle.walk_chain.specs.Walk.{Walks}
-use Rattle.door_walk.specs.declared.PeriodAnswer.{PeriodAnswer}
-use Rattle.door_walk.specs.Order.{FromOrder}
+use Rattle.door_period.specs.declared.PeriodAnswer.{PeriodAnswer}
+use Rattle.door_period.specs.Order.{FromOrder}
 use Rattle.door_unit.specs.declared.UnitAnswer.{UnitAnswer}
 use Rattle.door_unit.specs.Unit.{Makes}
 use Rattle.door_compare.specs.declared.CompareAnswer.{CompareAnswer}

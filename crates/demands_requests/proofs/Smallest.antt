@@ -16,8 +16,8 @@ use Rattle.pair_theory.proofs.Least.{least-agree}
 use Rattle.basis_field.specs.First.{IsFirst}
 use Rattle.walk_chain.specs.Walk as walk
 use Rattle.walk_chain.proofs.Walk.{closes-unique}
-use Rattle.door_walk.specs.declared.PeriodAnswer.{PeriodAnswer}
-use Rattle.door_walk.specs.Order as walks
+use Rattle.door_period.specs.declared.PeriodAnswer.{PeriodAnswer}
+use Rattle.door_period.specs.Order as walks
 use Rattle.basis_field.proofs.First.{first-unique}
 use Rattle.door_unit.specs.declared.UnitAnswer.{UnitAnswer}
 use Rattle.door_unit.specs.Unit.{Makes, Success}

@@ -1,58 +1,10 @@
-// The public walks: from a record, and from the order. specs/ has their contracts.
-use base_answers::Period;
-use base_answers::Regulator;
+// The public walk from a record, with all refusals; its contract is `Walks` of crate walk_chain.
 use base_answers::over_budget;
 use basis_accept::accepts;
 use walk_chain::WalkAnswer;
 use walk_chain::walk_in_field;
 ghost use mathlib.Core.Path.{_≡_};
 ghost use Rattle.walk_chain.specs.Walk as W;
-ghost use Rattle.door_walk.specs.Order.{FromOrder, refusal};
-
-// The number of the refusal; 0 and the period and regulator of the field where the walk from the order closes.
-pub struct PeriodAnswer {
-    pub refusal: u32,
-    pub period: Period,
-    pub regulator: Regulator,
-}
-
-// A refusal of the walk from the order: the other results are 0.
-fn refused(n: u32) -> PeriodAnswer
-    ensures { λ o. ⌜ o ≡ refusal n ⌝ }
-{
-    PeriodAnswer {
-        refusal: n,
-        period: Period(0),
-        regulator: Regulator(0),
-    }
-}
-
-// Period and regulator of the field p, G, H, by a walk of at most `budget` steps from the order.
-pub fn from_order(p: u64, g: &[u64], h: &[u64], budget: u64) -> PeriodAnswer
-    ensures { λ o. ⌜ FromOrder p (now (g .entry)) (now (h .entry)) budget o ⌝ }
-{
-    let e = field_series::open_with_series(p, g, h);
-    let n = e.refusal;
-    if n != 0 {
-        return refused(n);
-    }
-    let over = over_budget(budget);
-    if over {
-        return refused(14);
-    }
-    let c = e.cubic;
-    let b = basis_field::order_basis(c);
-    let o = walk_in_field(c, b, budget);
-    let k = o.refusal;
-    if k != 0 {
-        return refused(10);
-    }
-    PeriodAnswer {
-        refusal: 0,
-        period: Period(o.steps),
-        regulator: Regulator(o.sum / 2),
-    }
-}
 
 // A refusal of the walk from a record: the other results are 0.
 fn no_walk(n: u32) -> WalkAnswer

@@ -15,18 +15,18 @@ use Rattle.math_ideals.specs.Next.{Next, Start}
 use Rattle.math_chain.specs.Chain.{Degree, Chain, Closing, Open}
 use Rattle.basis_record.specs.Record.{setting, basisOf, IsRecord}
 use Rattle.field_open.proofs.Door.{door-goes}
-use Rattle.door_basis.specs.Answer.{Orders}
+use Rattle.door_order.specs.Answer.{Orders}
 use Rattle.basis_field.specs.First.{IsFirst}
-use Rattle.door_basis.proofs.Answer.{orders-unique}
+use Rattle.door_order.proofs.Answer.{orders-unique}
 use Rattle.door_step.specs.Answer as stepped
 use Rattle.door_step.specs.Answer.{Answers}
 use Rattle.door_step.proofs.Answers.{answers-unique}
 use Rattle.walk_chain.specs.Walk as walk
 use Rattle.walk_chain.specs.Walk.{Walks}
 use Rattle.walk_chain.proofs.Walk.{walks-unique}
-use Rattle.door_walk.specs.Order as told
-use Rattle.door_walk.specs.Order.{FromOrder}
-use Rattle.door_walk.proofs.Order.{from-order-unique}
+use Rattle.door_period.specs.Order as told
+use Rattle.door_period.specs.Order.{FromOrder}
+use Rattle.door_period.proofs.Order.{from-order-unique}
 use Rattle.examples_lists.specs.Lists.{alike}
 use Rattle.examples_tests.specs.Rows.{Rows, stored}
 use Rattle.examples_tests.specs.Tests.{every, goes}

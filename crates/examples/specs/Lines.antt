@@ -9,7 +9,7 @@
 --   AllHold          all of a list of lines hold
 --   labels           the numbers that stand before the lines, each once where lines in a row share it
 -- A polynomial is a list of coefficients, lowest first. The contracts' definitions are those of crates field_open, field_series,
--- door_basis, door_step, walk_chain, door_walk, door_unit and book_check; `Rows` and `stored` (crate examples_tests) write a basis and its
+-- door_order, door_step, walk_chain, door_period, door_unit and book_check; `Rows` and `stored` (crate examples_tests) write a basis and its
 -- record of 119 numbers.
 use mathlib.Core.Path.{_≡_}
 use mathlib.Core.Bool.{Bool, true, false}
@@ -23,12 +23,12 @@ use Rattle.field_open.specs.Refusal.{Accepted}
 use Rattle.field_open.specs.Opening.{Opens, nothing}
 use Rattle.basis_record.specs.Record.{setting, polyOf}
 use Rattle.field_series.specs.Answer as filled
-use Rattle.door_basis.specs.Answer.{Orders}
+use Rattle.door_order.specs.Answer.{Orders}
 use Rattle.door_step.specs.Answer.{Answers}
 use Rattle.walk_chain.specs.Walk.{Walks}
 use Rattle.base_answers.specs.Limits.{most}
-use Rattle.door_walk.specs.Order as told
-use Rattle.door_walk.specs.Order.{FromOrder}
+use Rattle.door_period.specs.Order as told
+use Rattle.door_period.specs.Order.{FromOrder}
 use Rattle.door_unit.specs.Unit.{refusal, Makes}
 use Rattle.unit_finish.specs.Rows.{six}
 use Rattle.door_unit.specs.declared.UnitAnswer.{UnitAnswer}

@@ -12,9 +12,9 @@ use Rattle.field_open.specs.Refusal.{Accepted}
 use Rattle.field_open.proofs.Stages.{numbered}
 use Rattle.field_open.proofs.Door.{door-refused, door-goes}
 use Rattle.basis_record.specs.Record.{IsRecord}
-use Rattle.door_basis.specs.declared.OrderAnswer.{OrderAnswer}
-use Rattle.door_basis.specs.Answer.{Orders}
-use Rattle.door_basis.proofs.Answer.{orders-unique}
+use Rattle.door_order.specs.declared.OrderAnswer.{OrderAnswer}
+use Rattle.door_order.specs.Answer.{Orders}
+use Rattle.door_order.proofs.Answer.{orders-unique}
 use Rattle.door_step.specs.declared.StepAnswer.{StepAnswer}
 use Rattle.door_step.specs.Answer as stepped
 use Rattle.door_step.proofs.Answers.{answers-unique}

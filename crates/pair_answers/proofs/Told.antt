@@ -5,9 +5,9 @@ use mathlib.Core.Path.{_≡_}
 use mathlib.Core.List.{List}
 use Prim.Native.Nat.{ℕ}
 use Rattle.field_open.specs.Refusal.{Accepted}
-use Rattle.door_walk.specs.declared.PeriodAnswer.{PeriodAnswer}
-use Rattle.door_walk.specs.Order.{Goes, budget, closed, spent, FromOrder}
-use Rattle.door_walk.proofs.Order.{from-order-unique}
+use Rattle.door_period.specs.declared.PeriodAnswer.{PeriodAnswer}
+use Rattle.door_period.specs.Order.{Goes, budget, closed, spent, FromOrder}
+use Rattle.door_period.proofs.Order.{from-order-unique}
 use Rattle.pair_laws.specs.OneField.{OneField}
 use Rattle.pair_agree.specs.Answer.{Coefficients}
 use Rattle.pair_answers.proofs.Way.{Way, way, split}

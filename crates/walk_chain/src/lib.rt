@@ -1,4 +1,4 @@
-// The walk along the chain of minima, from a record; it asks for an accepted field. The doors are in crate door_walk.
+// The walk along the chain of minima, from a record; it asks for an accepted field. The doors are crates door_walk and door_period.
 use step_next::step_on_rows;
 use walk_closed::is_closed;
 ghost use Rattle.walk_chain.specs.Going.{WalkOnRowsAsks, Gone};

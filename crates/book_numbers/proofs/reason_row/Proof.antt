@@ -1,6 +1,6 @@
 -- `reason_row` gives the numbers of document 01.
 use mathlib.Core.Path.{sym, ap}
-use Rattle.book_check.specs.Answer.{reasonSays}
+use Rattle.book_judge.specs.Reasons.{reasonSays}
 use Rattle.book_numbers.specs.Numbers.{numbers}
 use borrow.Author.Needs.{needs}
 use Rattle.book_numbers.proofs.reason_row.Statement.{statement}
