@@ -1,8 +1,8 @@
 // From a reduced pair to the scaled basis. specs/Based.antt has what it is.
 use basis_parts::Bounds;
-use basis_top::lead_of;
 use basis_store::factors_of;
 use basis_store::filled;
+use basis_top::lead_of;
 use poly_cross::scale_in;
 ghost use Rattle.basis_parts.specs.Given.{given};
 ghost use Rattle.basis_clear.specs.Clear.{pair};

@@ -29,8 +29,9 @@ use Rattle.book_check.proofs.One as one
 use Rattle.examples_tests.specs.Tests.{every, begins}
 use Rattle.examples_tests.proofs.Fields.{every-at, accepted-of, series-of}
 use Rattle.examples_tests.proofs.Bases.{or-cases}
-use Rattle.examples.specs.Lines.{Input, Only, Refuses, series, empty-book, no-book, Holds}
-use Rattle.examples.specs.Decide.{Hints, refused, field, decide}
+use Rattle.examples_table.specs.Lines.{Input, series, empty-book, no-book}
+use Rattle.examples_table.specs.Decide.{Hints, refused, field, decide}
+use Rattle.examples.specs.Lines.{Only, Refuses, Holds}
 
 -- ---- refusals 1 and 2
 refused-is : (p n : ℕ) → T (refused p n) → (G H : List ℕ) → Refusal p G H n

@@ -35,8 +35,9 @@ use Rattle.examples_tests.proofs.Fields.{every-at, accepted-of}
 use Rattle.examples_tests.proofs.Bases.{basisL, good-rows}
 use Rattle.examples_tests.proofs.Steps.{next-rows, basis-is, record-of}
 use Rattle.examples_tests.proofs.Chains.{good-at, chain-of, degree-at, open-of, closing-of, start-of}
-use Rattle.examples.specs.Lines.{Input, order, steps, closes, spends, period, no-period, Holds}
-use Rattle.examples.specs.Decide.{Hints, closed, field, isGood, isRecord, isOne, orders, goesOn, walked, closing, spending, periodic, unperiodic, decide}
+use Rattle.examples_table.specs.Lines.{Input, order, steps, closes, spends, period, no-period}
+use Rattle.examples_table.specs.Decide.{Hints, closed, field, isGood, isRecord, isOne, orders, goesOn, walked, closing, spending, periodic, unperiodic, decide}
+use Rattle.examples.specs.Lines.{Holds}
 
 module _ (k : Input) (h : Hints) where
   pub field-of : T (field k h) → Accepted (k .p) (k .G) (k .H)

@@ -5,8 +5,9 @@ use mathlib.Core.List.{List, [], _∷_}
 use Prim.Native.Nat.{ℕ}
 use lib.Dec.{T}
 use Rattle.math_fp.proofs.Trial.{and-l, and-r}
-use Rattle.examples.specs.Lines.{whatever, empty-G, Line, refuses, series, order, steps, closes, spends, period, no-period, unit, unit-norm, narrow, empty-book, no-book, Holds, AllHold}
-use Rattle.examples.specs.Decide.{Hints, decide, decideAll}
+use Rattle.examples_table.specs.Lines.{whatever, empty-G, Line, refuses, series, order, steps, closes, spends, period, no-period, unit, unit-norm, narrow, empty-book, no-book}
+use Rattle.examples_table.specs.Decide.{Hints, decide, decideAll}
+use Rattle.examples.specs.Lines.{Holds, AllHold}
 use Rattle.examples.proofs.Firsts.{refuses-one, series-sound, empty-book-holds, no-book-sound}
 use Rattle.examples.proofs.Records.{order-sound, steps-sound, closes-sound, spends-sound, period-sound, no-period-sound}
 use Rattle.examples.proofs.Units.{unit-sound, norm-sound, narrow-sound}

@@ -37,8 +37,9 @@ use Rattle.examples_tests.specs.Walks.{total, unclosed, walks, isUnit}
 use Rattle.examples_tests.proofs.Fields.{every-at, below-sound}
 use Rattle.examples_tests.proofs.Bases.{basisL}
 use Rattle.examples_tests.proofs.Chains.{closing-of, start-of, unit-of}
-use Rattle.examples.specs.Lines.{Input, Only, Outcome, sixRows, made, unit, unit-norm, narrow, Holds}
-use Rattle.examples.specs.Decide.{Hints, closed, fromOrder, rowsAt, isSix, makes, decide}
+use Rattle.examples_table.specs.Lines.{Input, sixRows, unit, unit-norm, narrow}
+use Rattle.examples_table.specs.Decide.{Hints, closed, fromOrder, rowsAt, isSix, makes, decide}
+use Rattle.examples.specs.Lines.{Only, Outcome, made, Holds}
 use Rattle.examples.proofs.Records.{field-of}
 
 -- an outcome is the only one

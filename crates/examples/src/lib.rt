@@ -1,1 +1,1 @@
-// Mathematics alone: the worked examples P1 to P12 of document 01 as one table, proved by one theorem.
+// Mathematics alone: the worked examples P1 to P12 of document 01 hold, by one theorem. The table is crate examples_table.

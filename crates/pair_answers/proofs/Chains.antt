@@ -19,8 +19,8 @@ use Rattle.basis_field.specs.First.{IsFirst}
 use Rattle.step_next.specs.Steps.{Steps}
 use Rattle.walk_chain.specs.Walk.{Reaches, Closes, StaysOpen}
 use Rattle.basis_record.specs.Setting.{roots}
-use Rattle.pair_theory.specs.Carries.{Carries, carry}
-use Rattle.pair_theory.proofs.Transport.{start-carry, next-carry, degree-carry, chain-carry, open-carry, closing-carry}
+use Rattle.math_carry.specs.Carries.{Carries, carry}
+use Rattle.math_carry.proofs.Transport.{start-carry, next-carry, degree-carry, chain-carry, open-carry, closing-carry}
 use Rattle.pair_answers.proofs.Way.{Way, map}
 use Rattle.pair_answers.proofs.Record.{Over, basis-over, record-over}
 

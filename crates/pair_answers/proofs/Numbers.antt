@@ -24,7 +24,7 @@ use Rattle.pair_laws.specs.OneField.{leading}
 use Rattle.pair_laws.specs.Rows.{Law}
 use Rattle.pair_laws.proofs.Lists.{leading-at, leading-not}
 use Rattle.pair_laws.proofs.Laws.{law-of, law-unique}
-use Rattle.pair_theory.specs.Carries.{Factors}
+use Rattle.math_carry.specs.Carries.{Factors}
 
 module _ (p : ℕ) (pr : Prime p) where
   abbrev ρ : Reading p

@@ -22,9 +22,9 @@ use Rattle.basis_record.proofs.Unique.{basis-unique}
 use Rattle.pair_laws.specs.Rows.{Stays, RecordCarries, straight, crossed}
 use Rattle.math_ideals.specs.Setting.{at}
 use Rattle.basis_record.specs.Setting.{roots}
-use Rattle.pair_theory.specs.Carries.{carry}
-use Rattle.pair_theory.proofs.Inverse.{back, carry-back}
-use Rattle.pair_theory.proofs.Transport.{good-carry}
+use Rattle.math_carry.specs.Carries.{carry}
+use Rattle.math_carry.proofs.Inverse.{back, carry-back}
+use Rattle.math_carry.proofs.Transport.{good-carry}
 use Rattle.pair_answers.proofs.Way.{Way, same, swapped, map}
 use Rattle.pair_answers.proofs.Rows.{stays-row, tri, ThreeIn, SignedIn, three-below, signed-below, tri-over, signed-over}
 use Rattle.pair_answers.proofs.Blocks.{row-below, all-below, straights, turneds, made, made-size, straight-rows, turned-rows, last-row}

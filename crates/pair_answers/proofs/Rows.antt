@@ -26,7 +26,7 @@ use Rattle.math_ideals.proofs.Sizes.{O-path, sc-a, sc-b, sc-c}
 use Rattle.pair_laws.specs.Rows.{Stays, Times, Straight, Crossed, Turned}
 use Rattle.math_ideals.specs.Setting.{Roots, at}
 use Rattle.basis_record.specs.Setting.{roots}
-use Rattle.pair_theory.specs.Carries.{El, stretch, exchange}
+use Rattle.math_carry.specs.Carries.{El, stretch, exchange}
 use Rattle.pair_answers.proofs.Numbers.{constant}
 use Rattle.pair_answers.proofs.Way.{Way, same, swapped, map, map-same, map-swapped, map-plus, map-minus}
 use Rattle.pair_answers.proofs.Blocks.{straight-below, crossed-below, turned-below}

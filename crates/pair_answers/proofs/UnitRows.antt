@@ -18,7 +18,7 @@ use Rattle.door_unit.specs.Unit.{Finds, Misses}
 use Rattle.unit_finish.specs.Rows.{six, Holds}
 use Rattle.pair_laws.specs.Rows.{RowsCarry, straight, crossed}
 use Rattle.door_transfer.proofs.Rows.{carried-each}
-use Rattle.pair_theory.proofs.Same as theory
+use Rattle.math_carry.proofs.Same as theory
 use Rattle.pair_answers.proofs.Way.{Way, same, swapped, map}
 use Rattle.pair_answers.proofs.Rows.{ThreeIn, tri-over}
 use Rattle.pair_answers.proofs.Blocks.{straights, crosseds, made, made-size, straight-rows, crossed-rows}

@@ -20,7 +20,7 @@ use Rattle.pair_laws.specs.OneField.{leading, Agree, OneField}
 use Rattle.pair_agree.specs.Answer.{Coefficients}
 use Rattle.pair_laws.specs.Rows.{Law}
 use Rattle.basis_record.specs.Setting.{roots}
-use Rattle.pair_theory.specs.Carries.{El, Carries, stretch, exchange}
+use Rattle.math_carry.specs.Carries.{El, Carries, stretch, exchange}
 use Rattle.pair_theory.proofs.OneField as one
 use Rattle.pair_theory.proofs.Refused.{refusal-carry}
 use Rattle.pair_answers.proofs.Numbers.{constant, laws, constants}

@@ -14,7 +14,7 @@ use Rattle.math_fundamental.specs.Smallest.{NoneBetween, LeastDegree}
 use Rattle.math_fundamental.proofs.Agree.{least-unique}
 use Rattle.basis_record.specs.Record.{setting}
 use Rattle.pair_laws.specs.OneField.{OneField}
-use Rattle.pair_theory.specs.Corresponds.{Corresponds}
+use Rattle.math_carry.specs.Corresponds.{Corresponds}
 use Rattle.pair_theory.proofs.Corresponds.{corresponds}
 
 abbrev reversed : (S S′ : Setting) → Corresponds S S′ → Corresponds S′ S

@@ -1,8 +1,4 @@
-pub mod Inverse
-pub mod Pairs
 pub mod OneField
-pub mod Transport
-pub mod Same
 pub mod Units
 pub mod Refused
 pub mod Corresponds

@@ -10,9 +10,10 @@ use Rattle.pair_laws.specs.OneField.{OneField}
 use Rattle.math_ideals.specs.Setting.{Roots}
 use Rattle.basis_record.specs.Setting.{roots}
 use Rattle.pair_theory.specs.Shared.{Shared}
-use Rattle.pair_theory.proofs.OneField.{Meets, meets}
-use Rattle.pair_theory.proofs.Transport.{good-carry, start-carry, degree-carry, next-carry, chain-carry, open-carry, closing-carry, unit-carry}
-use Rattle.pair_theory.proofs.Same.{start-same, closing-same, unit-same}
+use Rattle.pair_theory.proofs.OneField.{meets}
+use Rattle.math_carry.proofs.Meets.{Meets}
+use Rattle.math_carry.proofs.Transport.{good-carry, start-carry, degree-carry, next-carry, chain-carry, open-carry, closing-carry, unit-carry}
+use Rattle.math_carry.proofs.Same.{start-same, closing-same, unit-same}
 
 met : (𝓥 : Valued) {s s′ : Roots 𝓥} → Meets 𝓥 s s′ → Shared 𝓥 s s′
 met 𝓥 m = let c = m .carries in record {

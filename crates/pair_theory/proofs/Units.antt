@@ -8,10 +8,10 @@ use Rattle.math_ideals.specs.Ideal.{Basis}
 use Rattle.math_ideals.specs.Next.{Start}
 use Rattle.math_chain.specs.Unit.{UnitOf}
 use Rattle.math_ideals.specs.Setting.{Roots, at}
-use Rattle.pair_theory.specs.Carries.{El, Carries, Stretched, Exchanged}
+use Rattle.math_carry.specs.Carries.{El, Carries, Stretched, Exchanged}
 use Rattle.pair_theory.specs.Units.{UnitCarries}
-use Rattle.pair_theory.proofs.Same.{unit-same}
-use Rattle.pair_theory.proofs.OneField.{Meets}
+use Rattle.math_carry.proofs.Same.{unit-same}
+use Rattle.math_carry.proofs.Meets.{Meets}
 
 module _ (𝓥 : Valued) {s s′ : Roots 𝓥} where
   shaped : (c : Carries s s′) → Stretched 𝓥 s s′ c ⊎ Exchanged 𝓥 s s′ c → {E F E′ F′ : El 𝓥} → c .to E ≡ E′ → c .to F ≡ F′ → UnitCarries 𝓥 s s′ E F E′ F′

@@ -1,4 +1,2 @@
-pub mod Corresponds
-pub mod Carries
 pub mod Units
 pub mod Shared

@@ -13,7 +13,7 @@ use Rattle.math_ideals.specs.Next.{Next, Start}
 use Rattle.math_chain.specs.Chain.{Degree, Chain, Open, Closing}
 use Rattle.math_chain.specs.Unit.{UnitOf}
 use Rattle.math_ideals.specs.Setting.{Roots, at}
-use Rattle.pair_theory.specs.Carries.{El, Carries, carry, Stretched, Exchanged}
+use Rattle.math_carry.specs.Carries.{El, Carries, carry, Stretched, Exchanged}
 
 pub record Shared (𝓥 : Valued) (s s′ : Roots 𝓥) : Type 0 where
   pub map : Carries s s′

@@ -6,7 +6,7 @@ use mathlib.Core.Path.{_≡_}
 use mathlib.Core.Logic.{_⊎_}
 use Rattle.math_valued.specs.Val.{Valued}
 use Rattle.math_ideals.specs.Setting.{Roots}
-use Rattle.pair_theory.specs.Carries.{El, stretch, exchange, Factors, Same, Other}
+use Rattle.math_carry.specs.Carries.{El, stretch, exchange, Factors, Same, Other}
 
 pub record UnitCarries (𝓥 : Valued) (s s′ : Roots 𝓥) (E F E′ F′ : El 𝓥) : Type 0 where
   pub factors : Factors 𝓥

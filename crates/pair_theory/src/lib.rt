@@ -1,1 +1,1 @@
-// Mathematics alone: two pairs G, H of one field, and how their orders correspond. See specs/.
+// Mathematics alone: the orders of two accepted pairs G, H of one field carry over (crate math_carry), and what follows. See specs/.

@@ -1,8 +1,8 @@
 -- Two orders that correspond: one to one, so that products, 1 and degrees stay.
 --   Corresponds S S′   elements of the order of S go to elements of the order of S′ and back
 -- So units go to units of the same degree, whatever series the two settings have.
--- `corresponds` in proofs/Corresponds.antt: the orders of two accepted pairs of one field do; `least-agree` in proofs/Least.antt: so their
--- units have one least positive degree.
+-- `carried` in proofs/Corresponds.antt: orders that carry over do. In crate pair_theory: `corresponds`, so the orders of two accepted pairs of
+-- one field do; `least-agree`, their units have one least positive degree.
 use mathlib.Core.Path.{_≡_}
 use Prim.Native.Nat.{ℕ}
 use Rattle.math_valued.specs.Degree.{HasDeg}

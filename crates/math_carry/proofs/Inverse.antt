@@ -15,7 +15,7 @@ use Rattle.math_ideals.specs.Setting.{Roots, Setting, at}
 use Rattle.math_ideals.specs.Element.{O, sc, ev, X, Y, Z}
 use Rattle.math_ideals.specs.Ideal.{Basis}
 use Rattle.math_ideals.proofs.Lattice.{sc-mul}
-use Rattle.pair_theory.specs.Carries.{El, Carries, carry}
+use Rattle.math_carry.specs.Carries.{El, Carries, carry}
 
 module _ {A : Type 0} (_·_ _∘_ : A → A → A) where
   infixl 70 _·_ _∘_

@@ -14,8 +14,8 @@ use Rattle.math_chain.proofs.Walk.{closing-unique}
 use Rattle.math_chain.proofs.Closing.{start-unique}
 use Rattle.math_chain.proofs.Unit.{unit-unique}
 use Rattle.math_ideals.specs.Setting.{Roots, at}
-use Rattle.pair_theory.specs.Carries.{El, Carries}
-use Rattle.pair_theory.proofs.Transport.{over, start-carry, chain-carry, open-carry, closing-carry, unit-carry}
+use Rattle.math_carry.specs.Carries.{El, Carries}
+use Rattle.math_carry.proofs.Transport.{over, start-carry, chain-carry, open-carry, closing-carry, unit-carry}
 
 module _ (𝓥 : Valued) {s s′ : Roots 𝓥} (c : Carries s s′)
     (B₀ : Basis (at s)) (B₀′ : Basis (at s′)) (st : Start (at s) B₀) (st′ : Start (at s′) B₀′) where

@@ -26,8 +26,8 @@ use Rattle.math_ideals.proofs.Lattice.{in-U, sc-mul, by-all, divides-all, all-d
 use Rattle.math_ideals.proofs.Form.{has-two}
 use Rattle.math_chain.specs.Chain.{Degree, Chain, here, then, tops, bottoms, Open, Closing}
 use Rattle.math_chain.specs.Unit.{UnitOf}
-use Rattle.pair_theory.specs.Carries.{El, Carries, carry}
-use Rattle.pair_theory.proofs.Inverse.{twice, back, ev-kept, Z-kept, undone, carry-back}
+use Rattle.math_carry.specs.Carries.{El, Carries, carry}
+use Rattle.math_carry.proofs.Inverse.{twice, back, ev-kept, Z-kept, undone, carry-back}
 
 module _ (𝓥 : Valued) {s s′ : Roots 𝓥} (c : Carries s s′) where
   open Valued 𝓥 using (K, L)

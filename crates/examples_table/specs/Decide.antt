@@ -1,4 +1,4 @@
--- Whether a line holds, computed. A passed test proves the line: `sound` in proofs/Sound.antt.
+-- Whether a line holds, computed. A passed test proves the line: `sound` of crate examples.
 --   Hints         what the test is helped with: first coefficients of the series, the basis of the order, the bases that the walk passes after
 --                 its start (the last one first), the unit and its inverse. Nothing is believed of them.
 --   decide l h    the test of a line
@@ -13,12 +13,12 @@ use Rattle.math_fp.specs.Trial.{primeb}
 use Rattle.num_prime.specs.Table.{largest}
 use Rattle.base_answers.specs.Limits.{longest}
 use Rattle.base_answers.specs.Limits.{most}
-use Rattle.unit_rows.specs.Six.{cut}
+use Rattle.base_lists.specs.Pieces.{cut}
 use Rattle.examples_lists.specs.Lists.{lists, alike, alikeT}
 use Rattle.examples_tests.specs.Rows.{Rows, stored}
 use Rattle.examples_tests.specs.Tests.{every, below, accepts, begins, good, kept}
 use Rattle.examples_tests.specs.Walks.{at, degreeL, total, unclosed, step, walks, isUnit}
-use Rattle.examples.specs.Lines.{Input, Line, refuses, series, order, steps, closes, spends, period, no-period, unit, unit-norm, narrow, empty-book, no-book, sixRows}
+use Rattle.examples_table.specs.Lines.{Input, Line, refuses, series, order, steps, closes, spends, period, no-period, unit, unit-norm, narrow, empty-book, no-book, sixRows}
 
 pub record Hints : Type 0 where
   pub r : List ℕ

@@ -25,7 +25,7 @@ use Rattle.math_ideals.proofs.Sizes.{O-path}
 use Rattle.math_ideals.proofs.Values.{w-w, r-cube}
 use Rattle.math_ideals.proofs.Roots.{roots-unique}
 use Rattle.math_ideals.specs.Setting.{Roots, at}
-use Rattle.pair_theory.specs.Carries.{El, Carries, stretch, Stretched}
+use Rattle.math_carry.specs.Carries.{El, Carries, stretch, Stretched}
 
 -- the second coordinate and the third change places
 abbrev pub turned : {A : Type 0} → Tri A → Tri A

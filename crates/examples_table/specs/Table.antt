@@ -1,12 +1,12 @@
--- P1 to P12 of document 01 ("Worked by hand, p = 5"), each line with its number. In proofs/Table.antt: `table-holds`, every line holds;
--- `table-whole`, the numbers of the lines are 1 to 12, in order, none left out and no other.
+-- P1 to P12 of document 01 ("Worked by hand, p = 5"), each line with its number. In proofs/Table.antt: `table-passes`, every line passes its test, so
+-- that it holds (`table-holds`, crate examples); `table-whole`, the numbers of the lines are 1 to 12, in order, none left out and no other.
 -- A polynomial is written by t, its powers, sums and multiples, mod 5.
 use mathlib.Core.List.{List, [], _∷_}
 use Prim.Native.Nat.{ℕ}
 use Rattle.math_triple.specs.Tri.{Tri}
 use Rattle.examples_lists.specs.Lists.{plus, scale}
 use Rattle.examples_tests.specs.Rows.{Rows}
-use Rattle.examples.specs.Lines.{Input, element, whatever, empty-G, Line, refuses, series, order, steps, closes, spends, period, no-period, unit, unit-norm, narrow, empty-book, no-book}
+use Rattle.examples_table.specs.Lines.{Input, element, whatever, empty-G, Line, refuses, series, order, steps, closes, spends, period, no-period, unit, unit-norm, narrow, empty-book, no-book}
 
 abbrev pub num : ℕ → List ℕ
 num a = a ∷ []

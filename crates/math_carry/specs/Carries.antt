@@ -10,7 +10,7 @@
 --   Stretched      φ multiplies B and C by constants, and σ = 1: the pairs have the same order
 --   Exchanged      φ exchanges B and C too, and σ = −1: they have the other
 -- In proofs/: Inverse (`back`, `after`: the inverse and the composition; `ev-kept`: the value stays), Pairs (`swap`, `scaled`: exchanged
--- and scaled pairs), OneField (`meets`: two accepted pairs of one field), Transport (bases, chains, closings and units carry over), Same
+-- and scaled pairs), Meets (pairs that differ by constants, in one order or the other), Transport (bases, chains, closings and units carry over), Same
 -- (one period, one degree sum, one unit).
 use mathlib.Core.Path.{_≡_}
 use Rattle.math_ring.specs.Ring.{Ops}

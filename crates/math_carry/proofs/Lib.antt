@@ -1,0 +1,6 @@
+pub mod Inverse
+pub mod Pairs
+pub mod Meets
+pub mod Transport
+pub mod Same
+pub mod Corresponds

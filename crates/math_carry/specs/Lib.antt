@@ -1,0 +1,2 @@
+pub mod Corresponds
+pub mod Carries
