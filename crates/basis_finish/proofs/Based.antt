@@ -36,7 +36,7 @@ use Rattle.basis_store.specs.declared.Factors.{Factors}
 use Rattle.basis_parts.proofs.Laid.{zeros-at}
 use Rattle.basis_clear.proofs.Clearing.{part-in, rows-of}
 use Rattle.basis_store.specs.Levels.{Monic}
-use Rattle.basis_store.specs.Place.{off, ElementAsks, PlacedAt, FilledAsks, Filled}
+use Rattle.basis_store.specs.Place.{off, padded, ElementAsks, PlacedAt, FilledAsks, Filled}
 use Rattle.basis_store.specs.Scales.{FactorsOfAsks, Scaling}
 use Rattle.basis_finish.specs.Based.{BasisAsks, BasedAt, Based, Left, Z, at, Mpt, Npt}
 use Rattle.basis_record.proofs.Store.{stored-part, stored-other, stored-each, part-same}
@@ -283,6 +283,9 @@ module _ {F : Frame} {q : Pair} {top : ℕ} {d x1 y1 : List ℕ} (g : BasisAsks 
                 meant = based-at;
               }
 
+              pad : {x y : List ℕ} → x ≡ y → x ++ replicate 15 0 ≡ y ++ replicate 15 0
+              pad e = ap (λ z. z ++ replicate 15 0) e
+
               pub left : Left (F .m .p) x1 y1 B₃ o₁ u x2 y2
               left = record {
                 rows = λ i. record { mb = (pm .left-b ∙ pad (part-M 1 (omega arith))) i; mc = (pm .left-c ∙ pad (part-M 2 (omega arith))) i; nb = (pn .left-b ∙ pad (part-N 4 (omega arith))) i; nc = (pn .left-c ∙ pad (part-N 5 (omega arith))) i };
@@ -290,6 +293,9 @@ module _ {F : Frame} {q : Pair} {top : ℕ} {d x1 y1 : List ℕ} (g : BasisAsks 
                 twice-x = e1 .scaled;
                 twice-y = e2 .scaled;
               }
-                where
-                  pad : {x y : List ℕ} → x ≡ y → x ++ replicate 15 0 ≡ y ++ replicate 15 0
-                  pad e = ap (λ z. z ++ replicate 15 0) e
+
+              pub left-mx : mx₁ ≡ padded 0 B₃
+              left-mx = pm .left-x ∙ pad (part-M 0 (omega arith))
+
+              pub left-nx : nx₁ ≡ padded 3 B₃
+              left-nx = pn .left-x ∙ pad (part-N 3 (omega arith))

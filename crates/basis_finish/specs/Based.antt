@@ -6,7 +6,7 @@
 --   BasedAt                   a reduced basis in numbers (crate math_ideals), scaled; M and N span what q does; row 0 is as above
 --   Based                     the same at each meaning of the series
 --   Left                      what the lent rows hold in the end: M1, M2, N1, N2, U of the record, and x1 and y1 doubled
---   FinishedAsks, Finished        from a pair o that the reduction made: Based for every q that it is the reduction of, and Left
+--   FinishedAsks, Finished    from a pair o that the reduction made: Based for every q that it is the reduction of, Left, and M0, N0 in the rows of X(m), X(n)
 use mathlib.Core.Path.{_≡_}
 use mathlib.Core.Logic.{_≢_}
 use mathlib.Core.List.{List}
@@ -101,6 +101,8 @@ pub record FinishedAsks (F : Frame) (top : ℕ) (o : Ends) (d : List ℕ) (lu : 
   pub from : Reduced F q top lu o
 
 pub record Finished (F : Frame) (top : ℕ) (o : Ends) (d : List ℕ) (lu : ℕ) (x1 y1 : List ℕ) (o′ : Pair)
-    (d′ x1′ y1′ B : List ℕ) : Type 0 where
+    (mx′ nx′ d′ x1′ y1′ B : List ℕ) : Type 0 where
   pub each : {q : Pair} → BasisAsks F q top d x1 y1 → Size d lu → Reduced F q top lu o → Based F q d x1 y1 B
   pub left : Left (F .m .p) x1 y1 B o′ d′ x1′ y1′
+  pub left-mx : mx′ ≡ padded 0 B
+  pub left-nx : nx′ ≡ padded 3 B

@@ -29,7 +29,7 @@ pub fn finished(
     n2: usize,
 ) -> [u16; 119]
     requires { ⌜ FinishedAsks (given f (now r) (now w)) (f .top) (ends (now mb) (now mc) (now mx) (now nb) (now nc) (now nx) l) (now d) lu (now x1) n1 (now y1) n2 ⌝ }
-    ensures { λ o. ⌜ Finished (given f (now (r .entry)) (now (w .entry))) (f .top) (ends (now (mb .entry)) (now (mc .entry)) (now (mx .entry)) (now (nb .entry)) (now (nc .entry)) (now (nx .entry)) l) (now (d .entry)) lu (now (x1 .entry)) (now (y1 .entry)) (pair (now (mb .exit)) (now (mc .exit)) (now (nb .exit)) (now (nc .exit))) (now (d .exit)) (now (x1 .exit)) (now (y1 .exit)) o ⌝ }
+    ensures { λ o. ⌜ Finished (given f (now (r .entry)) (now (w .entry))) (f .top) (ends (now (mb .entry)) (now (mc .entry)) (now (mx .entry)) (now (nb .entry)) (now (nc .entry)) (now (nx .entry)) l) (now (d .entry)) lu (now (x1 .entry)) (now (y1 .entry)) (pair (now (mb .exit)) (now (mc .exit)) (now (nb .exit)) (now (nc .exit))) (now (mx .exit)) (now (nx .exit)) (now (d .exit)) (now (x1 .exit)) (now (y1 .exit)) o ⌝ }
 {
     let q = f.m;
     let top = f.top;

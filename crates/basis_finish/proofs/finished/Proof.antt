@@ -1,5 +1,5 @@
 -- `basis_finish::finished` meets its contract: the lemmas of Based.
-use Rattle.basis_finish.proofs.Based.{double-x, double-y, based-lu, based-part, lx-pos, based-scales, based-u, based-fill, based, left}
+use Rattle.basis_finish.proofs.Based.{double-x, double-y, based-lu, based-part, lx-pos, based-scales, based-u, based-fill, based, left, left-mx, left-nx}
 use borrow.Author.Needs.{needs}
 use Rattle.basis_finish.proofs.finished.Statement.{statement}
 use Rattle.basis_finish.proofs.finished.Tie as tie
@@ -70,6 +70,10 @@ returns c =
       each = λ g s h. based g s h (at19 .lead-of .ensures) (at16 .factors-of .ensures) (at14 .scale-in .ensures) (i .by .size-1) (i .by .size-2)
           (at12 .scale-in2 .ensures) (at10 .scale-in3 .ensures) (c .filled .ensures);
       left = left (i .by .inp) (i .by .size) (i .from) (at19 .lead-of .ensures) (at16 .factors-of .ensures) (at14 .scale-in .ensures) (i .by .size-1) (i .by .size-2)
+          (at12 .scale-in2 .ensures) (at10 .scale-in3 .ensures) (c .filled .ensures);
+      left-mx = left-mx (i .by .inp) (i .by .size) (i .from) (at19 .lead-of .ensures) (at16 .factors-of .ensures) (at14 .scale-in .ensures) (i .by .size-1) (i .by .size-2)
+          (at12 .scale-in2 .ensures) (at10 .scale-in3 .ensures) (c .filled .ensures);
+      left-nx = left-nx (i .by .inp) (i .by .size) (i .from) (at19 .lead-of .ensures) (at16 .factors-of .ensures) (at14 .scale-in .ensures) (i .by .size-1) (i .by .size-2)
           (at12 .scale-in2 .ensures) (at10 .scale-in3 .ensures) (c .filled .ensures);
     }
 
