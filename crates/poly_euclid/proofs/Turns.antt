@@ -86,18 +86,21 @@ euclid-turn {p} {x = x} {y = y} {n = n} {m = m} i pos o = record {
   each = λ pr. let R = reading p pr in span-turn R (R .cast (getD y (m - 1) 0)) (R .cast (getD x (n - 1) 0)) (n - m) (top-not R m (i .hy) (i .sy) pos) (i .each pr) (o .crossed .law pr);
 }
 
+none-left : {y : List ℕ} {m : ℕ} → Size y m → m ≤ 0 → Size y 0
+none-left {y} {m} s z = subst (Size y) (let e : m ≡ 0 = omega arith in e) s
+
 euclid-end : {p : ℕ} {a b x y : List ℕ} {n m : ℕ} → Euclid p a b x y n m → m ≤ 0 → Common p a b x
 euclid-end {p} {a} {b} {x} {y} {m = m} i z = record {
   is-row = i .hx;
   law = λ pr. let R = reading p pr in
-      span-gcd R (polynomial p pr a) (polynomial p pr b) (polynomial p pr x) (row R y) (i .each pr) (zero-row R y (subst (λ j. Size y j) (let e : m ≡ 0 = omega arith in e) (i .sy)));
+      span-gcd R (polynomial p pr a) (polynomial p pr b) (polynomial p pr x) (row R y) (i .each pr) (zero-row R y (none-left (i .sy) z));
 }
 
 pub found-first : {p : ℕ} {a b x y : List ℕ} {n m : ℕ} → Euclid p a b x y n m → m ≤ 0 → Found p a b x y (record { second = false; terms = n })
-found-first i z = record { common = euclid-end i z; size = i .sx }
+found-first i z = record { common = euclid-end i z; size = i .sx; nothing = none-left (i .sy) z }
 
 pub found-second : {p : ℕ} {a b x y : List ℕ} {n m : ℕ} → Euclid p a b x y n m → n ≤ 0 → Found p a b x y (record { second = true; terms = m })
-found-second i z = record { common = euclid-end (euclid-swap i) z; size = i .sy }
+found-second i z = record { common = euclid-end (euclid-swap i) z; size = i .sy; nothing = none-left (i .sx) z }
 
 -- the divisor by the flag
 module _ {p : ℕ} {a b x y : List ℕ} {d : Divisor} (h : Found p a b x y d) where

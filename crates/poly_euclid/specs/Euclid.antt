@@ -2,8 +2,8 @@
 --   GcdAsks   a prepared modulus that is prime, and two rows
 --   Common    a greatest common divisor, a combination of both
 --   Lowered   x of n terms after its turn with y of m terms: s x − c t^(n−m) y, where s and c lead y and x; it has k < n terms
---   kept      the row in which the divisor is, by Euclid's flag
---   Found     what Euclid leaves there: a greatest common divisor of the rows that were lent, and how many terms it has
+--   kept      the row in which the divisor is, by Euclid's flag; spent, the other one
+--   Found     what Euclid leaves: in the one row a greatest common divisor of the rows that were lent, and how many terms it has; 0 in the other
 use mathlib.Core.Bool.{Bool, true, false}
 use mathlib.Core.List.{List}
 use Prim.Native.Nat.{ℕ, _-_, _<_, _≤_}
@@ -45,6 +45,11 @@ abbrev pub kept : Bool → List ℕ → List ℕ → List ℕ
 kept true x y = y
 kept false x y = x
 
+abbrev pub spent : Bool → List ℕ → List ℕ → List ℕ
+spent true x y = x
+spent false x y = y
+
 pub record Found (p : ℕ) (a b x y : List ℕ) (d : Divisor) : Type 0 where
   pub common : Common p a b (kept (d .second) x y)
   pub size : Size (kept (d .second) x y) (d .terms)
+  pub nothing : Size (spent (d .second) x y) 0
