@@ -1,6 +1,8 @@
 /* Zaminuk for C and C++: units of purely cubic function fields.
 
-   Lists. A list or slice is a pointer and a length. Coefficients stand lowest power first. A field is p, G, H.
+   Lists. A list or slice is a pointer and a length. Coefficients stand lowest power first. A field is p, G, H. G and H may have zeros above
+   their coefficients, up to 32 entries: such a list stands for the one without them, and every function answers as for that one. In the bytes
+   of a book they have none.
    Refusals. Every call answers: 0, or the number of a refusal from 1 to 15, the first that applies (enum zaminuk_number). Nothing has to be
    checked beforehand.
    Outputs. What is handed over without const is written. Single numbers (degree, steps, sum, period, regulator, same, start, size) and all
@@ -28,14 +30,15 @@ extern "C" {
 #endif
 
 #define ZAMINUK_VERSION_MAJOR 1
-#define ZAMINUK_VERSION_MINOR 0
+#define ZAMINUK_VERSION_MINOR 1
 #define ZAMINUK_VERSION_PATCH 0
-#define ZAMINUK_VERSION "1.0.0"
+#define ZAMINUK_VERSION "1.1.0"
 
 /* The limits. */
 #define ZAMINUK_P_MIN 5             /* p is a prime from here .. */
 #define ZAMINUK_P_MAX 65535         /* .. to here, with p mod 3 = 2 */
-#define ZAMINUK_LIST_MAX 13         /* the most coefficients of G, and of H */
+#define ZAMINUK_LIST_MAX 13         /* the most coefficients of G, and of H .. */
+#define ZAMINUK_ENTRIES_MAX 32      /* .. and the most entries of the list that gives them, zeros above the coefficients included */
 #define ZAMINUK_DEGREES_MAX 16      /* the most that deg G + deg H may be */
 #define ZAMINUK_ROW 17              /* the coefficients of a row of a basis */
 #define ZAMINUK_RECORD 119          /* a basis: M0, M1, M2, N0, N1, N2, U, 17 coefficients each */
@@ -50,7 +53,8 @@ enum zaminuk_number {
     ZAMINUK_OK = 0,
     ZAMINUK_NO_PRIME = 1,           /* p < 5, p > 65,535 or p not prime */
     ZAMINUK_ONE_MOD_THREE = 2,      /* p mod 3 = 1 */
-    ZAMINUK_NO_LIST = 3,            /* G, then H: empty, over 13 long, a coefficient not below p, the last one 0 */
+    ZAMINUK_NO_LIST = 3,            /* G, then H: empty or of zeros only, over 32 entries, over 13 without the zeros at its end, a coefficient
+                                       not below p; in the bytes of a book also over 13 long, the last one 0 */
     ZAMINUK_CONSTANTS = 4,          /* G and H both constant */
     ZAMINUK_DEGREES = 5,            /* deg G + deg H > 16 */
     ZAMINUK_NOT_THREEFOLD = 6,      /* deg G - deg H not a multiple of 3 */

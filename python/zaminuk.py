@@ -1,6 +1,6 @@
 """Units of purely cubic function fields: the proved library from Python.
 
-A field is p, G, H: a prime and two lists of coefficients, lowest power first. What the library refuses raises Refused, with the number.
+A field is p, G, H: a prime and two lists of coefficients, lowest power first, which may have zeros above them up to 32 entries. What the library refuses raises Refused, with the number.
 
 >>> x = Field(5, [0, 1, 0, 1], [1])             # the cube root of t^3 + t over 5
 >>> x.period_and_regulator()
@@ -35,7 +35,7 @@ __all__ = ["Refused", "Field", "Walk", "Unit", "Book", "Body", "refusal"]
 REFUSALS = {
     1: "p < 5, p > 65,535 or p not prime",
     2: "p mod 3 = 1",
-    3: "G, then H: empty, over 13 long, a coefficient not below p, last one 0",
+    3: "G, then H: empty or of zeros only, over 32 entries, over 13 without the zeros at its end, a coefficient not below p",
     4: "G and H both constant",
     5: "deg G + deg H > 16",
     6: "deg G - deg H not a multiple of 3",
@@ -219,11 +219,16 @@ def refusal(p, G, H):
 
 
 class Field:
-    """An accepted field: the cube root of G H^2 over the integers mod p. Refusals 1 to 8 are raised here."""
+    """An accepted field: the cube root of G H^2 over the integers mod p. Refusals 1 to 8 are raised here. G and H are kept without the zeros
+    at their ends.
+
+    >>> Field(5, [0, 1, 0, 1, 0, 0], [1, 0])
+    Field(5, [0, 1, 0, 1], [1])
+    """
 
     def __init__(self, p, G, H):
-        self.p, self.G, self.H = p, list(G), list(H)
-        _answer(refusal(p, self.G, self.H))
+        _answer(refusal(p, G, H))
+        self.p, self.G, self.H = p, _trim(list(G)), _trim(list(H))
 
     def __repr__(self):
         return "Field(%d, %r, %r)" % (self.p, self.G, self.H)

@@ -3,3 +3,4 @@ pub mod Pieces
 pub mod Puts
 pub mod Trims
 pub mod Coefs
+pub mod Paddings

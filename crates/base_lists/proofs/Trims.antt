@@ -1,5 +1,6 @@
 -- A list without the zeros at its end.
---   sized         every list has a size; size-unique: just one
+--   ZerosFrom l n            from place n on there are zeros; zeros-start, zeros-less, zeros-here: a loop that looks for the size from the end
+--   sized         every list has a size
 --   trim-size     the trimmed list is the front of the list, as long as its size
 --   trim-length, trim-last   so long it is, and its last number is not 0
 use mathlib.Core.Path.{_≡_, refl, sym, ap, ap₂, _∙_}
@@ -11,6 +12,18 @@ use native.Mathlib.Decide.{ℕ-discrete, decLt}
 use lib.ListN.{length, getD, take, List·getD-eq-default}
 use lib.Seq.{take-nil, getD-take, length-take-le}
 use Rattle.base_lists.specs.Coefficients.{Size, ahead, trim}
+
+abbrev pub ZerosFrom : List ℕ → ℕ → Type 0
+ZerosFrom l n = (n ≤ length l) × ((i : ℕ) → n ≤ i → getD l i 0 ≡ 0)
+
+pub zeros-start : (l : List ℕ) → ZerosFrom l (length l)
+zeros-start l = (omega arith, λ i h. List·getD-eq-default l 0 {n = i} h)
+
+pub zeros-less : (l : List ℕ) (n : ℕ) → ZerosFrom l n → getD l (n - 1) 0 ≡ 0 → ZerosFrom l (n - 1)
+zeros-less l n (b, h) e = (omega arith, λ i u. elim (ℕ-discrete i (n - 1)) [ yes q ↦ ap (λ k. getD l k 0) q ∙ e | no q ↦ h i (omega arith) ])
+
+pub zeros-here : {l : List ℕ} {n : ℕ} → ZerosFrom l n → (0 < n → getD l (n - 1) 0 ≢ 0) → Size l n
+zeros-here (b, h) t = record { fits = b; above = h; top = t }
 
 pub sized : (l : List ℕ) → (n : ℕ) × Size l n
 sized l = down (length l) (omega arith) (λ i h. List·getD-eq-default l 0 {n = i} h)

@@ -1,3 +1,4 @@
 pub mod Pieces
 pub mod Coefficients
+pub mod Padding
 pub mod Sums

@@ -1,6 +1,7 @@
-// Lists of numbers: pieces of them, trimming, and the test for a list of coefficients.
+// Lists of numbers: pieces of them, trimming, and the test for a list of coefficients, also one with zeros above it.
 ghost use mathlib.Core.Path.{_≡_};
 ghost use Rattle.base_lists.specs.Coefficients.{ListLength};
+ghost use Rattle.base_lists.specs.Padding.{Unpadded};
 
 // A stored number, to be reckoned with.
 pub fn wide(x: u16) -> u64
@@ -31,6 +32,23 @@ pub fn list_length(most: usize, p: u64, s: &[u64]) -> usize
             return 0;
         }
         i += 1;
+    }
+    n
+}
+
+// How many numbers at the front of s are the list that it stands for: without the zeros at its end; 0 where s has over `room` entries.
+pub fn unpadded(room: usize, s: &[u64]) -> usize
+    ensures { λ n. ⌜ Unpadded room (now (s .entry)) n ⌝ }
+{
+    let mut n = s.len();
+    if n > room {
+        return 0;
+    }
+    while n > 0 {
+        if s[n - 1] != 0 {
+            return n;
+        }
+        n -= 1;
     }
     n
 }

@@ -40,7 +40,7 @@ pub fn field_refusal(s: &[u8]) -> u32
     let h = first_14(s, 1);
     let n = clip(book_bytes::two(s, 2));
     let m = clip(book_bytes::two(s, 4));
-    field_open::refusal(p as u64, &g[..n], &h[..m])
+    field_open::strict_refusal(p as u64, &g[..n], &h[..m])
 }
 
 // Is a body over p of the field p, G, H? The lists of an accepted field are short.

@@ -4,6 +4,7 @@ ghost use lib.ListN.{length};
 ghost use Rattle.book_write.specs.Write.{wroteSays, WriteTells, Numbered};
 ghost use Rattle.book_rows.specs.Rows.{Six, bodyOfRows, RowsSays};
 ghost use Rattle.book_rows.specs.Code.{Widened};
+ghost use Rattle.field_open.specs.Padding.{unpad};
 
 // A row without the zeros at its end, into the front of a lent slice; its length.
 fn widen(row: &[u16], out: &mut [u64]) -> usize
@@ -32,7 +33,7 @@ fn put_rows(
 ) -> book_write::Wrote
     requires { ⌜ Six c (now rows) ⌝ }
     ensures { λ r.
-        ⌜ WriteTells (bodyOfRows p (now (g .entry)) (now (h .entry)) (period .0) c (now (rows .entry)))
+        ⌜ WriteTells (bodyOfRows p (unpad (now (g .entry))) (unpad (now (h .entry))) (period .0) c (now (rows .entry)))
         (now (out .entry)) (wroteSays r) (now (out .exit)) × Numbered r ⌝ }
 {
     let d = c + c;
@@ -56,7 +57,7 @@ pub fn write_rows(
     out: &mut [u8],
 ) -> [u64; 5]
     ensures { λ o.
-        ⌜ RowsSays p (now (g .entry)) (now (h .entry)) (period .0) (now (rows .entry)) (now (out .entry)) (now (out .exit)) o ⌝ }
+        ⌜ RowsSays p (unpad (now (g .entry))) (unpad (now (h .entry))) (period .0) (now (rows .entry)) (now (out .entry)) (now (out .exit)) o ⌝ }
 {
     let n = rows.len();
     let odd = base_answers::no_six_rows(n);

@@ -4,6 +4,7 @@ use book_pieces::put_lists;
 ghost use mathlib.Core.List.{[]};
 ghost use Rattle.base_answers.specs.Decides.{Decides};
 ghost use Rattle.book_body.specs.Body.{Rule};
+ghost use Rattle.field_open.specs.Padding.{unpad};
 ghost use Rattle.book_write.specs.Write.{bodyFrom, wroteSays, WriteTells, Numbered};
 
 // The answer to writing a body: its length; a refusal 1 to 8 of the field; 13 (body rule, entry 0); 11.
@@ -45,8 +46,8 @@ fn rule_of(p: u64, t: u64, a: &[u64], b: &[u64], c: &[u64]) -> bool
     true
 }
 
-// Writes a body: p, G, H, the period and the rows E0, E1, E2.
-pub fn write_body(
+// Writes a body of these very lists: zeros at the end of G or H are a fault.
+fn write_strict(
     p: u64,
     g: &[u64],
     h: &[u64],
@@ -60,7 +61,7 @@ pub fn write_body(
         ⌜ WriteTells (bodyFrom p (now (g .entry)) (now (h .entry)) (period .0) (now (a .entry)) (now (b .entry)) (now (c .entry)))
         (now (out .entry)) (wroteSays r) (now (out .exit)) × Numbered r ⌝ }
 {
-    let x = field_open::refusal(p, g, h);
+    let x = field_open::strict_refusal(p, g, h);
     if x != 0 {
         return Wrote::FieldRefused(x);
     }
@@ -90,4 +91,24 @@ pub fn write_body(
     );
     let end = put_lists(out, at, g, h, a, b, c);
     Wrote::Length(end)
+}
+
+// Writes a body: p, G, H, the period and the rows E0, E1, E2. The zeros at the end of G and H are not written.
+pub fn write_body(
+    p: u64,
+    g: &[u64],
+    h: &[u64],
+    period: base_answers::Period,
+    a: &[u64],
+    b: &[u64],
+    c: &[u64],
+    out: &mut [u8],
+) -> Wrote
+    ensures { λ r.
+        ⌜ WriteTells (bodyFrom p (unpad (now (g .entry))) (unpad (now (h .entry))) (period .0) (now (a .entry)) (now (b .entry)) (now (c .entry)))
+        (now (out .entry)) (wroteSays r) (now (out .exit)) × Numbered r ⌝ }
+{
+    let n = field_open::unpadded(g);
+    let m = field_open::unpadded(h);
+    write_strict(p, &g[..n], &h[..m], period, a, b, c, out)
 }

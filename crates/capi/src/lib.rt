@@ -1,6 +1,7 @@
 // The library for C and Rust: each entry point under a name of its own, on numbers and slices (a slice passes as pointer, then length).
 // The contracts are those of the functions behind them.
 ghost use Rattle.field_open.specs.Refusal.{Refusal};
+ghost use Rattle.field_open.specs.Padding.{unpad};
 ghost use Rattle.field_series.specs.Answer.{Answer};
 ghost use Rattle.door_check.specs.Answer.{Checks};
 ghost use mathlib.Core.Path.{_≡_};
@@ -17,7 +18,7 @@ ghost use Rattle.capi.specs.Books.{CheckSays, WriteSays, AddSays, Attest
 // The number of the first refusal of p, G, H; 0 where the field is accepted.
 #[no_mangle]
 pub extern "C" fn zaminuk_refusal(p: u64, g: &[u64], h: &[u64]) -> u32
-    ensures { λ n. ⌜ Refusal p (now (g .entry)) (now (h .entry)) n ⌝ }
+    ensures { λ n. ⌜ Refusal p (unpad (now (g .entry))) (unpad (now (h .entry))) n ⌝ }
 {
     field_open::refusal(p, g, h)
 }
@@ -25,7 +26,7 @@ pub extern "C" fn zaminuk_refusal(p: u64, g: &[u64], h: &[u64]) -> u32
 // The first coefficients of r and of w, highest power first, into two slices of equal length, at most 4,096.
 #[no_mangle]
 pub extern "C" fn zaminuk_series(p: u64, g: &[u64], h: &[u64], r: &mut [u16], w: &mut [u16]) -> u32
-    ensures { λ n. ⌜ Answer p (now (g .entry)) (now (h .entry)) (now (r .entry)) (now (w .entry)) (now (r .exit)) (now (w .exit)) n ⌝ }
+    ensures { λ n. ⌜ Answer p (unpad (now (g .entry))) (unpad (now (h .entry))) (now (r .entry)) (now (w .entry)) (now (r .exit)) (now (w .exit)) n ⌝ }
 {
     field_series::series(p, g, h, r, w)
 }
@@ -33,7 +34,7 @@ pub extern "C" fn zaminuk_series(p: u64, g: &[u64], h: &[u64], r: &mut [u16], w:
 // The basis of the order, into a lent record.
 #[no_mangle]
 pub extern "C" fn zaminuk_order(p: u64, g: &[u64], h: &[u64], rows: &mut [u16; 119]) -> u32
-    ensures { λ n. ⌜ OrderTells p (now (g .entry)) (now (h .entry)) (now (rows .entry)) n (now (rows .exit)) ⌝ }
+    ensures { λ n. ⌜ OrderTells p (unpad (now (g .entry))) (unpad (now (h .entry))) (now (rows .entry)) n (now (rows .exit)) ⌝ }
 {
     let o = door_order::order(p, g, h);
     let n = o.refusal;
@@ -47,7 +48,7 @@ pub extern "C" fn zaminuk_order(p: u64, g: &[u64], h: &[u64], rows: &mut [u16; 1
 // Whether the rows are the scaled reduced basis of a reduced ideal: 0, or the refusal.
 #[no_mangle]
 pub extern "C" fn zaminuk_check(p: u64, g: &[u64], h: &[u64], rows: &[u16; 119]) -> u32
-    ensures { λ n. ⌜ Checks p (now (g .entry)) (now (h .entry)) (now (rows .entry)) n ⌝ }
+    ensures { λ n. ⌜ Checks p (unpad (now (g .entry))) (unpad (now (h .entry))) (now (rows .entry)) n ⌝ }
 {
     let b = *rows;
     door_check::check(p, g, h, b)
@@ -62,7 +63,7 @@ pub extern "C" fn zaminuk_step(
     rows: &mut [u16; 119],
     degree: &mut u64,
 ) -> u32
-    ensures { λ n. ⌜ StepTells p (now (g .entry)) (now (h .entry)) (now (rows .entry)) n (now (degree .exit)) (now (rows .exit)) ⌝ }
+    ensures { λ n. ⌜ StepTells p (unpad (now (g .entry))) (unpad (now (h .entry))) (now (rows .entry)) n (now (degree .exit)) (now (rows .exit)) ⌝ }
 {
     let from = *rows;
     let s = door_step::step(p, g, h, from);
@@ -87,7 +88,7 @@ pub extern "C" fn zaminuk_walk(
     steps: &mut u64,
     sum: &mut u64,
 ) -> u32
-    ensures { λ n. ⌜ WalkTells p (now (g .entry)) (now (h .entry)) budget (now (rows .entry)) n (now (steps .exit)) (now (sum .exit)) (now (rows .exit)) ⌝ }
+    ensures { λ n. ⌜ WalkTells p (unpad (now (g .entry))) (unpad (now (h .entry))) budget (now (rows .entry)) n (now (steps .exit)) (now (sum .exit)) (now (rows .exit)) ⌝ }
 {
     let from = *rows;
     let o = door_walk::walk(p, g, h, from, budget);
@@ -108,7 +109,7 @@ pub extern "C" fn zaminuk_from_order(
     period: &mut u64,
     regulator: &mut u64,
 ) -> u32
-    ensures { λ n. ⌜ FromOrderTells p (now (g .entry)) (now (h .entry)) budget n (now (period .exit)) (now (regulator .exit)) ⌝ }
+    ensures { λ n. ⌜ FromOrderTells p (unpad (now (g .entry))) (unpad (now (h .entry))) budget n (now (period .exit)) (now (regulator .exit)) ⌝ }
 {
     let o = door_period::from_order(p, g, h, budget);
     let t = o.period;
@@ -130,7 +131,7 @@ pub extern "C" fn zaminuk_unit(
     period: &mut u64,
     regulator: &mut u64,
 ) -> u32
-    ensures { λ n. ⌜ UnitTells p (now (g .entry)) (now (h .entry)) budget (now (rows .entry)) (now (scratch .entry)) n (now (period .exit)) (now (regulator .exit)) (now (rows .exit)) (now (scratch .exit)) ⌝ }
+    ensures { λ n. ⌜ UnitTells p (unpad (now (g .entry))) (unpad (now (h .entry))) budget (now (rows .entry)) (now (scratch .entry)) n (now (period .exit)) (now (regulator .exit)) (now (rows .exit)) (now (scratch .exit)) ⌝ }
 {
     let o = door_unit::unit(p, g, h, budget, rows, scratch);
     let t = o.period;
@@ -150,7 +151,7 @@ pub extern "C" fn zaminuk_one_field(
     h2: &[u64],
     same: &mut u64,
 ) -> u32
-    ensures { λ n. ⌜ OneFieldTells p (now (g .entry)) (now (h .entry)) (now (g2 .entry)) (now (h2 .entry)) n (now (same .exit)) ⌝ }
+    ensures { λ n. ⌜ OneFieldTells p (unpad (now (g .entry))) (unpad (now (h .entry))) (unpad (now (g2 .entry))) (unpad (now (h2 .entry))) n (now (same .exit)) ⌝ }
 {
     let a = door_compare::compare(p, g, h, g2, h2);
     let b = a.same;
@@ -168,7 +169,7 @@ pub extern "C" fn zaminuk_transfer(
     h2: &[u64],
     rows: &mut [u16],
 ) -> u32
-    ensures { λ n. ⌜ Transfers p (now (g .entry)) (now (h .entry)) (now (g2 .entry)) (now (h2 .entry)) (now (rows .entry)) n (now (rows .exit)) ⌝ }
+    ensures { λ n. ⌜ Transfers p (unpad (now (g .entry))) (unpad (now (h .entry))) (unpad (now (g2 .entry))) (unpad (now (h2 .entry))) (now (rows .entry)) n (now (rows .exit)) ⌝ }
 {
     door_transfer::transfer(p, g, h, g2, h2, rows)
 }
@@ -264,7 +265,7 @@ pub extern "C" fn zaminuk_book_write(
     out: &mut [u8],
     said: &mut [u64; 5],
 )
-    ensures { λ _. ⌜ WriteSays (bodyFrom p (now (g .entry)) (now (h .entry)) period (now (a .entry)) (now (b .entry)) (now (c .entry))) (now (out .entry)) (now (out .exit)) (now (said .exit)) ⌝ }
+    ensures { λ _. ⌜ WriteSays (bodyFrom p (unpad (now (g .entry))) (unpad (now (h .entry))) period (now (a .entry)) (now (b .entry)) (now (c .entry))) (now (out .entry)) (now (out .exit)) (now (said .exit)) ⌝ }
 {
     let w = book_write::write_body(p, g, h, base_answers::Period(period), a, b, c, out);
     let o = book_numbers::wrote_row(w);
@@ -282,7 +283,7 @@ pub extern "C" fn zaminuk_book_write_rows(
     out: &mut [u8],
     said: &mut [u64; 5],
 )
-    ensures { λ _. ⌜ RowsSays p (now (g .entry)) (now (h .entry)) period (now (rows .entry)) (now (out .entry)) (now (out .exit)) (now (said .exit)) ⌝ }
+    ensures { λ _. ⌜ RowsSays p (unpad (now (g .entry))) (unpad (now (h .entry))) period (now (rows .entry)) (now (out .entry)) (now (out .exit)) (now (said .exit)) ⌝ }
 {
     let o = book_rows::write_rows(p, g, h, base_answers::Period(period), rows, out);
     *said = o;

@@ -5,3 +5,4 @@ pub mod Demand1
 pub mod Bytes
 pub mod UnitBody
 pub mod BookCalls
+pub mod Padded

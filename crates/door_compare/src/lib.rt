@@ -1,4 +1,5 @@
 // Any two pairs of lists over one p: their refusals, and whether they are of one field.
+ghost use Rattle.field_open.specs.Padding.{unpad};
 ghost use Rattle.door_compare.specs.Answer.{Refusals, Compares};
 
 // The refusal's number (0: none), and whether the pairs are of one field.
@@ -9,7 +10,7 @@ pub struct CompareAnswer {
 
 // The first pair's refusal, then the second's; 0 where both are accepted.
 pub fn refusal(p: u64, g: &[u64], h: &[u64], g2: &[u64], h2: &[u64]) -> u32
-    ensures { λ n. ⌜ Refusals p (now (g .entry)) (now (h .entry)) (now (g2 .entry)) (now (h2 .entry)) n ⌝ }
+    ensures { λ n. ⌜ Refusals p (unpad (now (g .entry))) (unpad (now (h .entry))) (unpad (now (g2 .entry))) (unpad (now (h2 .entry))) n ⌝ }
 {
     let n = field_open::refusal(p, g, h);
     if n != 0 {
@@ -20,7 +21,7 @@ pub fn refusal(p: u64, g: &[u64], h: &[u64], g2: &[u64], h2: &[u64]) -> u32
 
 // Compares any two pairs: a refusal, or whether they are of one field.
 pub fn compare(p: u64, g: &[u64], h: &[u64], g2: &[u64], h2: &[u64]) -> CompareAnswer
-    ensures { λ a. ⌜ Compares p (now (g .entry)) (now (h .entry)) (now (g2 .entry)) (now (h2 .entry)) a ⌝ }
+    ensures { λ a. ⌜ Compares p (unpad (now (g .entry))) (unpad (now (h .entry))) (unpad (now (g2 .entry))) (unpad (now (h2 .entry))) a ⌝ }
 {
     let n = refusal(p, g, h, g2, h2);
     if n != 0 {
@@ -29,7 +30,11 @@ pub fn compare(p: u64, g: &[u64], h: &[u64], g2: &[u64], h2: &[u64]) -> CompareA
             same: false,
         };
     }
-    let b = pair_agree::one_field(p, g, h, g2, h2);
+    let i = field_open::unpadded(g);
+    let j = field_open::unpadded(h);
+    let k = field_open::unpadded(g2);
+    let l = field_open::unpadded(h2);
+    let b = pair_agree::one_field(p, &g[..i], &h[..j], &g2[..k], &h2[..l]);
     CompareAnswer {
         refusal: 0,
         same: b,

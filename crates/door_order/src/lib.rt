@@ -1,4 +1,5 @@
 // The basis of the order, with all refusals. specs/Answer.antt has the contract.
+ghost use Rattle.field_open.specs.Padding.{unpad};
 ghost use Rattle.door_order.specs.Answer.{Orders};
 
 // The number of the refusal beside the basis; with a refusal the rows are zeros.
@@ -9,7 +10,7 @@ pub struct OrderAnswer {
 
 // The basis of the order of the field p, G, H.
 pub fn order(p: u64, g: &[u64], h: &[u64]) -> OrderAnswer
-    ensures { λ o. ⌜ Orders p (now (g .entry)) (now (h .entry)) o ⌝ }
+    ensures { λ o. ⌜ Orders p (unpad (now (g .entry))) (unpad (now (h .entry))) o ⌝ }
 {
     let e = field_series::open_with_series(p, g, h);
     let n = e.refusal;

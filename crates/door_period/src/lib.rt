@@ -4,6 +4,7 @@ use base_answers::Regulator;
 use base_answers::over_budget;
 use walk_chain::walk_in_field;
 ghost use mathlib.Core.Path.{_≡_};
+ghost use Rattle.field_open.specs.Padding.{unpad};
 ghost use Rattle.door_period.specs.Order.{FromOrder, refusal};
 
 // The number of the refusal; 0 and the period and regulator of the field where the walk from the order closes.
@@ -26,7 +27,7 @@ fn refused(n: u32) -> PeriodAnswer
 
 // Period and regulator of the field p, G, H, by a walk of at most `budget` steps from the order.
 pub fn from_order(p: u64, g: &[u64], h: &[u64], budget: u64) -> PeriodAnswer
-    ensures { λ o. ⌜ FromOrder p (now (g .entry)) (now (h .entry)) budget o ⌝ }
+    ensures { λ o. ⌜ FromOrder p (unpad (now (g .entry))) (unpad (now (h .entry))) budget o ⌝ }
 {
     let e = field_series::open_with_series(p, g, h);
     let n = e.refusal;

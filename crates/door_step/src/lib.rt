@@ -2,6 +2,7 @@
 use basis_accept::accepts;
 use step_next::step_in_field;
 ghost use mathlib.Core.Path.{_≡_};
+ghost use Rattle.field_open.specs.Padding.{unpad};
 ghost use Rattle.door_step.specs.Answer.{refused, Answers};
 
 // The number of the refusal, the degree of the m divided by and the next record; with a refusal the others are 0.
@@ -25,7 +26,7 @@ fn no_step(n: u32) -> StepAnswer
 
 // The step from a record: the refusals 1 to 8, then 9, else the next record and the degree of the m divided by.
 pub fn step(p: u64, g: &[u64], h: &[u64], rows: [u16; 119]) -> StepAnswer
-    ensures { λ s. ⌜ Answers p (now (g .entry)) (now (h .entry)) rows s ⌝ }
+    ensures { λ s. ⌜ Answers p (unpad (now (g .entry))) (unpad (now (h .entry))) rows s ⌝ }
 {
     let e = field_series::open_with_series(p, g, h);
     let n = e.refusal;

@@ -1,4 +1,4 @@
--- The answers of `transfer`, case by case.
+-- The answers of `carry_between`, case by case.
 --   carry-asks        two accepted pairs and six rows: what the inner functions ask
 --   too-long, apart   14: the slice has another length; the pairs are not of one field
 --   straight-done, swapped-done   0: carried over, in the one order and in the other
@@ -11,25 +11,20 @@ use lib.ListN.{length}
 use Rattle.base_answers.specs.Limits.{longest, SixRows, NoSixRows}
 use Rattle.base_answers.proofs.Limits.{no-six, six-of}
 use Rattle.pair_agree.specs.Answer.{Both, Pairs}
-use Rattle.door_compare.specs.Answer.{Refusals}
 use Rattle.pair_laws.specs.Rows.{straight, crossed}
 use Rattle.pair_agree.specs.declared.Pairing.{Pairing}
 use Rattle.pair_agree.specs.declared.Pairing.the-variants.{Straight, Swapped, Apart}
 use Rattle.pair_agree.proofs.Outcomes.{apart-none}
-use Rattle.door_compare.proofs.Doors.{doors-goes, both-of}
-use Rattle.door_transfer.specs.Transfer.{Lent, Transfers, unfit, carried}
+use Rattle.door_transfer.specs.Transfer.{Lent, Goes, unfit, carried}
 use Rattle.pair_carry.specs.Code.{CarryAsks, Carried, CarriedSwapped}
 
-module _ {p : ℕ} {G H G′ H′ : List ℕ} (rows : List ℕ) {n : ℕ} (e : n ≡ 0) (r : Refusals p G H G′ H′ n) where
-  both : Both p G H G′ H′
-  both = both-of e r
-
+module _ {p : ℕ} {G H G′ H′ : List ℕ} (rows : List ℕ) (both : Both p G H G′ H′) where
   -- six equal rows have one length
   lent-rule : (c : ℕ) → Lent c rows → SixRows (length rows)
   lent-rule c t = let w : length rows ≡ 6 * c = t .whole in let l : c ≤ longest = t .room in (omega arith, omega arith)
 
-  pub too-long : {b : Bool} → NoSixRows (length rows) b → b ≡ true → Transfers p G H G′ H′ rows 14 rows
-  too-long u f = doors-goes both (unfit (λ c t o. no-six u f (lent-rule c t)) (record { number = refl; kept = refl }))
+  pub too-long : {b : Bool} → NoSixRows (length rows) b → b ≡ true → Goes p G H G′ H′ rows 14 rows
+  too-long u f = unfit (λ c t o. no-six u f (lent-rule c t)) (record { number = refl; kept = refl })
 
   module _ {b : Bool} (u : NoSixRows (length rows) b) (f : b ≡ false) where
     rule : SixRows (length rows)
@@ -47,15 +42,15 @@ module _ {p : ℕ} {G H G′ H′ : List ℕ} (rows : List ℕ) {n : ℕ} (e : n
     }
 
     module _ {k : Pairing} (w : Pairs p G H G′ H′ k) where
-      pub apart : k ≡ Apart → Transfers p G H G′ H′ rows 14 rows
-      apart g = doors-goes both (unfit (λ c t. apart-none w g) (record { number = refl; kept = refl }))
+      pub apart : k ≡ Apart → Goes p G H G′ H′ rows 14 rows
+      apart g = unfit (λ c t. apart-none w g) (record { number = refl; kept = refl })
 
-      pub straight-done : k ≡ Straight → (rows′ : List ℕ) → Carried p G H G′ H′ (length rows / 6) rows rows′ → Transfers p G H G′ H′ rows 0 rows′
+      pub straight-done : k ≡ Straight → (rows′ : List ℕ) → Carried p G H G′ H′ (length rows / 6) rows rows′ → Goes p G H G′ H′ rows 0 rows′
       straight-done g rows′ d =
           let (a, b) = subst (Pairs p G H G′ H′) g w in
-          doors-goes both (carried (length rows / 6) lent refl (d .size) (straight a b (d .x) (d .y) (d .law) (d .E) (d .F)))
+          carried (length rows / 6) lent refl (d .size) (straight a b (d .x) (d .y) (d .law) (d .E) (d .F))
 
-      pub swapped-done : k ≡ Swapped → (rows′ : List ℕ) → CarriedSwapped p G H G′ H′ (length rows / 6) rows rows′ → Transfers p G H G′ H′ rows 0 rows′
+      pub swapped-done : k ≡ Swapped → (rows′ : List ℕ) → CarriedSwapped p G H G′ H′ (length rows / 6) rows rows′ → Goes p G H G′ H′ rows 0 rows′
       swapped-done g rows′ d =
           let (a, b) = subst (Pairs p G H G′ H′) g w in
-          doors-goes both (carried (length rows / 6) lent refl (d .size) (crossed a b (d .x) (d .y) (d .law) (d .E) (d .F)))
+          carried (length rows / 6) lent refl (d .size) (crossed a b (d .x) (d .y) (d .law) (d .E) (d .F))

@@ -3,6 +3,7 @@ use base_answers::Period;
 use base_answers::Regulator;
 use base_answers::no_six_rows;
 use base_answers::over_budget;
+ghost use Rattle.field_open.specs.Padding.{unpad};
 ghost use Rattle.door_unit.specs.Unit.{refusal, Makes};
 ghost use Rattle.door_unit.specs.Fit.{Unfit};
 ghost use mathlib.Core.Path.{_≡_};
@@ -49,7 +50,7 @@ pub fn unit(
     rows: &mut [u16],
     scratch: &mut [u16],
 ) -> UnitAnswer
-    ensures { λ m. ⌜ Makes p (now (g .entry)) (now (h .entry)) budget (now (rows .entry)) (now (scratch .entry)) m (now (rows .exit)) (now (scratch .exit)) ⌝ }
+    ensures { λ m. ⌜ Makes p (unpad (now (g .entry))) (unpad (now (h .entry))) budget (now (rows .entry)) (now (scratch .entry)) m (now (rows .exit)) (now (scratch .exit)) ⌝ }
 {
     let e = field_series::open_with_series(p, g, h);
     let n = e.refusal;

@@ -4,6 +4,7 @@ use basis_accept::accepts;
 use walk_chain::WalkAnswer;
 use walk_chain::walk_in_field;
 ghost use mathlib.Core.Path.{_≡_};
+ghost use Rattle.field_open.specs.Padding.{unpad};
 ghost use Rattle.walk_chain.specs.Walk as W;
 
 // A refusal of the walk from a record: the other results are 0.
@@ -21,7 +22,7 @@ fn no_walk(n: u32) -> WalkAnswer
 
 // The walk from a record: at most `budget` steps, until U = 1 after at least one.
 pub fn walk(p: u64, g: &[u64], h: &[u64], rows: [u16; 119], budget: u64) -> WalkAnswer
-    ensures { λ o. ⌜ W.Walks p (now (g .entry)) (now (h .entry)) budget rows o ⌝ }
+    ensures { λ o. ⌜ W.Walks p (unpad (now (g .entry))) (unpad (now (h .entry))) budget rows o ⌝ }
 {
     let e = field_series::open_with_series(p, g, h);
     let n = e.refusal;

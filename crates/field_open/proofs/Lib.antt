@@ -5,3 +5,4 @@ pub mod Parts
 pub mod Rows
 pub mod Factors
 pub mod Opening
+pub mod Paddings

@@ -1,4 +1,5 @@
 pub mod Refusal
+pub mod Padding
 pub mod Door
 pub mod Parts
 pub mod Opening

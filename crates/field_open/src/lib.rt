@@ -1,12 +1,15 @@
 // Opening a field: the refusals 1 to 8, in the table's order, and what the layers above need of a field that is accepted.
-// specs/Refusal.antt has the table, specs/Opening.antt the contract of `open`.
+// specs/Refusal.antt has the table, specs/Padding.antt the lists as callers give them, specs/Opening.antt the contract of `open`.
 ghost use mathlib.Core.Path.{_≡_};
 ghost use Rattle.base_answers.specs.Stage.{End};
 ghost use Rattle.field_open.specs.Refusal.{Rows12, Rows36, Rows78, Refusal, Accepted};
+ghost use Rattle.field_open.specs.Padding.{unpad, Unpadded};
 ghost use Rattle.field_open.specs.Parts.{ListLength, Shaped};
 ghost use Rattle.field_open.specs.Opening.{Held, nothing, Opens};
 
 const LONGEST: usize = 13;
+
+const ENTRIES: usize = 32;
 
 const HIGHEST: usize = 16;
 
@@ -26,7 +29,14 @@ pub struct FieldAnswer {
     pub field: Field,
 }
 
-// How many coefficients s has, or 0: it is no list of coefficients.
+// How many numbers at the front of s are the list that it stands for, without the zeros at its end; 0 where it has over 32 entries.
+pub fn unpadded(s: &[u64]) -> usize
+    ensures { λ n. ⌜ Unpadded (now (s .entry)) n ⌝ }
+{
+    base_lists::unpadded(ENTRIES, s)
+}
+
+// How many coefficients s has, or 0: it is no list of coefficients. Zeros at its end are not passed over.
 pub fn list_length(p: u64, s: &[u64]) -> usize
     ensures { λ n. ⌜ ListLength p (now (s .entry)) n ⌝ }
 {
@@ -88,8 +98,8 @@ fn check_factors(p: u64, g: &[u64], h: &[u64]) -> u32
     field_factors::first_factor(free, apart)
 }
 
-// The number of the first refusal of p, G, H, or 0.
-pub fn refusal(p: u64, g: &[u64], h: &[u64]) -> u32
+// The number of the first refusal of p, G, H, or 0, where zeros at the end of a list are a fault, as in a book.
+pub fn strict_refusal(p: u64, g: &[u64], h: &[u64]) -> u32
     ensures { λ n. ⌜ Refusal p (now (g .entry)) (now (h .entry)) n ⌝ }
 {
     let a = check_p(p);
@@ -101,6 +111,15 @@ pub fn refusal(p: u64, g: &[u64], h: &[u64]) -> u32
         return b;
     }
     check_factors(p, g, h)
+}
+
+// The number of the first refusal of p, G, H as a caller gives them, or 0: zeros above the coefficients are passed over.
+pub fn refusal(p: u64, g: &[u64], h: &[u64]) -> u32
+    ensures { λ n. ⌜ Refusal p (unpad (now (g .entry))) (unpad (now (h .entry))) n ⌝ }
+{
+    let a = unpadded(g);
+    let b = unpadded(h);
+    strict_refusal(p, &g[..a], &h[..b])
 }
 
 // The field of p, G, H that are accepted.
@@ -141,7 +160,7 @@ fn no_field() -> Field
 }
 
 pub fn open(p: u64, g: &[u64], h: &[u64]) -> FieldAnswer
-    ensures { λ o. ⌜ Opens p (now (g .entry)) (now (h .entry)) o ⌝ }
+    ensures { λ o. ⌜ Opens p (unpad (now (g .entry))) (unpad (now (h .entry))) o ⌝ }
 {
     let n = refusal(p, g, h);
     if n != 0 {
@@ -151,7 +170,9 @@ pub fn open(p: u64, g: &[u64], h: &[u64]) -> FieldAnswer
             field: z,
         };
     }
-    let f = field_of(p, g, h);
+    let a = unpadded(g);
+    let b = unpadded(h);
+    let f = field_of(p, &g[..a], &h[..b]);
     FieldAnswer {
         refusal: 0,
         field: f,

@@ -3,6 +3,7 @@
 use base_answers::over_longest;
 ghost use mathlib.Core.Path.{_≡_};
 ghost use Rattle.field_open.specs.Opening as F;
+ghost use Rattle.field_open.specs.Padding.{unpad};
 ghost use Rattle.field_series.specs.Keeps.{Holding};
 ghost use Rattle.field_series.specs.Answer.{Answer, Opening, Expands, nothing};
 
@@ -21,7 +22,7 @@ pub struct OpenedAnswer {
 
 // The first coefficients of r and of w into two lent slices of equal length.
 pub fn series(p: u64, g: &[u64], h: &[u64], r: &mut [u16], w: &mut [u16]) -> u32
-    ensures { λ n. ⌜ Answer p (now (g .entry)) (now (h .entry)) (now (r .entry)) (now (w .entry)) (now (r .exit)) (now (w .exit)) n ⌝ }
+    ensures { λ n. ⌜ Answer p (unpad (now (g .entry))) (unpad (now (h .entry))) (now (r .entry)) (now (w .entry)) (now (r .exit)) (now (w .exit)) n ⌝ }
 {
     let n = field_open::refusal(p, g, h);
     if n != 0 {
@@ -34,7 +35,9 @@ pub fn series(p: u64, g: &[u64], h: &[u64], r: &mut [u16], w: &mut [u16]) -> u32
     if long {
         return 14;
     }
-    field_fill::grow(p, g, h, r, w);
+    let a = field_open::unpadded(g);
+    let b = field_open::unpadded(h);
+    field_fill::grow(p, &g[..a], &h[..b], r, w);
     0
 }
 
@@ -82,7 +85,7 @@ fn no_cubic(f: field_open::Field) -> OpenedField
 
 // Opening with the first 32 coefficients of both series.
 pub fn open_with_series(p: u64, g: &[u64], h: &[u64]) -> OpenedAnswer
-    ensures { λ o. ⌜ Expands p (now (g .entry)) (now (h .entry)) o ⌝ }
+    ensures { λ o. ⌜ Expands p (unpad (now (g .entry))) (unpad (now (h .entry))) o ⌝ }
 {
     let o = field_open::open(p, g, h);
     let n = o.refusal;
@@ -94,7 +97,9 @@ pub fn open_with_series(p: u64, g: &[u64], h: &[u64]) -> OpenedAnswer
             cubic: z,
         };
     }
-    let c = with_series(p, g, h, f);
+    let a = field_open::unpadded(g);
+    let b = field_open::unpadded(h);
+    let c = with_series(p, &g[..a], &h[..b], f);
     OpenedAnswer {
         refusal: 0,
         cubic: c,

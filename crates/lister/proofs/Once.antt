@@ -1,5 +1,5 @@
 -- One outcome for each input.
---   lists-unique    two answers to a line are equal
+--   lists-unique    two answers to a line are equal; read-unique: so are two to one field
 --   answer-unique   of `answer`: the place after the answer, and what the slice holds
 --   steps-unique, passes-unique   of a step, and of `pass`
 --   output-unique   two outputs to an input are equal
@@ -19,6 +19,7 @@ use Rattle.text_cut.specs.declared.Step.{Step}
 use Rattle.text_cut.specs.declared.Step.the-variants.{Whole, Broken, Pending}
 use Rattle.text_cut.proofs.Steps.{cut-unique}
 use Rattle.text_read.proofs.Writings.{reads-unique}
+use Rattle.field_open.specs.Padding.{unpad}
 use Rattle.door_unit.specs.declared.UnitAnswer.{UnitAnswer}
 use Rattle.door_unit.specs.Unit.{Makes}
 use Rattle.door_unit.proofs.Once.{makes-unique, Same}
@@ -36,7 +37,7 @@ made-same s {m} {m′} {rows} {rows′} e =
     ∙ ap (λ R. told (m′ .refusal) (unit-text s (m′ .period .0) R (trim (cut 0 1024 rows)) (trim (cut 1024 1024 rows)) (trim (cut 2048 1024 rows)))) (e .regulator)
     ∙ ap (λ z. told (m′ .refusal) (unit-text s (m′ .period .0) (m′ .regulator .0) (trim (cut 0 1024 z)) (trim (cut 1024 1024 z)) (trim (cut 2048 1024 z)))) (e .rows-same)
 
-read-unique : (p : ℕ) (G H : List ℕ) (p′ : ℕ) (G′ H′ : List ℕ) (m m′ : UnitAnswer) (r s r′ s′ : List ℕ) → p ≡ p′ → G ≡ G′ → H ≡ H′
+pub read-unique : (p : ℕ) (G H : List ℕ) (p′ : ℕ) (G′ H′ : List ℕ) (m m′ : UnitAnswer) (r s r′ s′ : List ℕ) → p ≡ p′ → G ≡ G′ → H ≡ H′
     → Makes p G H budget blank blank m r s → Makes p′ G′ H′ budget blank blank m′ r′ s′ → made-text (line-text p G H) m r ≡ made-text (line-text p′ G′ H′) m′ r′
 read-unique p G H p′ G′ H′ m m′ r s r′ s′ a b c x y =
     let y₁ = subst (λ z. Makes z G′ H′ budget blank blank m′ r′ s′) (sym a) y in
@@ -50,7 +51,8 @@ lists-unique (malformed h) (malformed k) = refl
 lists-unique (malformed h) (read p G H m rows scratch r x) = absurd (h p G H r)
 lists-unique (read p G H m rows scratch r x) (malformed k) = absurd (k p G H r)
 lists-unique (read p G H m rows scratch r x) (read p′ G′ H′ m′ rows′ scratch′ r′ x′) =
-    let (a, b, c) = reads-unique r r′ in read-unique p G H p′ G′ H′ m m′ rows scratch rows′ scratch′ a b c x x′
+    let (a, b, c) = reads-unique r r′ in
+    read-unique p (unpad G) (unpad H) p′ (unpad G′) (unpad H′) m m′ rows scratch rows′ scratch′ a (ap unpad b) (ap unpad c) x x′
 
 pub answer-unique : (line d : List ℕ) (at r r′ : ℕ) (d' d₂ : List ℕ) → Answer line d at r d' → Answer line d at r′ d₂ → (r ≡ r′) × (d' ≡ d₂)
 answer-unique line d at r r′ d' d₂ x y = placed-unique (x .put) (subst (λ t. Put d at t r′ d₂) (lists-unique (y .lists) (x .lists)) (y .put))

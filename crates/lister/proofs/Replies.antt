@@ -9,16 +9,13 @@ use native.Mathlib.Omega.{arith}
 use lib.ListN.{length, take, drop, length-append}
 use lib.Seq.{take-at}
 use Rattle.base_lists.specs.Pieces.{Put}
-use Rattle.text_put.specs.Print.{line-text, refused-text}
+use Rattle.text_put.specs.Print.{refused-text}
 use Rattle.text_read.specs.Tells.{ReadAs, ParseTells}
 use Rattle.text_read.specs.declared.Line.{Line}
 use Rattle.text_read.specs.declared.Parsed.{Parsed}
 use Rattle.text_read.specs.declared.Parsed.the-variants.{Read, Malformed}
 use Rattle.text_read.proofs.Answers.{malformed-means}
-use Rattle.text_read.proofs.Writings.{line-is-text}
-use Rattle.door_unit.specs.Unit.{Makes}
-use Rattle.lister_print.specs.Text.{made-text}
-use Rattle.lister.specs.Listing.{budget, blank, malformed, read, Told, Answer}
+use Rattle.lister.specs.Listing.{malformed, read, Told, Answer}
 
 pub read-as : {line g h g' h' : List ℕ} {r : Parsed} {l : Line} → r ≡ Read l → ParseTells line g h r g' h' → ReadAs line g h (l .p) (l .ng) (l .nh) g' h'
 read-as {line} {g} {h} {g'} {h'} e t = subst (λ z. ParseTells line g h z g' h') e t
@@ -33,19 +30,12 @@ module _ {line g h : List ℕ} {p ng nh : ℕ} {g' h' : List ℕ} (q : ReadAs li
   pub lent-H : nh ≤ length h'
   lent-H = front-length (q .H) h h' nh (q .count-H) (q .front-H)
 
-  pub told-read : {d : List ℕ} {at r : ℕ} {d' : List ℕ} → Told line p (take ng g') (take nh h') d at r d' → Answer line d at r d'
+  pub told-read : {d : List ℕ} {at r : ℕ} {d' : List ℕ} → Told p (take ng g') (take nh h') d at r d' → Answer line d at r d'
   told-read {d} {at} {r} {d'} t =
-      let G = q .G in
-      let H = q .H in
-      let a : take ng g' ≡ G = ap (take ng) (q .front-G) ∙ take-at G (drop ng g) ng (q .count-G) in
-      let b : take nh h' ≡ H = ap (take nh) (q .front-H) ∙ take-at H (drop nh h) nh (q .count-H) in
-      let m : Makes p G H budget blank blank (t .m) (t .rows) (t .scratch) =
-      subst (λ z. Makes p G z budget blank blank (t .m) (t .rows) (t .scratch)) b (subst (λ z. Makes p z (take nh h') budget blank blank (t .m) (t .rows) (t .scratch)) a (t .makes)) in
-      record {
-        text = made-text (line-text p G H) (t .m) (t .rows);
-        lists = read p G H (t .m) (t .rows) (t .scratch) (q .reads) m;
-        put = subst (λ s. Put d at (made-text s (t .m) (t .rows)) r d') (line-is-text (q .reads)) (t .put);
-      }
+      let a : take ng g' ≡ q .G = ap (take ng) (q .front-G) ∙ take-at (q .G) (drop ng g) ng (q .count-G) in
+      let b : take nh h' ≡ q .H = ap (take nh) (q .front-H) ∙ take-at (q .H) (drop nh h) nh (q .count-H) in
+      let w : Told p (q .G) (q .H) d at r d' = subst (λ z. Told p (q .G) z d at r d') b (subst (λ z. Told p z (take nh h') d at r d') a t) in
+      record { text = _; lists = read p (q .G) (q .H) (w .m) (w .rows) (w .scratch) (q .reads) (w .makes); put = w .put }
 
 pub told-not : {line : List ℕ} (g h g' h' : List ℕ) {r : Parsed} {d : List ℕ} {at q : ℕ} {d' : List ℕ} → 126 ≤ length g → 126 ≤ length h → r ≡ Malformed
     → ParseTells line g h r g' h' → Put d at (refused-text 12) q d' → Answer line d at q d'

@@ -1,8 +1,8 @@
 -- The unit lister (document 01).
 --   blank                    a lent slice of 6 c zeros, c = 1,024
 --   Lists line t             t answers the line (without its newline): refused 12 where it does not read as p;G;H; else what the unit of
---                            p, G, H with budget 1,000 and c = 1,024 is, printed
---   Told s p G H d at r d'   the answer to a line that reads is put into d
+--                            p, G, H with budget 1,000 and c = 1,024 is, printed behind the field, whose lists have no zeros at their ends
+--   Told p G H d at r d'     the answer to a line that reads is put into d
 --   Answer line d at r d'    the answer is put into d at the place `at`, as far as d reaches; r is the place after it
 --   Steps k s d g r k' d'    one step through a piece s of the input, with the pending bytes in k and the output in d: from g to r
 --   Way k s d g i r k' d'    i steps, each from a place of d that leaves `room` bytes
@@ -21,6 +21,7 @@ use Rattle.text_cut.specs.Tells.{CutTells}
 use Rattle.text_cut.specs.declared.Step.{Step}
 use Rattle.text_cut.specs.declared.Step.the-variants.{Whole, Broken, Pending}
 use Rattle.text_read.specs.Grammar.{Reads}
+use Rattle.field_open.specs.Padding.{unpad}
 use Rattle.door_unit.specs.declared.UnitAnswer.{UnitAnswer}
 use Rattle.door_unit.specs.Unit.{Makes}
 use Rattle.lister_print.specs.Text.{made-text}
@@ -38,16 +39,16 @@ blank = replicate slots 0
 
 pub data Lists (line : List ℕ) : List ℕ → Type 0 where
   malformed : ((p : ℕ) (G H : List ℕ) → Reads line p G H → ⊥) → Lists line (refused-text 12)
-  read : (p : ℕ) (G H : List ℕ) (m : UnitAnswer) (rows scratch : List ℕ) → Reads line p G H → Makes p G H budget blank blank m rows scratch
-      → Lists line (made-text (line-text p G H) m rows)
+  read : (p : ℕ) (G H : List ℕ) (m : UnitAnswer) (rows scratch : List ℕ) → Reads line p G H
+      → Makes p (unpad G) (unpad H) budget blank blank m rows scratch → Lists line (made-text (line-text p (unpad G) (unpad H)) m rows)
 
--- the answer to a line s that reads as p, G, H
-pub record Told (s : List ℕ) (p : ℕ) (G H d : List ℕ) (at r : ℕ) (d' : List ℕ) : Type 0 where
+-- the answer to a line that reads as p, G, H
+pub record Told (p : ℕ) (G H d : List ℕ) (at r : ℕ) (d' : List ℕ) : Type 0 where
   pub m : UnitAnswer
   pub rows : List ℕ
   pub scratch : List ℕ
-  pub makes : Makes p G H budget blank blank m rows scratch
-  pub put : Put d at (made-text s m rows) r d'
+  pub makes : Makes p (unpad G) (unpad H) budget blank blank m rows scratch
+  pub put : Put d at (made-text (line-text p (unpad G) (unpad H)) m rows) r d'
 
 pub record Answer (line d : List ℕ) (at r : ℕ) (d' : List ℕ) : Type 0 where
   pub text : List ℕ

@@ -13,15 +13,16 @@ pub struct Going {
     pub to: usize,
 }
 
-// The answer to a line that reads as p, G, H.
-fn field_answer(line: &[u8], p: u64, g: &[u64], h: &[u64], out: &mut [u8], at: usize) -> usize
-    ensures { λ r.
-        ⌜ Told (now (line .entry)) p (now (g .entry)) (now (h .entry)) (now (out .entry)) at r (now (out .exit)) ⌝ }
+// The answer to a line that reads as p, G, H. The lists are printed without the zeros at their ends.
+fn field_answer(p: u64, g: &[u64], h: &[u64], out: &mut [u8], at: usize) -> usize
+    ensures { λ r. ⌜ Told p (now (g .entry)) (now (h .entry)) (now (out .entry)) at r (now (out .exit)) ⌝ }
 {
     let mut rows = [0u16; 6144];
     let mut scratch = [0u16; 6144];
     let m = door_unit::unit(p, g, h, 1000, &mut rows, &mut scratch);
-    lister_print::put_made(out, at, line, m, &rows)
+    let n = field_open::unpadded(g);
+    let k = field_open::unpadded(h);
+    lister_print::put_made(out, at, p, &g[..n], &h[..k], m, &rows)
 }
 
 // The answer to a line without its newline, at a place of `out`; returns the place after it.
@@ -36,7 +37,7 @@ pub fn answer(line: &[u8], out: &mut [u8], at: usize) -> usize
     };
     let ng = l.ng;
     let nh = l.nh;
-    field_answer(line, l.p, &g[..ng], &h[..nh], out, at)
+    field_answer(l.p, &g[..ng], &h[..nh], out, at)
 }
 
 // One step through a piece: to the end of a line, which is answered, or to the end of the piece.

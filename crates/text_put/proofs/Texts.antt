@@ -1,6 +1,8 @@
 -- Numbers and lists as they are put into a slice.
 --   put-small, put-tens    a number of one digit; a number's tens, then its last digit
 --   list-none, list-first, list-more, list-all   a list put number by number
+--   Along, along-start, along-more, along-put, along-end   a loop over a list that puts its numbers, of whatever width they are
+--   line-put               a field p;G;H
 --   refused-put            the answer `refused n`
 use mathlib.Core.Path.{_≡_, refl, sym, ap, _∙_, subst}
 use mathlib.Core.List.{List, [], _∷_, _++_, map, map-append, append-assoc}
@@ -10,7 +12,7 @@ use native.Mathlib.Numerals.{add-one}
 use lib.ListN.{length, getD, take}
 use lib.Seq.{take-suc, take-all, length-take-le}
 use Rattle.base_lists.specs.Pieces.{Put}
-use Rattle.text_put.specs.Print.{comma, newline, number-text, join, list-text, refused-text, refused-word}
+use Rattle.text_put.specs.Print.{comma, semicolon, newline, number-text, join, list-text, line-text, refused-text, refused-word}
 use Rattle.base_lists.proofs.Puts.{placed-none, put-then}
 use Rattle.text_put.proofs.Digits.{text-small, text-more}
 
@@ -63,6 +65,34 @@ list-more l i {d} {at} {r} {d'} {q} {e} {u} {f} pos h a b c =
 
 pub list-all : (l : List ℕ) (i : ℕ) {d : List ℕ} {at r : ℕ} {d' : List ℕ} → length l ≤ i → Put d at (list-text (take i l)) r d' → Put d at (list-text l) r d'
 list-all l i h a = rw (take-all i l) at a
+
+-- ---- the loop's invariant: the first i numbers are put, and i is not 0. It is said from the state after the first number on, where the loop starts
+abbrev pub Along : List ℕ → List ℕ → ℕ → List ℕ → ℕ → ℕ → Type 0
+Along l out₀ to₀ out to i =
+    (0 < i) × (i ≤ length l) × ((d : List ℕ) (a : ℕ) → Put d a (list-text (take 1 l)) to₀ out₀ → Put d a (list-text (take i l)) to out)
+
+pub along-start : (l out : List ℕ) (to : ℕ) → 0 < length l → Along l out to out to 1
+along-start l out to h = (omega arith, omega arith, λ d a q. q)
+
+module _ {l out₀ : List ℕ} {to₀ : ℕ} {out : List ℕ} {to i : ℕ} (w : Along l out₀ to₀ out to i) where
+  pub along-more : {q : ℕ} {e : List ℕ} {u : ℕ} {f : List ℕ} → i < length l → Put out to (comma ∷ []) q e → Put e q (number-text (getD l i 0)) u f → Along l out₀ to₀ f u (i + 1)
+  along-more h b c = (omega arith, omega arith, λ d a q. list-more l i (w .0) h (w .2 d a q) b c)
+
+  pub along-put : {d : List ℕ} {a : ℕ} → 0 < length l → Put d a (number-text (getD l 0 0)) to₀ out₀ → Put d a (list-text (take i l)) to out
+  along-put {d} {a} h q = w .2 d a (list-first l h q)
+
+  pub along-end : {d : List ℕ} {a : ℕ} → 0 < length l → length l ≤ i → Put d a (number-text (getD l 0 0)) to₀ out₀ → Put d a (list-text l) to out
+  along-end h k q = list-all l i k (along-put h q)
+
+module _ (p : ℕ) (G H : List ℕ) {d : List ℕ} {at r₁ : ℕ} {d₁ : List ℕ} {r₂ : ℕ} {d₂ : List ℕ} {r₃ : ℕ} {d₃ : List ℕ} {r₄ : ℕ} {d₄ : List ℕ} {r₅ : ℕ} {d₅ : List ℕ} where
+  pub line-put : Put d at (number-text p) r₁ d₁ → Put d₁ r₁ (semicolon ∷ []) r₂ d₂ → Put d₂ r₂ (list-text G) r₃ d₃ → Put d₃ r₃ (semicolon ∷ []) r₄ d₄ → Put d₄ r₄ (list-text H) r₅ d₅
+      → Put d at (line-text p G H) r₅ d₅
+  unfolding line-text join
+  line-put a b c e f =
+      let x = put-then d₃ r₃ (semicolon ∷ []) r₄ d₄ (list-text H) r₅ d₅ e f in
+      let y = put-then d₂ r₂ (list-text G) r₃ d₃ (semicolon ∷ list-text H) r₅ d₅ c x in
+      let z = put-then d₁ r₁ (semicolon ∷ []) r₂ d₂ (list-text G ++ semicolon ∷ list-text H) r₅ d₅ b y in
+      put-then d at (number-text p) r₁ d₁ (semicolon ∷ list-text G ++ semicolon ∷ list-text H) r₅ d₅ a z
 
 pub refused-put : (n : ℕ) {d : List ℕ} {at r : ℕ} {d' : List ℕ} {q : ℕ} {e : List ℕ} {u : ℕ} {f : List ℕ}
     → Put d at refused-word r d' → Put d' r (number-text n) q e → Put e q (newline ∷ []) u f → Put d at (refused-text n) u f

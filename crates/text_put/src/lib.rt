@@ -3,7 +3,7 @@
 ghost use mathlib.Core.List.{[], _∷_};
 ghost use lib.ListN.{take};
 ghost use Rattle.base_lists.specs.Pieces.{Put};
-ghost use Rattle.text_put.specs.Print.{number-text, list-text, refused-text};
+ghost use Rattle.text_put.specs.Print.{number-text, list-text, line-text, refused-text};
 
 // One byte.
 pub fn put_byte(out: &mut [u8], at: usize, b: u8) -> usize
@@ -17,7 +17,7 @@ pub fn put_byte(out: &mut [u8], at: usize, b: u8) -> usize
 }
 
 // The bytes of a text.
-pub fn put_bytes(out: &mut [u8], at: usize, s: &[u8]) -> usize
+fn put_bytes(out: &mut [u8], at: usize, s: &[u8]) -> usize
     ensures { λ r. ⌜ Put (now (out .entry)) at (now (s .entry)) r (now (out .exit)) ⌝ }
 {
     let mut to = at;
@@ -66,6 +66,34 @@ pub fn put_list(out: &mut [u8], at: usize, l: &[u16], n: usize) -> usize
         return put_all(out, at, &l[..n]);
     }
     put_all(out, at, l)
+}
+
+// The numbers of a slice of wide ones, with commas.
+fn put_wide(out: &mut [u8], at: usize, l: &[u64]) -> usize
+    ensures { λ r. ⌜ Put (now (out .entry)) at (list-text (now (l .entry))) r (now (out .exit)) ⌝ }
+{
+    if l.len() == 0 {
+        return at;
+    }
+    let mut to = put_number(out, at, l[0]);
+    let mut i: usize = 1;
+    while i < l.len() {
+        to = put_byte(out, to, b',');
+        to = put_number(out, to, l[i]);
+        i += 1;
+    }
+    to
+}
+
+// A field: p;G;H.
+pub fn put_field(out: &mut [u8], at: usize, p: u64, g: &[u64], h: &[u64]) -> usize
+    ensures { λ r. ⌜ Put (now (out .entry)) at (line-text p (now (g .entry)) (now (h .entry))) r (now (out .exit)) ⌝ }
+{
+    let a = put_number(out, at, p);
+    let b = put_byte(out, a, b';');
+    let c = put_wide(out, b, g);
+    let d = put_byte(out, c, b';');
+    put_wide(out, d, h)
 }
 
 // The answer `refused n`, with its newline.

@@ -35,8 +35,8 @@ clip-requires-2 c κs = search needs
 array-share-prefix-g : tie.Need-array-share-prefix-g
 array-share-prefix-g c = search needs
 
-slice-aggregate-refusal : tie.Need-slice-aggregate-refusal
-slice-aggregate-refusal c =
+slice-aggregate-strict-refusal : tie.Need-slice-aggregate-strict-refusal
+slice-aggregate-strict-refusal c =
     let s6 = c .before .before .before .before .before .before in
     let e : length (s6 .first-14 .result) ≡ 14 = ap length (s6 .first-14 .ensures) ∙ length-tab 14 _ in
     let w = c .before .before .before .clip .ensures .within in
@@ -45,15 +45,15 @@ slice-aggregate-refusal c =
 array-share-prefix-h : tie.Need-array-share-prefix-h
 array-share-prefix-h c = search needs
 
-slice-aggregate-refusal-2 : tie.Need-slice-aggregate-refusal-2
-slice-aggregate-refusal-2 c =
+slice-aggregate-strict-refusal-2 : tie.Need-slice-aggregate-strict-refusal-2
+slice-aggregate-strict-refusal-2 c =
     let s6 = c .before .before .before .before .before .before in
     let e : length (s6 .first-142 .result) ≡ 14 = ap length (s6 .first-142 .ensures) ∙ length-tab 14 _ in
     let w = c .before .before .clip2 .ensures .within in
     sym (length-take-le _ _ (omega arith))
 
-refusal-requires : tie.Need-refusal-requires
-refusal-requires c κs = search needs
+strict-refusal-requires : tie.Need-strict-refusal-requires
+strict-refusal-requires c κs = search needs
 
 returns : tie.Need-returns
 returns c =
@@ -64,10 +64,10 @@ returns c =
     let s6 = c .before .before .before .before .before .before in
     let s5 = c .before .before .before .before .before in
     let s3 = c .before .before .before in
-    field-says (s11 .args .s .now) _ (s5 .clip .result) (s3 .clip2 .result) (c .«refusal» .result) (s8 .first-14 .result) (s7 .first-142 .result)
+    field-says (s11 .args .s .now) _ (s5 .clip .result) (s3 .clip2 .result) (c .strict-refusal .result) (s8 .first-14 .result) (s7 .first-142 .result)
     (s9 .two .ensures .0) (subst (λ (z : ℕ). Clipped z (s5 .clip .result)) (s6 .two2 .ensures .0) (s5 .clip .ensures))
     (subst (λ (z : ℕ). Clipped z (s3 .clip2 .result)) (c .before .before .before .before .two3 .ensures .0) (s3 .clip2 .ensures)) (s8 .first-14 .ensures)
-    (s7 .first-142 .ensures) (c .«refusal» .ensures)
+    (s7 .first-142 .ensures) (c .strict-refusal .ensures)
 
 pub field-refusal-spec : {M : Type 1} → statement M
 field-refusal-spec =
@@ -81,8 +81,8 @@ field-refusal-spec =
     two-requires-3
     clip-requires-2
     array-share-prefix-g
-    slice-aggregate-refusal
+    slice-aggregate-strict-refusal
     array-share-prefix-h
-    slice-aggregate-refusal-2
-    refusal-requires
+    slice-aggregate-strict-refusal-2
+    strict-refusal-requires
     returns)

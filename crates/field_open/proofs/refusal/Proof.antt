@@ -1,34 +1,38 @@
--- `field_open::refusal` meets its contract: a number of a part stops the table, 0 hands it on.
+-- `field_open::refusal` meets its contract: the strict table at the fronts that the two lists stand for.
 use borrow.Author.Needs.{needs}
-use native.Mathlib.Omega.{arith}
-use Rattle.field_open.proofs.Accept.{stop-p, stop-lists, pass-lists, shaped}
+use Rattle.base_lists.proofs.Paddings.{unpadded-length, fronts}
+use Rattle.field_open.specs.Refusal.{Refusal}
 use Rattle.field_open.proofs.refusal.Statement.{statement}
 use Rattle.field_open.proofs.refusal.Tie as tie
 
-check-p-requires : tie.Need-check-p-requires
-check-p-requires c κs = search needs
+unpadded-requires : tie.Need-unpadded-requires
+unpadded-requires c κs = search needs
+
+unpadded-requires-2 : tie.Need-unpadded-requires-2
+unpadded-requires-2 c κs = search needs
+
+slice-aggregate-strict-refusal : tie.Need-slice-aggregate-strict-refusal
+slice-aggregate-strict-refusal c = unpadded-length (c .before .before .unpadded .ensures)
+
+slice-aggregate-strict-refusal-2 : tie.Need-slice-aggregate-strict-refusal-2
+slice-aggregate-strict-refusal-2 c = unpadded-length (c .before .before .unpadded2 .ensures)
+
+strict-refusal-requires : tie.Need-strict-refusal-requires
+strict-refusal-requires c κs = search needs
 
 returns : tie.Need-returns
-returns c = stop-p _ _ _ _ (c .if1 .taken) (c .before .check-p .ensures)
-
-check-lists-requires : tie.Need-check-lists-requires
-check-lists-requires c κs = search needs
-
-returns-2 : tie.Need-returns-2
-returns-2 c =
-    let d = c .before .before in
-    stop-lists _ _ _ _ _ (omega arith) (d .before .check-p .ensures) (c .if2 .taken) (c .before .check-lists .ensures)
-
-check-factors-requires : tie.Need-check-factors-requires
-check-factors-requires c κs =
-    let d = c .before .before in
-    shaped _ _ _ _ _ (omega arith) (d .before .check-p .ensures) (omega arith) (c .before .check-lists .ensures)
-
-returns-3 : tie.Need-returns-3
-returns-3 c =
-    let d = c .before .before .before in
-    pass-lists _ _ _ _ _ _ (omega arith) (d .before .check-p .ensures) (omega arith) (c .before .before .check-lists .ensures) (c .check-factors .ensures)
+returns c =
+    let b = c .before .before .before in
+    let a = b .before .before .before .before .args in
+    fronts (λ g h. Refusal (a .p) g h (c .strict-refusal .result)) (b .before .unpadded .ensures) (b .unpadded2 .ensures) (c .strict-refusal .ensures)
 
 pub refusal-spec : {M : Type 1} → statement M
 refusal-spec =
-    tie.close (tie.spec check-p-requires returns check-lists-requires returns-2 check-factors-requires returns-3)
+    tie.close
+    (tie.spec
+    unpadded-requires
+    unpadded-requires-2
+    slice-aggregate-strict-refusal
+    slice-aggregate-strict-refusal-2
+    strict-refusal-requires
+    returns)

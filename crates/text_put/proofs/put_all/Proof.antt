@@ -1,20 +1,15 @@
--- `text_put::put_all` meets its contract. The invariant: the first i numbers are put, and i is not 0. It is said from the state
--- after the first number on, which is where the loop starts.
-use Prim.Native.Nat.{ℕ, _≤_, _<_, _-_}
-use mathlib.Core.List.{List}
+-- `text_put::put_all` meets its contract. The invariant, `Along`: the first i numbers are put.
+use Prim.Native.Nat.{_-_}
 use native.Mathlib.Omega.{arith}
-use lib.ListN.{length, take}
-use Rattle.base_lists.specs.Pieces.{Put}
-use Rattle.text_put.specs.Print.{list-text}
+use lib.ListN.{length}
 use Rattle.base_lists.proofs.Puts.{placed-same}
-use Rattle.text_put.proofs.Texts.{list-none, list-first, list-more, list-all}
+use Rattle.text_put.proofs.Texts.{list-none, Along, along-start, along-more, along-put, along-end}
 use borrow.Author.Needs.{needs}
 use Rattle.text_put.proofs.put_all.Statement.{statement}
 use Rattle.text_put.proofs.put_all.Tie as tie
 
 abbrev Inv-loop : tie.InvT-loop
-Inv-loop out₀ at l to₀ i₀ out to i =
-    (0 < i) × (i ≤ length l) × ((d : List ℕ) (a : ℕ) → Put d a (list-text (take 1 l)) to₀ out₀ → Put d a (list-text (take i l)) to out)
+Inv-loop out₀ at l to₀ i₀ out to i = Along l out₀ to₀ out to i
 
 abbrev μ-loop : tie.MeasureT-loop
 μ-loop out₀ at l to₀ i₀ out to i = length l - i
@@ -32,7 +27,7 @@ put-number-requires : tie.Need-put-number-requires Inv-loop μ-loop
 put-number-requires c κs = search needs
 
 loop-holds : tie.Need-loop-holds Inv-loop μ-loop
-loop-holds c = (omega arith, omega arith, λ d a q. q)
+loop-holds c = along-start _ _ _ (omega arith)
 
 put-byte-requires : tie.Need-put-byte-requires Inv-loop μ-loop
 put-byte-requires c κs = search needs
@@ -59,25 +54,13 @@ loop-again : tie.Need-loop-again Inv-loop μ-loop
 loop-again c =
     let s7 = c .before .before .before .before .before .before .before in
     let s10 = s7 .before .before .before in
-    let s19 = s10 .before .before .before .before .before .before .before .before .before in (
-      omega arith,
-      omega arith,
-      λ d a q. list-more (s19 .args .l .now) (s10 .loop .i) (omega arith) (omega arith) (s10 .loop .inv .2 d a q) (s7 .put-byte .ensures)
-          (c .before .before .put-number2 .ensures),
-    )
+    along-more (s10 .loop .inv) (omega arith) (s7 .put-byte .ensures) (c .before .before .put-number2 .ensures)
 
 same-length : tie.Need-same-length Inv-loop μ-loop
-same-length c =
-    let a = c .before .before .before .before .before .before .before .before .before .before .args in
-    placed-same
-    (c .before .loop .inv .2 (a .out .now) (a .at) (list-first (a .l .now) (omega arith) (c .before .before .before .before .put-number .ensures)))
+same-length c = placed-same (along-put (c .before .loop .inv) (omega arith) (c .before .before .before .before .put-number .ensures))
 
 returns-2 : tie.Need-returns-2 Inv-loop μ-loop
-returns-2 c =
-    let a = c .before .before .before .before .before .before .before .before .before .before .args in
-    let s1 = c .before in
-    list-all (a .l .now) (s1 .loop .i) (omega arith)
-    (s1 .loop .inv .2 (a .out .now) (a .at) (list-first (a .l .now) (omega arith) (c .before .before .before .before .put-number .ensures)))
+returns-2 c = let s1 = c .before in along-end (s1 .loop .inv) (omega arith) (omega arith) (s1 .before .before .before .put-number .ensures)
 
 pub put-all-spec : {M : Type 1} → statement M
 put-all-spec = tie.close (tie.spec Inv-loop μ-loop returns shared-slice-read-put-number cast-put-number put-number-requires loop-holds put-byte-requires mul-put-number shared-slice-read-put-number-2 cast-put-number-2 put-number-requires-2 add-i loop-less loop-again same-length returns-2)

@@ -1,4 +1,4 @@
--- `book_write::write_body` meets its contract.
+-- `book_write::write_strict` meets its contract.
 use borrow.Author.Tests.{not-true, not-false}
 use Rattle.book_write.specs.Write.{bodyFrom, rule, short}
 use Rattle.book_write.proofs.Pieces.{field-of, known, says-none, head-of, lists-of, long-body, rule-any, done-of}
@@ -6,14 +6,14 @@ use mathlib.Core.Path.{refl}
 use mathlib.Core.List.{[]}
 use native.Mathlib.Omega.{arith}
 use borrow.Author.Needs.{needs}
-use Rattle.book_write.proofs.write_body.Statement.{statement}
-use Rattle.book_write.proofs.write_body.Tie as tie
+use Rattle.book_write.proofs.write_strict.Statement.{statement}
+use Rattle.book_write.proofs.write_strict.Tie as tie
 
-refusal-requires : tie.Need-refusal-requires
-refusal-requires c κs = search needs
+strict-refusal-requires : tie.Need-strict-refusal-requires
+strict-refusal-requires c κs = search needs
 
 returns : tie.Need-returns
-returns c = field-of _ _ _ (c .if1 .taken) (c .before .refusal .ensures)
+returns c = field-of _ _ _ (c .if1 .taken) (c .before .strict-refusal .ensures)
 
 rule-of-requires : tie.Need-rule-of-requires
 rule-of-requires c κs = search needs
@@ -22,7 +22,7 @@ returns-2 : tie.Need-returns-2
 returns-2 c =
     let a = c .before .before .before .before .before .before .before .before .before .before .args in let b = bodyFrom (a .p) (a .g .now) (a .h .now) (a .period .0)
     (a .a .now) (a .b .now) (a .c .now) in (
-      rule (says-none b _ (c .before .before .if1 .left) (c .before .before .before .refusal .ensures)) (λ r. c .before .rule-of
+      rule (says-none b _ (c .before .before .if1 .left) (c .before .before .before .strict-refusal .ensures)) (λ r. c .before .rule-of
           .ensures .no! (not-true _ (c .if2 .taken)) (rule-any (a .p) (a .g .now) (a .h .now) [] [] (a .period .0) (a .a .now) (a .b .now) (a .c .now) r)) refl refl,
       tt,
     )
@@ -61,7 +61,7 @@ returns-3 : tie.Need-returns-3
 returns-3 c =
     let a = c .before .before .before .before .before .before .before .before .before .before .before .args in let b = bodyFrom (a .p) (a .g .now) (a .h .now)
     (a .period .0) (a .a .now) (a .b .now) (a .c .now) in let k = known (a .p) (a .g .now) (a .h .now) (a .period .0) (a .a .now) (a .b .now) (a .c .now) _
-    (c .before .before .before .if1 .left) (c .before .before .before .before .refusal .ensures)
+    (c .before .before .before .if1 .left) (c .before .before .before .before .strict-refusal .ensures)
     (c .before .before .rule-of .ensures .yes! (not-false _ (c .before .if2 .left))) in
     (short (k .field) (k .rule) (let e = long-body b in omega arith) refl refl, tt)
 
@@ -69,7 +69,7 @@ put-head-requires : tie.Need-put-head-requires
 put-head-requires c κs =
     let a = c .before .before .before .before .before .before .before .before .before .before .before .before .args in let b = bodyFrom (a .p) (a .g .now) (a .h .now)
     (a .period .0) (a .a .now) (a .b .now) (a .c .now) in let k = known (a .p) (a .g .now) (a .h .now) (a .period .0) (a .a .now) (a .b .now) (a .c .now) _
-    (c .before .before .before .before .if1 .left) (c .before .before .before .before .before .refusal .ensures)
+    (c .before .before .before .before .if1 .left) (c .before .before .before .before .before .strict-refusal .ensures)
     (c .before .before .before .rule-of .ensures .yes! (not-false _ (c .before .before .if2 .left))) in head-of b _ k (omega arith)
 
 put-lists-requires : tie.Need-put-lists-requires
@@ -77,7 +77,7 @@ put-lists-requires c κs =
     let a = c .before .before .before .before .before .before .before .before .before .before .before .before .before .before .before .before .args in let b =
     bodyFrom (a .p) (a .g .now) (a .h .now) (a .period .0) (a .a .now) (a .b .now) (a .c .now) in let k = known (a .p) (a .g .now) (a .h .now) (a .period .0)
     (a .a .now) (a .b .now) (a .c .now) _ (c .before .before .before .before .before .before .before .before .if1 .left)
-    (c .before .before .before .before .before .before .before .before .before .refusal .ensures)
+    (c .before .before .before .before .before .before .before .before .before .strict-refusal .ensures)
     (c .before .before .before .before .before .before .before .rule-of .ensures .yes! (not-false _ (c .before .before .before .before .before .before .if2 .left)))
     in lists-of b (a .out .now) _ _ _ k (omega arith) (c .before .before .before .put-head .ensures)
 
@@ -89,7 +89,7 @@ returns-4 c =
     let a = c .before .before .before .before .before .before .before .before .before .before .before .before .before .before .before .before .before .before .before
     .args in let b = bodyFrom (a .p) (a .g .now) (a .h .now) (a .period .0) (a .a .now) (a .b .now) (a .c .now) in let k = known (a .p) (a .g .now) (a .h .now) (a
     .period .0) (a .a .now) (a .b .now) (a .c .now) _ (c .before .before .before .before .before .before .before .before .before .before .before .if1 .left) (c
-    .before .before .before .before .before .before .before .before .before .before .before .before .refusal .ensures) (c .before .before .before .before .before
+    .before .before .before .before .before .before .before .before .before .before .before .before .strict-refusal .ensures) (c .before .before .before .before .before
     .before .before .before .before .before .rule-of .ensures .yes!
     (not-false _ (c .before .before .before .before .before .before .before .before .before .if2 .left))) in (
       done-of b (a .out .now) _ _ _ _ (k .field) (k .rule)
@@ -97,11 +97,11 @@ returns-4 c =
       tt,
     )
 
-pub write-body-spec : {M : Type 1} → statement M
-write-body-spec =
+pub write-strict-spec : {M : Type 1} → statement M
+write-strict-spec =
     tie.close
     (tie.spec
-    refusal-requires
+    strict-refusal-requires
     returns
     rule-of-requires
     returns-2
