@@ -2,6 +2,7 @@
 use mathlib.Core.Path.{refl}
 use native.Mathlib.Omega.{arith}
 use borrow.Author.Needs.{needs}
+use Rattle.field_open.specs.Padding.{unpad}
 use Rattle.book_rows.proofs.Facts.{same-body, row-is, row-count}
 use Rattle.book_rows.proofs.put_rows.Statement.{statement}
 use Rattle.book_rows.proofs.put_rows.Tie as tie
@@ -104,7 +105,7 @@ returns c =
     let at = w1 .before .before .before .before .before .before .before in
     let a = at .args in
     let t = c .before .before .write-body .ensures in (
-      same-body (a .p) (a .g .now) (a .h .now) (a .period .0)
+      same-body (a .p) (unpad (a .g .now)) (unpad (a .h .now)) (a .period .0)
           (row-is (a .c) (a .rows .now) (at .pre) 0 (a .c) (omega arith) (w1 .widen .ensures))
           (row-is (a .c) (a .rows .now) (at .pre) _ _ refl (w2 .widen2 .ensures))
           (row-is (a .c) (a .rows .now) (at .pre) _ _ refl (w3 .widen3 .ensures))
