@@ -2,12 +2,13 @@
 --   carry-asks        two accepted pairs and six rows: what the inner functions ask
 --   too-long, apart   14: the slice has another length; the pairs are not of one field
 --   straight-done, swapped-done   0: carried over, in the one order and in the other
+--   unpadded-done     the answer of `transfer`, whose lists may have zeros at their ends
 use mathlib.Core.Path.{_≡_, refl, subst}
 use mathlib.Core.Bool.{Bool, true, false}
 use mathlib.Core.List.{List}
 use Prim.Native.Nat.{ℕ, _*_, _/_, _≤_}
 use native.Mathlib.Omega.{arith}
-use lib.ListN.{length}
+use lib.ListN.{length, take}
 use Rattle.base_answers.specs.Limits.{longest, SixRows, NoSixRows}
 use Rattle.base_answers.proofs.Limits.{no-six, six-of}
 use Rattle.pair_agree.specs.Answer.{Both, Pairs}
@@ -15,7 +16,10 @@ use Rattle.pair_laws.specs.Rows.{straight, crossed}
 use Rattle.pair_agree.specs.declared.Pairing.{Pairing}
 use Rattle.pair_agree.specs.declared.Pairing.the-variants.{Straight, Swapped, Apart}
 use Rattle.pair_agree.proofs.Outcomes.{apart-none}
-use Rattle.door_transfer.specs.Transfer.{Lent, Goes, unfit, carried}
+use Rattle.door_compare.proofs.Doors.{doors-goes}
+use Rattle.door_compare.proofs.Fronts.{four}
+use Rattle.field_open.specs.Padding.{unpad, Unpadded}
+use Rattle.door_transfer.specs.Transfer.{Lent, Goes, Transfers, unfit, carried}
 use Rattle.pair_carry.specs.Code.{CarryAsks, Carried, CarriedSwapped}
 
 module _ {p : ℕ} {G H G′ H′ : List ℕ} (rows : List ℕ) (both : Both p G H G′ H′) where
@@ -54,3 +58,8 @@ module _ {p : ℕ} {G H G′ H′ : List ℕ} (rows : List ℕ) (both : Both p G
       swapped-done g rows′ d =
           let (a, b) = subst (Pairs p G H G′ H′) g w in
           carried (length rows / 6) lent refl (d .size) (crossed a b (d .x) (d .y) (d .law) (d .E) (d .F))
+
+module _ {p : ℕ} {G H G′ H′ : List ℕ} {i j k l : ℕ} (a : Unpadded G i) (b : Unpadded H j) (c : Unpadded G′ k) (d : Unpadded H′ l) where
+  pub unpadded-done : {n : ℕ} {rows rows′ : List ℕ} → Both p (unpad G) (unpad H) (unpad G′) (unpad H′)
+      → Goes p (take i G) (take j H) (take k G′) (take l H′) rows n rows′ → Transfers p (unpad G) (unpad H) (unpad G′) (unpad H′) rows n rows′
+  unpadded-done {n} {rows} {rows′} t g = doors-goes t (four a b c d (λ x y z w. Goes p x y z w rows n rows′) g)

@@ -1,5 +1,6 @@
 -- What `series` and `open_with_series` answer.
---   refused, wrong, done    the three outcomes of `series`
+--   refused, wrong, done    the three outcomes of `series`; the filling has the fronts that the lists stand for
+--   opening, opened         what `with_series` asks of those fronts, and the opened field with its series
 --   answer-unique              two outcomes of one call of `series` are equal
 --   answer-kept             a refusal leaves both lists
 --   expands-unique             two answers of `open_with_series` to one field are equal
@@ -9,14 +10,21 @@ use mathlib.Core.Path.{_≡_, refl, sym, ap, _∙_}
 use mathlib.Core.Logic.{_≢_}
 use mathlib.Core.List.{List}
 use Prim.Native.Nat.{ℕ}
+use lib.ListN.{take}
+use Rattle.base_lists.proofs.Paddings.{fronts, unfronts}
 use Rattle.field_open.specs.Refusal.{Refusal, Accepted}
+use Rattle.field_open.specs.Padding.{unpad, Unpadded}
+use Rattle.field_open.specs.Opening.{Held, Opens}
+use Rattle.field_open.specs.declared.FieldAnswer.{FieldAnswer}
+use Rattle.field_open.proofs.Opening.{opens-number, opens-held}
+use Rattle.field_open.proofs.Paddings.{front-accepted}
 use Rattle.field_open.proofs.Door.{door-refused, door-goes, door-out, door-unique, door-number, door-open}
 use Rattle.field_roots.proofs.Only.{series-of-unique}
 use Rattle.field_fill.specs.Fill.{Grown}
 use Rattle.field_series.specs.Keeps.{Holding}
 use Rattle.field_series.specs.declared.OpenedField.{OpenedField}
 use Rattle.field_series.specs.declared.OpenedAnswer.{OpenedAnswer}
-use Rattle.field_series.specs.Answer.{Fits, Refused, Goes, unfit, filled, Answer, Expands}
+use Rattle.field_series.specs.Answer.{Fits, Refused, Goes, unfit, filled, Answer, Opening, Expands}
 use Rattle.field_series.proofs.Keeps.{holding-unique}
 
 module _ {p : ℕ} {G H r w : List ℕ} where
@@ -25,9 +33,6 @@ module _ {p : ℕ} {G H r w : List ℕ} where
 
   pub wrong : {n : ℕ} → Refusal p G H n → n ≡ 0 → (Fits r w → ⊥) → Answer p G H r w r w 14
   wrong f z h = door-goes f z (unfit h (record { number = refl; kept = (refl, refl) }))
-
-  pub done : {r′ w′ : List ℕ} {n : ℕ} → Refusal p G H n → n ≡ 0 → Fits r w → Grown p G H r r′ w′ → Answer p G H r w r′ w′ 0
-  done f z h g = door-goes f z (filled h refl (g .size) (g .series))
 
   pub answer-unique : {n n′ : ℕ} (r₁ w₁ r₂ w₂ : List ℕ) → Answer p G H r w r₁ w₁ n → Answer p G H r w r₂ w₂ n′ → (n ≡ n′) × (r₁ ≡ r₂) × (w₁ ≡ w₂)
   answer-unique {n} {n′} r₁ w₁ r₂ w₂ = door-unique (λ k. refusals) goes
@@ -47,6 +52,19 @@ module _ {p : ℕ} {G H r w : List ℕ} where
       goes : Goes p G H r w r′ w′ n → (r′ ≡ r) × (w′ ≡ w)
       goes (unfit g h) = h .kept
       goes (filled g e s t) = absurd (f e)
+
+module _ {p : ℕ} {G H : List ℕ} {i j : ℕ} (a : Unpadded G i) (b : Unpadded H j) where
+  pub done : {r w r′ w′ : List ℕ} {n : ℕ} → Refusal p (unpad G) (unpad H) n → n ≡ 0 → Fits r w → Grown p (take i G) (take j H) r r′ w′ → Answer p (unpad G) (unpad H) r w r′ w′ 0
+  done {r} {w} {r′} {w′} f z h g = let k = fronts (λ x y. Grown p x y r r′ w′) a b g in door-goes f z (filled h refl (k .size) (k .series))
+
+  pub opening : {o : FieldAnswer} → Opens p (unpad G) (unpad H) o → o .refusal ≡ 0 → Opening p (take i G) (take j H) (o .field)
+  opening {o} f z =
+      let (A, k) = opens-held f z in
+      record { accepted = front-accepted a b A; held = unfronts (λ x y. Held p x y (o .field)) a b k }
+
+  pub opened : {o : FieldAnswer} {c : OpenedField} → Opens p (unpad G) (unpad H) o → o .refusal ≡ 0 → Holding p (take i G) (take j H) c
+      → Expands p (unpad G) (unpad H) (record { refusal = 0; cubic = c })
+  opened {o} {c} f z k = door-goes (opens-number f) z (refl, fronts (λ x y. Holding p x y c) a b k)
 
 pub expands-unique : {p : ℕ} {G H : List ℕ} (o o′ : OpenedAnswer) → Expands p G H o → Expands p G H o′ → o ≡ o′
 expands-unique o o′ = door-unique (λ n e f. e ∙ sym f)

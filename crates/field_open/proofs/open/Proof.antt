@@ -2,13 +2,14 @@
 use mathlib.Core.Path.{refl, ap, subst}
 use borrow.Author.Needs.{needs}
 use native.Mathlib.Omega.{arith}
-use Rattle.base_lists.proofs.Paddings.{unpadded-length, fronts, unfronts}
-use Rattle.field_open.specs.Refusal.{Refusal, Accepted}
+use Rattle.base_lists.proofs.Paddings.{unpadded-length, fronts}
+use Rattle.field_open.specs.Refusal.{Refusal}
 use Rattle.field_open.specs.Opening.{Held}
 use Rattle.field_open.specs.declared.Field.{Field}
 use Rattle.field_open.specs.declared.FieldAnswer.{FieldAnswer}
 use Rattle.field_open.proofs.Accept.{accepted}
 use Rattle.field_open.proofs.Door.{door-refused, door-goes}
+use Rattle.field_open.proofs.Paddings.{front-accepted}
 use Rattle.field_open.proofs.open.Statement.{statement}
 use Rattle.field_open.proofs.open.Tie as tie
 
@@ -39,8 +40,7 @@ field-of-requires : tie.Need-field-of-requires
 field-of-requires c κs =
     let b = c .before .before in
     let r = b .before .before .before .refusal in
-    let a = b .before .before .before .before .before .before .args in
-    unfronts (Accepted (a .p)) (b .before .unpadded .ensures) (b .unpadded2 .ensures) (accepted _ _ _ (subst (Refusal _ _ _) (omega arith) (r .ensures)))
+    front-accepted (b .before .unpadded .ensures) (b .unpadded2 .ensures) (accepted _ _ _ (subst (Refusal _ _ _) (omega arith) (r .ensures)))
 
 returns-2 : tie.Need-returns-2
 returns-2 c =

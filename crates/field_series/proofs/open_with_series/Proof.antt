@@ -1,11 +1,13 @@
 -- `field_series::open_with_series` meets its contract: zeros beside a refusal, the field with its series beside 0.
-use mathlib.Core.Path.{refl, ap}
+use mathlib.Core.Path.{ap}
 use native.Mathlib.Omega.{arith}
 use borrow.Author.Needs.{needs}
-use Rattle.field_open.proofs.Door.{door-refused, door-goes}
-use Rattle.field_open.proofs.Opening.{opens-number, opens-nothing, opens-held}
+use Rattle.base_lists.proofs.Paddings.{unpadded-length}
+use Rattle.field_open.proofs.Door.{door-refused}
+use Rattle.field_open.proofs.Opening.{opens-number, opens-nothing}
 use Rattle.field_series.specs.declared.OpenedField.{OpenedField}
 use Rattle.field_series.specs.declared.OpenedAnswer.{OpenedAnswer}
+use Rattle.field_series.proofs.Answer.{opening, opened}
 use Rattle.field_series.proofs.open_with_series.Statement.{statement}
 use Rattle.field_series.proofs.open_with_series.Tie as tie
 use Rattle.field_series.proofs.open_with_series.Reads as reads
@@ -25,12 +27,38 @@ returns c =
     let o = c .before .before .before .open in
     door-refused (opens-number (o .ensures)) (c .before .if1 .taken) (ap {B = OpenedAnswer} (λ (k : OpenedField). record { refusal = o .result .refusal; cubic = k }) (c .no-cubic .ensures))
 
+unpadded-requires : tie.Need-unpadded-requires
+unpadded-requires c κs = search needs
+
+unpadded-requires-2 : tie.Need-unpadded-requires-2
+unpadded-requires-2 c κs = search needs
+
+slice-aggregate-with-series : tie.Need-slice-aggregate-with-series
+slice-aggregate-with-series c = unpadded-length (c .before .before .unpadded .ensures)
+
+slice-aggregate-with-series-2 : tie.Need-slice-aggregate-with-series-2
+slice-aggregate-with-series-2 c = unpadded-length (c .before .before .unpadded2 .ensures)
+
 with-series-requires : tie.Need-with-series-requires
-with-series-requires c κs = let (A, h) = opens-held (c .before .before .open .ensures) (omega arith) in record { accepted = A; held = h }
+with-series-requires c κs =
+    let u = c .before .before in
+    opening (u .before .unpadded .ensures) (u .unpadded2 .ensures) (u .before .before .before .before .open .ensures) (omega arith)
 
 returns-2 : tie.Need-returns-2
-returns-2 c = door-goes (opens-number (c .before .before .before .open .ensures)) (omega arith) (refl, c .with-series .ensures)
+returns-2 c =
+    let u = c .before .before .before in
+    opened (u .before .unpadded .ensures) (u .unpadded2 .ensures) (u .before .before .before .before .open .ensures) (omega arith) (c .with-series .ensures)
 
 pub open-with-series-spec : {M : Type 1} → statement M
 open-with-series-spec =
-    tie.close (tie.spec open-requires no-cubic-requires returns with-series-requires returns-2)
+    tie.close
+    (tie.spec
+    open-requires
+    no-cubic-requires
+    returns
+    unpadded-requires
+    unpadded-requires-2
+    slice-aggregate-with-series
+    slice-aggregate-with-series-2
+    with-series-requires
+    returns-2)

@@ -3,7 +3,9 @@ use mathlib.Core.Path.{_≡_, subst}
 use native.Mathlib.Omega.{arith}
 use borrow.Author.Needs.{needs}
 use lib.ListN.{length}
+use Rattle.base_lists.proofs.Paddings.{unpadded-length}
 use Rattle.field_open.specs.Refusal.{Refusal}
+use Rattle.field_open.proofs.Paddings.{front-accepted}
 use Rattle.field_open.proofs.Accept.{accepted}
 use Rattle.base_answers.proofs.Limits.{over-yes, over-no}
 use Rattle.field_series.specs.Answer.{Fits}
@@ -32,12 +34,29 @@ returns-3 c =
 over-longest-requires : tie.Need-over-longest-requires
 over-longest-requires c κs = search needs
 
+unpadded-requires : tie.Need-unpadded-requires
+unpadded-requires c κs = search needs
+
+unpadded-requires-2 : tie.Need-unpadded-requires-2
+unpadded-requires-2 c κs = search needs
+
+slice-aggregate-grow : tie.Need-slice-aggregate-grow
+slice-aggregate-grow c = unpadded-length (c .before .before .unpadded .ensures)
+
+slice-aggregate-grow-2 : tie.Need-slice-aggregate-grow-2
+slice-aggregate-grow-2 c = unpadded-length (c .before .before .unpadded2 .ensures)
+
 grow-requires : tie.Need-grow-requires
-grow-requires c κs = let l = over-no (c .before .before .before .over-longest .ensures) (c .before .before .if3 .left) in record {
-  accepted = accepted _ _ _ (subst (Refusal _ _ _) (omega arith) (c .before .before .before .before .before .before .refusal .ensures));
-  even = omega arith;
-  near = omega arith;
-}
+grow-requires c κs =
+    let u = c .before .before .before .before in
+    let o = u .before .before .before in
+    let l = over-no (o .over-longest .ensures) (u .before .before .if3 .left) in
+    record {
+      accepted = front-accepted (u .before .unpadded .ensures) (u .unpadded2 .ensures)
+          (accepted _ _ _ (subst (Refusal _ _ _) (omega arith) (o .before .before .before .refusal .ensures)));
+      even = omega arith;
+      near = omega arith;
+    }
 
 same-length : tie.Need-same-length
 same-length c = search needs
@@ -48,9 +67,11 @@ same-length-2 c = search needs
 returns-4 : tie.Need-returns-4
 returns-4 c =
     let g = c .before .before .before .before in
-    let l = over-no (g .before .before .before .before .over-longest .ensures) (g .before .before .before .if3 .left) in
-    let a = g .before .before .before .before .before .before .before in
-    done (a .refusal .ensures) (omega arith) (record { even = omega arith; short = omega arith }) (g .grow .ensures)
+    let u = g .before .before .before .before .before in
+    let o = u .before .before .before in
+    let l = over-no (o .over-longest .ensures) (u .before .before .if3 .left) in
+    done (u .before .unpadded .ensures) (u .unpadded2 .ensures) (o .before .before .before .refusal .ensures) (omega arith)
+    (record { even = omega arith; short = omega arith }) (g .grow .ensures)
 
 pub series-spec : {M : Type 1} → statement M
 series-spec =
@@ -61,6 +82,10 @@ series-spec =
     returns-2
     over-longest-requires
     returns-3
+    unpadded-requires
+    unpadded-requires-2
+    slice-aggregate-grow
+    slice-aggregate-grow-2
     grow-requires
     same-length
     same-length-2
