@@ -6,6 +6,7 @@ mod bench;
 mod books;
 mod doors;
 mod lister;
+mod padded;
 mod pairs;
 mod plain;
 mod shelves;
@@ -57,6 +58,7 @@ fn main() {
     jobs.push(Box::new(|| pairs::random(2, 1000)));
     jobs.push(Box::new(|| shelves::random(3, 3000)));
     jobs.push(Box::new(|| shelves::begun(4, 300)));
+    jobs.push(Box::new(|| padded::random(5, 1000)));
     // It waits more than it works, so it goes first.
     jobs.insert(0, Box::new(doors::all));
     let (passed, failed) = side_by_side(jobs);

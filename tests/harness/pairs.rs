@@ -1,15 +1,20 @@
 // Two pairs of one field: vectors, and random pairs against an independent implementation that makes lists monic and finds the factors
 // of the rows by trial.
 use crate::api::{Field, Record};
-use crate::plain::{inverse, refusal, Numbers, PRIMES};
+use crate::plain::{inverse, padded_field, refusal, unpad, Numbers, PRIMES};
 use crate::vectors::{ensure, field, list, number, pattern, Tally, Verdict};
 
 fn times(p: u64, k: u64, l: &[u64]) -> Vec<u64> {
     l.iter().map(|x| k * x % p).collect()
 }
 
+/// The leading coefficient; there may be zeros behind it.
+fn top(l: &[u64]) -> u64 {
+    *unpad(l).last().expect("a coefficient")
+}
+
 fn monic(p: u64, l: &[u64]) -> Vec<u64> {
-    times(p, inverse(p, *l.last().expect("a coefficient")), l)
+    times(p, inverse(p, top(l)), &unpad(l))
 }
 
 /// In which order two accepted pairs agree after all lists are made monic: not exchanged, exchanged, or in none.
@@ -25,7 +30,6 @@ pub fn order_of(x: &Field, y: &Field) -> Option<bool> {
 /// The factors of B and C by the leading coefficients: x³g′h′² = gh² and yh = x²h′.
 fn factors(x: &Field, y: &Field, swapped: bool) -> (u64, u64) {
     let p = x.p;
-    let top = |l: &[u64]| *l.last().expect("a coefficient");
     let (g, h) = if swapped { (top(&x.h), top(&x.g)) } else { (top(&x.g), top(&x.h)) };
     let (g2, h2) = (top(&y.g), top(&y.h));
     let cube = |k: u64| k * k % p * k % p;
@@ -102,7 +106,7 @@ pub fn some_field(n: &mut Numbers) -> Field {
 }
 
 /// A pair that is mostly of one field with x: constants, exchanged or not, and sometimes a coefficient changed.
-fn some_other(n: &mut Numbers, x: &Field) -> Field {
+pub fn some_other(n: &mut Numbers, x: &Field) -> Field {
     let (a, b) = (1 + n.below(x.p - 1), 1 + n.below(x.p - 1));
     let (mut g, mut h) = (times(x.p, a, &x.g), times(x.p, b, &x.h));
     if n.below(4) == 0 {
@@ -147,13 +151,14 @@ fn agree(n: &mut Numbers, x: &Field, y: &Field) -> Verdict {
     chains_agree(x, y, swapped)
 }
 
-/// Random fields with a second pair each.
+/// Random fields with a second pair each, zeros behind some of the lists.
 pub fn random(seed: u64, count: usize) -> (usize, usize) {
     let mut n = Numbers::new(seed);
     let mut t = Tally::new();
     for _ in 0..count {
         let x = some_field(&mut n);
         let y = some_other(&mut n, &x);
+        let (x, y) = (padded_field(&mut n, &x), padded_field(&mut n, &y));
         t.count(|| format!("p {} G {:?} H {:?} G2 {:?} H2 {:?}", x.p, x.g, x.h, y.g, y.h), agree(&mut n, &x, &y));
     }
     t.done("pairs of one field, random")

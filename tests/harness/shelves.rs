@@ -1,7 +1,7 @@
 // An independent implementation of the book, written for obvious correctness, and random books and bodies, damaged ones among them.
 use crate::api::{self, Field, Said};
 use crate::pairs::{order_of, some_field};
-use crate::plain::{product, refusal, Numbers};
+use crate::plain::{body_refusal, padded, padded_field, product, refusal, unpad, Numbers};
 use crate::vectors::{ensure, Tally, Verdict};
 use std::collections::BTreeMap;
 
@@ -71,7 +71,7 @@ fn judged(s: &[u8], i: usize) -> Result<Value, Said> {
     if !good || v.period < 1 || v.period > 1000000 {
         return Err(malformed(3, i, 0));
     }
-    match refusal(v.p, &v.lists[0], &v.lists[1]) {
+    match body_refusal(v.p, &v.lists[0], &v.lists[1]) {
         0 => Ok(v),
         n => Err(malformed(4, i, u64::from(n))),
     }
@@ -143,6 +143,20 @@ fn added(d: &[u8], n: usize, b: &[u8]) -> (Said, Vec<u8>) {
     }
 }
 
+/// What writing a body says, and the slice afterwards: zeros behind G and H are not written, those behind the other lists are a fault.
+fn written(x: &Field, period: u64, e: &[Vec<u64>], d: &[u8]) -> (Said, Vec<u8>) {
+    let lists = [&[unpad(&x.g), unpad(&x.h)], e].concat();
+    let body = Value { p: x.p, period, lists }.bytes();
+    let said = match (refusal(x.p, &x.g, &x.h), judged(&body, 0)) {
+        (0, Err(s)) => s,
+        (0, Ok(_)) if body.len() > d.len() => refused(11),
+        (0, Ok(_)) => passed(body.len()),
+        (n, _) => refused(u64::from(n)),
+    };
+    let after = if said.number == 0 { [&body, &d[body.len()..]].concat() } else { d.to_vec() };
+    (said, after)
+}
+
 /// The sum of products of polynomials, each with a factor.
 fn sum(p: u64, terms: &[(u64, &[&[u64]])]) -> Vec<u64> {
     let mut all = Vec::new();
@@ -162,10 +176,15 @@ fn attested(v: &Value) -> bool {
     norm[0] != 0 && norm[1..].iter().all(|&x| x == 0)
 }
 
+/// A body of a field. Some have zeros behind G or H, as no body may.
 fn some_body(n: &mut Numbers, x: &Field) -> Value {
+    let (mut g, mut h) = (x.g.clone(), x.h.clone());
+    if n.below(30) == 0 {
+        (g, h) = (padded(n, &g), padded(n, &h));
+    }
     let mut row = |length: u64, p: u64| -> Vec<u64> { (0..length).map(|_| n.below(p)).chain([1]).collect() };
     let (e0, e1, e2) = (row(2, x.p), row(1, x.p), row(0, x.p));
-    Value { p: x.p, period: 1 + n.below(1000000), lists: vec![x.g.clone(), x.h.clone(), e0, e1, e2] }
+    Value { p: x.p, period: 1 + n.below(1000000), lists: vec![g, h, e0, e1, e2] }
 }
 
 /// Bytes with a small fault: a byte changed, a number set, some missing or too many. Mostly none.
@@ -258,22 +277,30 @@ pub fn random(seed: u64, count: usize) -> (usize, usize) {
     t.done("books, random")
 }
 
-/// The body from the rows of a unit is the body from its lists, and other lengths of rows are refused.
-fn rows_agree(n: &mut Numbers, x: &Field) -> Verdict {
-    let c = n.below(40) as usize;
-    let (mut rows, mut scratch) = (vec![0; 6 * c], vec![0; 6 * c]);
-    let (_, period, _) = x.unit(300, &mut rows, &mut scratch);
-    let lists: Vec<Vec<u64>> = (0..3)
+/// The first three of six rows as lists, without the zeros at their end.
+pub fn lists_of(rows: &[u16]) -> Vec<Vec<u64>> {
+    let c = rows.len() / 6;
+    (0..3)
         .map(|k| {
             let mut l: Vec<u64> = rows[k * c..(k + 1) * c].iter().map(|&v| u64::from(v)).collect();
             l.truncate(l.iter().rposition(|&v| v != 0).map_or(0, |i| i + 1));
             l
         })
-        .collect();
+        .collect()
+}
+
+/// The body from the rows of a unit is the body from its lists, and other lengths of rows are refused.
+fn rows_agree(n: &mut Numbers, x: &Field) -> Verdict {
+    let c = n.below(40) as usize;
+    let (mut rows, mut scratch) = (vec![0; 6 * c], vec![0; 6 * c]);
+    let (_, period, _) = x.unit(300, &mut rows, &mut scratch);
+    let lists = lists_of(&rows);
     let room = n.below(500) as usize;
     let (mut a, mut b) = (vec![0x5A; room], vec![0x5A; room]);
-    let (told, right) = (x.write_rows(period, &rows, &mut a), x.write(period, &lists, &mut b));
-    ensure(told == right && a == b, || format!("the rows tell {:?}, the lists {:?}, or other bytes", told, right))?;
+    let (said, after) = written(x, period, &lists, &a);
+    let (told, other) = (x.write_rows(period, &rows, &mut a), x.write(period, &lists, &mut b));
+    ensure(told == said && a == after, || format!("the rows tell {:?} for {:?}, or other bytes", told, said))?;
+    ensure(other == said && b == after, || format!("the lists tell {:?} for {:?}, or other bytes", other, said))?;
     if told.number == 0 && n.below(8) == 0 {
         let book = bound(&[a[..told.result as usize].to_vec()]);
         ensure(api::book_attest(&book, 0) == passed(1), || "a unit is not attested".into())?;
@@ -298,7 +325,8 @@ pub fn begun(seed: u64, count: usize) -> (usize, usize) {
         t.count(|| format!("room {}", room), ensure(told == said && d == after, || format!("beginning tells {:?}", told)));
     }
     for _ in 0..count {
-        let mut x = some_field(&mut n);
+        let x = some_field(&mut n);
+        let mut x = padded_field(&mut n, &x);
         if n.below(10) == 0 {
             x.p += 2;
         }

@@ -257,6 +257,11 @@ pub fn names(dir: &str) -> Vec<String> {
     names
 }
 
+/// Inputs and outputs of the lister, also those of request E1.
+fn of_lister(kind: &str) -> bool {
+    kind.strip_prefix("e1-").unwrap_or(kind).starts_with("lister")
+}
+
 /// What is run of a file, by its kind; nothing for an output that stands beside its input.
 fn job(path: String, kind: &str) -> Option<Job> {
     let case: fn(&str) -> Verdict = match kind {
@@ -274,9 +279,9 @@ fn job(path: String, kind: &str) -> Option<Job> {
         "periods.txt" => period_case,
         "pairs.txt" => pairs::pair_case,
         "e3-transfer.txt" => pairs::transfer_case,
-        "books.txt" | "e3-books.txt" => return Some(Box::new(move || books::file(&path))),
-        k if k.starts_with("lister") && k.ends_with(".in") => return Some(Box::new(move || lister::file(&path))),
-        k if k.starts_with("lister") && k.ends_with(".out") => return None,
+        "books.txt" | "e1e3-books.txt" => return Some(Box::new(move || books::file(&path))),
+        k if of_lister(k) && k.ends_with(".in") => return Some(Box::new(move || lister::file(&path))),
+        k if of_lister(k) && k.ends_with(".out") => return None,
         _ => {
             println!("{}: not known, skipped", path);
             return None;

@@ -5,6 +5,7 @@ use native.Mathlib.Omega.{arith}
 use lib.ListN.{length, length-replicate}
 use borrow.Author.Needs.{needs}
 use mathlib.Core.Bool.{Bool, true, false}
+use Rattle.field_open.specs.Padding.{unpad}
 use Rattle.basis_field.proofs.Known.{known-of}
 use Rattle.door_unit.specs.Fit.{Rule, Unfit}
 use Rattle.door_unit.proofs.Answering.{makes-refused, makes-bad, Ready, walked-at, makes-spent, makes-narrow, make-in, makes-made}
@@ -35,7 +36,7 @@ module _ (u : tie.After-unfit) where
   says e = subst Says e (u .unfit .ensures)
 
   ready : u .unfit .result ≡ false → let a = u .before .before .before .before .before .before .before .args in
-      Ready (a .p) (a .g .now) (a .h .now) (a .budget) (a .rows .now) (a .scratch .now) (u .before .before .open-with-series .result)
+      Ready (a .p) (unpad (a .g .now)) (unpad (a .h .now)) (a .budget) (a .rows .now) (a .scratch .now) (u .before .before .open-with-series .result)
   ready e = record { opens = u .before .before .open-with-series .ensures; zero = u .before .if1 .left; rule = says e }
 
 returns-2 : tie.Need-returns-2
