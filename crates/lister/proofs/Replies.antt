@@ -1,5 +1,6 @@
 -- The answer to a line, from what `parse` answers.
 --   read-as      what a line that reads left in the slices; lent-G, lent-H: its lists are within them
+--   told-front   what `unit` answers, printed behind the fronts that the two lists stand for, is the answer to the field
 --   told-read    the answer to a line that reads
 --   told-not     the answer to a line that does not
 use mathlib.Core.Path.{_≡_, ap, _∙_, subst}
@@ -9,13 +10,23 @@ use native.Mathlib.Omega.{arith}
 use lib.ListN.{length, take, drop, length-append}
 use lib.Seq.{take-at}
 use Rattle.base_lists.specs.Pieces.{Put}
-use Rattle.text_put.specs.Print.{refused-text}
+use Rattle.base_lists.proofs.Paddings.{fronts}
+use Rattle.text_put.specs.Print.{line-text, refused-text}
 use Rattle.text_read.specs.Tells.{ReadAs, ParseTells}
 use Rattle.text_read.specs.declared.Line.{Line}
 use Rattle.text_read.specs.declared.Parsed.{Parsed}
 use Rattle.text_read.specs.declared.Parsed.the-variants.{Read, Malformed}
 use Rattle.text_read.proofs.Answers.{malformed-means}
-use Rattle.lister.specs.Listing.{malformed, read, Told, Answer}
+use Rattle.field_open.specs.Padding.{unpad, Unpadded}
+use Rattle.door_unit.specs.declared.UnitAnswer.{UnitAnswer}
+use Rattle.door_unit.specs.Unit.{Makes}
+use Rattle.lister_print.specs.Text.{made-text}
+use Rattle.lister.specs.Listing.{budget, blank, malformed, read, Told, Answer}
+
+pub told-front : {p : ℕ} {g h : List ℕ} {n k : ℕ} {m : UnitAnswer} {rows scratch d : List ℕ} {at r : ℕ} {d' : List ℕ} → Makes p (unpad g) (unpad h) budget blank blank m rows scratch
+    → Unpadded g n → Unpadded h k → Put d at (made-text (line-text p (take n g) (take k h)) m rows) r d' → Told p g h d at r d'
+told-front {p} {m = m} {rows} {scratch} {d} {at} {r} {d'} x a b w =
+    record { m = m; rows = rows; scratch = scratch; makes = x; put = fronts (λ G H. Put d at (made-text (line-text p G H) m rows) r d') a b w }
 
 pub read-as : {line g h g' h' : List ℕ} {r : Parsed} {l : Line} → r ≡ Read l → ParseTells line g h r g' h' → ReadAs line g h (l .p) (l .ng) (l .nh) g' h'
 read-as {line} {g} {h} {g'} {h'} e t = subst (λ z. ParseTells line g h z g' h') e t

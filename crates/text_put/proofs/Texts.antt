@@ -1,6 +1,6 @@
 -- Numbers and lists as they are put into a slice.
 --   put-small, put-tens    a number of one digit; a number's tens, then its last digit
---   list-none, list-first, list-more, list-all   a list put number by number
+--   list-none              a list of no numbers
 --   Along, along-start, along-more, along-put, along-end   a loop over a list that puts its numbers, of whatever width they are
 --   line-put               a field p;G;H
 --   refused-put            the answer `refused n`
@@ -48,11 +48,11 @@ unfolding list-text join
 list-none [] {d} {at} h = placed-none (length d) d at
 list-none (a ∷ l) h = absurd (omega arith)
 
-pub list-first : (l : List ℕ) {d : List ℕ} {at r : ℕ} {d' : List ℕ} → 0 < length l → Put d at (number-text (getD l 0 0)) r d' → Put d at (list-text (take 1 l)) r d'
+list-first : (l : List ℕ) {d : List ℕ} {at r : ℕ} {d' : List ℕ} → 0 < length l → Put d at (number-text (getD l 0 0)) r d' → Put d at (list-text (take 1 l)) r d'
 list-first [] h a = absurd (omega arith)
 list-first (n ∷ l) {d} {at} {r} {d'} h a = subst (λ (x : List ℕ). Put d at x r d') (sym (one-text n)) a
 
-pub list-more : (l : List ℕ) (i : ℕ) {d : List ℕ} {at r : ℕ} {d' : List ℕ} {q : ℕ} {e : List ℕ} {u : ℕ} {f : List ℕ} → 0 < i → i < length l
+list-more : (l : List ℕ) (i : ℕ) {d : List ℕ} {at r : ℕ} {d' : List ℕ} {q : ℕ} {e : List ℕ} {u : ℕ} {f : List ℕ} → 0 < i → i < length l
     → Put d at (list-text (take i l)) r d' → Put d' r (comma ∷ []) q e → Put e q (number-text (getD l i 0)) u f
     → Put d at (list-text (take (i + 1) l)) u f
 list-more l i {d} {at} {r} {d'} {q} {e} {u} {f} pos h a b c =
@@ -63,23 +63,25 @@ list-more l i {d} {at} {r} {d'} {q} {e} {u} {f} pos h a b c =
     subst (λ (x : List ℕ). Put d at x u f) (sym t)
     (put-then d at (list-text (take i l)) r d' (comma ∷ number-text (getD l i 0)) u f a (put-then d' r (comma ∷ []) q e (number-text (getD l i 0)) u f b c))
 
-pub list-all : (l : List ℕ) (i : ℕ) {d : List ℕ} {at r : ℕ} {d' : List ℕ} → length l ≤ i → Put d at (list-text (take i l)) r d' → Put d at (list-text l) r d'
+list-all : (l : List ℕ) (i : ℕ) {d : List ℕ} {at r : ℕ} {d' : List ℕ} → length l ≤ i → Put d at (list-text (take i l)) r d' → Put d at (list-text l) r d'
 list-all l i h a = rw (take-all i l) at a
 
 -- ---- the loop's invariant: the first i numbers are put, and i is not 0. It is said from the state after the first number on, where the loop starts
-abbrev pub Along : List ℕ → List ℕ → ℕ → List ℕ → ℕ → ℕ → Type 0
-Along l out₀ to₀ out to i =
-    (0 < i) × (i ≤ length l) × ((d : List ℕ) (a : ℕ) → Put d a (list-text (take 1 l)) to₀ out₀ → Put d a (list-text (take i l)) to out)
+pub record Along (l out₀ : List ℕ) (to₀ : ℕ) (out : List ℕ) (to i : ℕ) : Type 0 where
+  pub some : 0 < i
+  pub inside : i ≤ length l
+  pub puts : (d : List ℕ) (a : ℕ) → Put d a (list-text (take 1 l)) to₀ out₀ → Put d a (list-text (take i l)) to out
 
-pub along-start : (l out : List ℕ) (to : ℕ) → 0 < length l → Along l out to out to 1
-along-start l out to h = (omega arith, omega arith, λ d a q. q)
+pub along-start : {l out : List ℕ} {to : ℕ} → 0 < length l → Along l out to out to 1
+along-start h = record { some = omega arith; inside = omega arith; puts = λ d a q. q }
 
 module _ {l out₀ : List ℕ} {to₀ : ℕ} {out : List ℕ} {to i : ℕ} (w : Along l out₀ to₀ out to i) where
-  pub along-more : {q : ℕ} {e : List ℕ} {u : ℕ} {f : List ℕ} → i < length l → Put out to (comma ∷ []) q e → Put e q (number-text (getD l i 0)) u f → Along l out₀ to₀ f u (i + 1)
-  along-more h b c = (omega arith, omega arith, λ d a q. list-more l i (w .0) h (w .2 d a q) b c)
+  pub along-more : {q : ℕ} {e : List ℕ} {u : ℕ} {f : List ℕ} → i < length l → Put out to (comma ∷ []) q e → Put e q (number-text (getD l i 0)) u f
+      → Along l out₀ to₀ f u (i + 1)
+  along-more h b c = record { some = omega arith; inside = omega arith; puts = λ d a q. list-more l i (w .some) h (w .puts d a q) b c }
 
   pub along-put : {d : List ℕ} {a : ℕ} → 0 < length l → Put d a (number-text (getD l 0 0)) to₀ out₀ → Put d a (list-text (take i l)) to out
-  along-put {d} {a} h q = w .2 d a (list-first l h q)
+  along-put {d} {a} h q = w .puts d a (list-first l h q)
 
   pub along-end : {d : List ℕ} {a : ℕ} → 0 < length l → length l ≤ i → Put d a (number-text (getD l 0 0)) to₀ out₀ → Put d a (list-text l) to out
   along-end h k q = list-all l i k (along-put h q)

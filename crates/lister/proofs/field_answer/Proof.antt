@@ -1,5 +1,7 @@
--- `lister::field_answer` meets its contract.
+-- `lister::field_answer` meets its contract: what `unit` answers, printed behind the fronts that the two lists stand for.
 use borrow.Author.Needs.{needs}
+use Rattle.base_lists.proofs.Paddings.{unpadded-length}
+use Rattle.lister.proofs.Replies.{told-front}
 use Rattle.lister.proofs.field_answer.Statement.{statement}
 use Rattle.lister.proofs.field_answer.Tie as tie
 
@@ -12,6 +14,18 @@ slice-aggregate-unit-2 c = search needs
 unit-requires : tie.Need-unit-requires
 unit-requires c κs = search needs
 
+unpadded-requires : tie.Need-unpadded-requires
+unpadded-requires c κs = search needs
+
+unpadded-requires-2 : tie.Need-unpadded-requires-2
+unpadded-requires-2 c κs = search needs
+
+slice-aggregate-put-made : tie.Need-slice-aggregate-put-made
+slice-aggregate-put-made c = unpadded-length (c .before .before .before .unpadded .ensures)
+
+slice-aggregate-put-made-2 : tie.Need-slice-aggregate-put-made-2
+slice-aggregate-put-made-2 c = unpadded-length (c .before .before .before .unpadded2 .ensures)
+
 put-made-requires : tie.Need-put-made-requires
 put-made-requires c κs = search needs
 
@@ -19,7 +33,10 @@ same-length : tie.Need-same-length
 same-length c = search needs
 
 returns : tie.Need-returns
-returns c = record { m = _; rows = _; scratch = _; makes = (c .before .before .before .before .before .before .before .unit .ensures); put = (c .before .before .put-made .ensures) }
+returns c =
+    let s2 = c .before .before in
+    let s7 = s2 .before .before .before .before .before in
+    told-front (s7 .before .before .before .before .unit .ensures) (s7 .before .unpadded .ensures) (s7 .unpadded2 .ensures) (s2 .put-made .ensures)
 
 pub field-answer-spec : {M : Type 1} → statement M
 field-answer-spec =
@@ -28,6 +45,10 @@ field-answer-spec =
     slice-aggregate-unit
     slice-aggregate-unit-2
     unit-requires
+    unpadded-requires
+    unpadded-requires-2
+    slice-aggregate-put-made
+    slice-aggregate-put-made-2
     put-made-requires
     same-length
     returns)

@@ -1,4 +1,5 @@
 -- `lister_print::put_made` meets its contract.
+use Rattle.text_put.specs.Print.{line-text}
 use Rattle.lister_print.proofs.Prints.{refusal-put, unit-put}
 use borrow.Author.Needs.{needs}
 use Rattle.lister_print.proofs.put_made.Statement.{statement}
@@ -16,11 +17,11 @@ same-length c = search needs
 returns : tie.Need-returns
 returns c =
     let at4 = c .before .before .before .before in
-    let at7 = at4 .before .before .before in
-    refusal-put (at7 .args .line .now) (at7 .args .m) (at7 .args .rows .now) (at4 .if1 .taken) (c .before .before .put-refused .ensures)
+    let a = at4 .before .before .before .before .args in
+    refusal-put (line-text (a .p) (a .g .now) (a .h .now)) (a .m) (a .rows .now) (at4 .if1 .taken) (c .before .before .put-refused .ensures)
 
-put-bytes-requires : tie.Need-put-bytes-requires
-put-bytes-requires c κs = search needs
+put-field-requires : tie.Need-put-field-requires
+put-field-requires c κs = search needs
 
 put-count-requires : tie.Need-put-count-requires
 put-count-requires c κs = search needs
@@ -40,8 +41,8 @@ returns-2 c =
     let at11 = at7 .before .before .before .before in
     let at15 = at11 .before .before .before .before in
     let at19 = at15 .before .before .before .before in
-    let at22 = at19 .before .before .before in
-    unit-put (at22 .args .line .now) (at22 .args .m) (at22 .args .rows .now) _ _ _ _ _ _ _ _ _ _ (at19 .if1 .left) (at15 .put-bytes .ensures)
+    let a = at19 .before .before .before .before .args in
+    unit-put (line-text (a .p) (a .g .now) (a .h .now)) (a .m) (a .rows .now) _ _ _ _ _ _ _ _ _ _ (at19 .if1 .left) (at15 .put-field .ensures)
     (at11 .put-count .ensures) (at7 .put-count2 .ensures) (c .before .before .put-rows .ensures)
 
 pub put-made-spec : {M : Type 1} → statement M
@@ -52,7 +53,7 @@ put-made-spec =
     put-refused-requires
     same-length
     returns
-    put-bytes-requires
+    put-field-requires
     put-count-requires
     put-count-requires-2
     put-rows-requires
