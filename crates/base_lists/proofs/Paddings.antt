@@ -44,8 +44,8 @@ pub unpad-again : (room : ℕ) (l : List ℕ) → unpad room (unpad room l) ≡ 
 unpad-again room l = elim (decLt room (length l)) [
   | yes h ↦ let e = unpad-long room l h in ap (unpad room) e ∙ unpad-short room [] (omega arith) ∙ sym e
   | no h ↦
-    let e = unpad-short room l (omega arith) in
-    ap (unpad room) e ∙ unpad-short room (trim l) (omega (arith, trim-fits l)) ∙ tight (trim l) (trim-last l) ∙ sym e
+      let e = unpad-short room l (omega arith) in
+      ap (unpad room) e ∙ unpad-short room (trim l) (omega (arith, trim-fits l)) ∙ tight (trim l) (trim-last l) ∙ sym e
 ]
 
 pub unpad-list : {room most p : ℕ} {l : List ℕ} {d : ℕ} → most ≤ room → Coefficients most p l d → unpad room l ≡ l

@@ -9,6 +9,7 @@ use native.Mathlib.Decide.{ℕ-discrete}
 use lib.ListN.{length, getD, take, drop, length-append, length-replicate, List·getD-append}
 use lib.Seq.{take-at}
 use Rattle.base_answers.specs.Said.{Said}
+use Rattle.field_open.specs.Padding.{unpad}
 use Rattle.field_open.specs.declared.FieldAnswer.{FieldAnswer}
 use Rattle.field_open.proofs.Stages as stages
 use Rattle.field_open.proofs.Door.{door-out}
@@ -256,9 +257,9 @@ line-numbered (listing.malformed f) (answers g) = absurd (g 12 refl)
 line-numbered (listing.read p G H m rows scratch r h) (refuses n e) = go (ℕ-discrete (m .refusal) 0)
   where
     go : Dec (m .refusal ≡ 0) → Numbered 8 (10 ∷ 11 ∷ 12 ∷ []) n
-    go (yes z) = absurd (made-not p G H m rows (reads-below r .0) z n e)
+    go (yes z) = absurd (made-not p (unpad G) (unpad H) m rows (reads-below r .0) z n e)
     go (no f) =
-        let k = refused-unique n (m .refusal) (sym e ∙ made-refused (line-text p G H) m rows f) in
+        let k = refused-unique n (m .refusal) (sym e ∙ made-refused (line-text p (unpad G) (unpad H)) m rows f) in
         subst (Numbered 8 (10 ∷ 11 ∷ 12 ∷ [])) (sym k) (line-unit m h)
 line-numbered (listing.read p G H m rows scratch r h) (answers g) = zero-of refl
 

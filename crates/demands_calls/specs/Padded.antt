@@ -43,23 +43,23 @@ use Rattle.text_put.specs.Print.{line-text, refused-text}
 use Rattle.text_read.specs.Grammar.{Reads}
 use Rattle.lister.specs.Listing.{Lists}
 
-abbrev pub Stand : List ℕ → List ℕ → Type 0
-Stand l m = unpad l ≡ unpad m
+pub record Stand (l m : List ℕ) : Type 0 where
+  pub one : unpad l ≡ unpad m
 
-pub record PaddedLists : Type 0 where
+pub record PaddedLists : Type 1 where
   -- "accept zeros above the true degree, up to 32 entries"
   pub trimmed : (l : List ℕ) → length l ≤ entries → (unpad l ≡ trim l) × Stand l (trim l)
   pub longer : (l : List ℕ) → entries < length l → unpad l ≡ []
   pub padded : (l : List ℕ) (k : ℕ) → length l + k ≤ entries → Stand (l ++ replicate k 0) l
   -- the law between the padding check and the strict one: one degree, and refusal 3 in the words of the request
-  pub degree : {p : ℕ} → 0 < p → {l : List ℕ} {d : ℕ} → (Degree p (unpad l) d → Padded p l d) × (Padded p l d → Degree p (unpad l) d)
+  pub degree : {p : ℕ} → 0 < p → (l : List ℕ) {d : ℕ} → (Degree p (unpad l) d → Padded p l d) × (Padded p l d → Degree p (unpad l) d)
   pub three : {p : ℕ} → 0 < p → (l : List ℕ) → (Fault3 p (unpad l) → NoPadded p l) × (NoPadded p l → Fault3 p (unpad l))
   pub strict : {p : ℕ} {G H : List ℕ} → Accepted p G H → (unpad G ≡ G) × (unpad H ≡ H)
   -- whatever is promised of the one pair of lists is promised of the other
   pub any : {G H G′ H′ : List ℕ} → Stand G G′ → Stand H H′ → (C : List ℕ → List ℕ → Type 0) → C (unpad G) (unpad H) → C (unpad G′) (unpad H′)
   -- "Everything above it then uses the trimmed list": one answer
   pub refusal-same :
-      {p : ℕ} {G H G′ H′ : List ℕ} (m n : ℕ) → Stand G G′ → Stand H H′ →
+      (p : ℕ) {G H G′ H′ : List ℕ} (m n : ℕ) → Stand G G′ → Stand H H′ →
       Refusal p (unpad G) (unpad H) m → Refusal p (unpad G′) (unpad H′) n →
       m ≡ n
   pub open-same :
@@ -123,13 +123,13 @@ pub record PaddedLists : Type 0 where
       t ≡ t′
   -- the trimmed lists are what an opened field keeps, what "the lister prints", and what "writing a body trims first" writes
   pub kept :
-      {p : ℕ} {G H : List ℕ} (o : FieldAnswer) → Opens p (unpad G) (unpad H) o → o .refusal ≡ 0 →
+      {p : ℕ} (G H : List ℕ) (o : FieldAnswer) → Opens p (unpad G) (unpad H) o → o .refusal ≡ 0 →
       (o .field .g ≡ pad (trim G)) × (o .field .h ≡ pad (trim H))
   pub printed :
       {line t : List ℕ} {p : ℕ} {G H : List ℕ} → Reads line p G H → Lists line t →
       ((n : ℕ) × (t ≡ refused-text n)) ⊎ ((rest : List ℕ) × (t ≡ line-text p (trim G) (trim H) ++ rest))
   pub written :
-      {p u : ℕ} {G H a b c d d′ : List ℕ} {x : Said} →
+      {p u : ℕ} (G H : List ℕ) {a b c d d′ : List ℕ} {x : Said} →
       WriteTells (bodyFrom p (unpad G) (unpad H) u a b c) d x d′ → x .number ≡ 0 →
       bodyOf (take (x .result) d′) ≡ bodyFrom p (trim G) (trim H) u a b c
   -- "Bodies in a book stay strict": lists of an accepted body have no zero at the end

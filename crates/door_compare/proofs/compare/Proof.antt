@@ -51,9 +51,11 @@ returns-2 c =
     let u = c .before .before .before .before .before in
     let v = u .before .before in
     let a = v .before .before .before .before .before .before .before .before .args in
-    doors-goes (both-of (v .before .before .if1 .left) (v .before .before .before .refusal .ensures))
-    (refl, four (v .before .unpadded .ensures) (v .unpadded2 .ensures) (u .before .unpadded3 .ensures) (u .unpadded4 .ensures)
-    (λ g h k l. Decides (c .one-field .result) (OneField (a .p) g h k l)) (c .one-field .ensures))
+    doors-goes (both-of (v .before .before .if1 .left) (v .before .before .before .refusal .ensures)) (
+      refl,
+      four (v .before .unpadded .ensures) (v .unpadded2 .ensures) (u .before .unpadded3 .ensures) (u .unpadded4 .ensures)
+          (λ g h k l. Decides (c .one-field .result) (OneField (a .p) g h k l)) (c .one-field .ensures),
+    )
 
 pub compare-spec : {M : Type 1} → statement M
 compare-spec =
