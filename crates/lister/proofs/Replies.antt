@@ -1,6 +1,6 @@
 -- The answer to a line, from what `parse` answers.
---   read-as      what a line that reads left in the slices; lent-G, lent-H: its lists are within them
 --   told-front   what `unit` answers, printed behind the fronts that the two lists stand for, is the answer to the field
+--   read-as      what a line that reads left in the slices; lent-G, lent-H: its lists are within them
 --   told-read    the answer to a line that reads
 --   told-not     the answer to a line that does not
 use mathlib.Core.Path.{_≡_, ap, _∙_, subst}
@@ -23,9 +23,10 @@ use Rattle.door_unit.specs.Unit.{Makes}
 use Rattle.lister_print.specs.Text.{made-text}
 use Rattle.lister.specs.Listing.{budget, blank, malformed, read, Told, Answer}
 
-pub told-front : {p : ℕ} {g h : List ℕ} {n k : ℕ} {m : UnitAnswer} {rows scratch d : List ℕ} {at r : ℕ} {d' : List ℕ} → Makes p (unpad g) (unpad h) budget blank blank m rows scratch
-    → Unpadded g n → Unpadded h k → Put d at (made-text (line-text p (take n g) (take k h)) m rows) r d' → Told p g h d at r d'
-told-front {p} {m = m} {rows} {scratch} {d} {at} {r} {d'} x a b w =
+pub told-front : {p : ℕ} {g h : List ℕ} {n k : ℕ} {m : UnitAnswer} {rows scratch d : List ℕ} {at r : ℕ} {d' : List ℕ}
+    → Put d at (made-text (line-text p (take n g) (take k h)) m rows) r d' → Unpadded g n → Unpadded h k → Makes p (unpad g) (unpad h) budget blank blank m rows scratch
+    → Told p g h d at r d'
+told-front {p} {m = m} {rows} {scratch} {d} {at} {r} {d'} w a b x =
     record { m = m; rows = rows; scratch = scratch; makes = x; put = fronts (λ G H. Put d at (made-text (line-text p G H) m rows) r d') a b w }
 
 pub read-as : {line g h g' h' : List ℕ} {r : Parsed} {l : Line} → r ≡ Read l → ParseTells line g h r g' h' → ReadAs line g h (l .p) (l .ng) (l .nh) g' h'

@@ -1,4 +1,4 @@
--- Numbers and lists as they are put into a slice.
+-- Numbers, lists and fields as they are put into a slice.
 --   put-small, put-tens    a number of one digit; a number's tens, then its last digit
 --   list-none              a list of no numbers
 --   Along, along-start, along-more, along-put, along-end   a loop over a list that puts its numbers, of whatever width they are

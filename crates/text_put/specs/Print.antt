@@ -6,7 +6,7 @@
 --   line-text p G H   p;G;H
 --   refused-text n    refused n, and a newline
 -- A text is put into a lent slice by `Put` of crate base_lists; two outcomes are equal: `placed-unique` there (proofs/Puts).
--- Laws: proofs/Digits (a number by its last digit), proofs/Texts (numbers and lists put). Printing and reading are each other's inverse: Inverse and Writings of crate text_read.
+-- Laws: proofs/Digits (a number by its last digit), proofs/Texts (numbers, lists and fields put). Printing and reading are each other's inverse: Inverse and Writings of crate text_read.
 use mathlib.Core.Bool.{true, false}
 use mathlib.Core.List.{List, [], _∷_, _++_, map}
 use Prim.Native.Nat.{ℕ, zero, suc, _+_, _/_, _%_}

@@ -1,5 +1,5 @@
-// Bytes, numbers and lists put into a lent slice, one after the other. Each function returns the place after what it put; what does
-// not fit the slice is left out, and the place stops at the slice's end.
+// Bytes, numbers, lists and fields put into a lent slice, one after the other. Each function returns the place after what it put;
+// what does not fit the slice is left out, and the place stops at the slice's end.
 ghost use mathlib.Core.List.{[], _∷_};
 ghost use lib.ListN.{take};
 ghost use Rattle.base_lists.specs.Pieces.{Put};

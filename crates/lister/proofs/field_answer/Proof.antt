@@ -1,6 +1,8 @@
 -- `lister::field_answer` meets its contract: what `unit` answers, printed behind the fronts that the two lists stand for.
+use mathlib.Core.Path.{sym}
+use native.Mathlib.Omega.{arith}
+use lib.Seq.{length-take-le}
 use borrow.Author.Needs.{needs}
-use Rattle.base_lists.proofs.Paddings.{unpadded-length}
 use Rattle.lister.proofs.Replies.{told-front}
 use Rattle.lister.proofs.field_answer.Statement.{statement}
 use Rattle.lister.proofs.field_answer.Tie as tie
@@ -21,10 +23,10 @@ unpadded-requires-2 : tie.Need-unpadded-requires-2
 unpadded-requires-2 c κs = search needs
 
 slice-aggregate-put-made : tie.Need-slice-aggregate-put-made
-slice-aggregate-put-made c = unpadded-length (c .before .before .before .unpadded .ensures)
+slice-aggregate-put-made c = sym (length-take-le _ _ (omega (arith, c .before .before .before .unpadded .ensures .fits)))
 
 slice-aggregate-put-made-2 : tie.Need-slice-aggregate-put-made-2
-slice-aggregate-put-made-2 c = unpadded-length (c .before .before .before .unpadded2 .ensures)
+slice-aggregate-put-made-2 c = sym (length-take-le _ _ (omega (arith, c .before .before .before .unpadded2 .ensures .fits)))
 
 put-made-requires : tie.Need-put-made-requires
 put-made-requires c κs = search needs
@@ -36,7 +38,7 @@ returns : tie.Need-returns
 returns c =
     let s2 = c .before .before in
     let s7 = s2 .before .before .before .before .before in
-    told-front (s7 .before .before .before .before .unit .ensures) (s7 .before .unpadded .ensures) (s7 .unpadded2 .ensures) (s2 .put-made .ensures)
+    told-front (s2 .put-made .ensures) (s7 .before .unpadded .ensures) (s7 .unpadded2 .ensures) (s7 .before .before .before .before .unit .ensures)
 
 pub field-answer-spec : {M : Type 1} → statement M
 field-answer-spec =
