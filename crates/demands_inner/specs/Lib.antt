@@ -3,7 +3,7 @@
 --   num_mod        add_product, mod p: add-product-unique (Poly)
 --   num_power      inverse, cube_root: inverse-unique, cube-root-unique (num_power/proofs/Unique)
 --   num_prime      is_prime: is-prime-unique (Poly)
---   base_lists     list_length: list-unique (base_lists/proofs/Coefs)
+--   base_lists     list_length: list-unique (base_lists/proofs/Coefs); unpadded: unpadded-unique (base_lists/proofs/Paddings)
 --   base_answers   over_budget, over_longest, no_six_rows: over-unique, no-six-unique (base_answers/proofs/Limits)
 --   poly_rows      size_from, size: size-unique; from_list: from-list-unique; minus, mul: minus-unique, mul-unique (Poly)
 --   poly_cross     scale_in, cross_in: scale-in-unique, cross-in-unique (Poly)
@@ -17,7 +17,8 @@
 --   poly_mix       mix: mix-unique (Long)
 --   poly_products  times: times-unique (Long)
 --   poly_quotient  quotient, where there is one that fits: quotient-unique (Long)
---   field_open     list_length: list-unique (base_lists/proofs/Coefs); refusal: refusal-unique (field_open/proofs/Stages); open:
+--   field_open     list_length: list-unique (base_lists/proofs/Coefs); unpadded: unpadded-unique (base_lists/proofs/Paddings); refusal,
+--                  strict_refusal: refusal-unique (field_open/proofs/Stages); open:
 --                  opens-unique (field_open/proofs/Opening)
 --   field_next, field_pairs   next_pair, fill serve `grow` alone: grow-unique is of the whole
 --   field_fill     grow: grow-unique (Steps)
@@ -81,7 +82,7 @@
 --   book_parts     prime, period, list: prime-says-unique, period-says-unique, list-says-unique (book_parts/proofs/Once)
 --   book_rows      write_rows: rows-says-unique (book_rows/proofs/Once)
 --   book_place     ask: ask-says-unique (book_place/proofs/Once)
---   text_put       put_byte, put_bytes, put_number, put_list, put_refused: placed-unique (base_lists/proofs/Puts)
+--   text_put       put_byte, put_number, put_list, put_field, put_refused: placed-unique (base_lists/proofs/Puts)
 --   text_cut       next_line: cut-unique (text_cut/proofs/Steps)
 --   text_number    number, list_size: number-unique, size-unique (text_number/proofs/Answers)
 --   text_read      parse: parse-unique (text_read/proofs/Answers)
