@@ -1,3 +1,4 @@
 pub mod Tests
 pub mod Stages
 pub mod Limits
+pub mod Said

@@ -1,9 +1,11 @@
 -- What the tests of the limits say, and that the number settles their answer.
 use mathlib.Core.Path.{_≡_, refl, subst}
 use mathlib.Core.Bool.{Bool, true, false}
-use Prim.Native.Nat.{ℕ, _≤_, _<_}
+use mathlib.Core.List.{List}
+use Prim.Native.Nat.{ℕ, _*_, _/_, _≤_, _<_}
 use native.Mathlib.Omega.{arith}
-use Rattle.base_answers.specs.Limits.{Over, SixRows, NoSixRows}
+use lib.ListN.{length}
+use Rattle.base_answers.specs.Limits.{longest, Over, SixRows, NoSixRows, Six}
 
 pub over-yes : {m n : ℕ} {r : Bool} → Over m n r → r ≡ true → m < n
 over-yes {m} {n} o e = subst (Over m n) e o
@@ -28,3 +30,13 @@ no-six-unique n true true o q = refl
 no-six-unique n false false o q = refl
 no-six-unique n true false o q = absurd (o q)
 no-six-unique n false true o q = absurd (q o)
+
+-- ---- a list of six rows
+pub six-at : (l : List ℕ) → SixRows (length l) → Six (length l / 6) l
+six-at l (a, b) = record { room = omega arith; whole = omega arith }
+
+pub six-none : (l : List ℕ) → (SixRows (length l) → ⊥) → (c : ℕ) → Six c l → ⊥
+six-none l f c t = let w : length l ≡ 6 * c = t .whole in let r : c ≤ longest = t .room in f (omega arith, omega arith)
+
+pub six-unique : {c c′ : ℕ} {l : List ℕ} → Six c l → Six c′ l → c ≡ c′
+six-unique {c} {c′} {l} x y = let e : length l ≡ 6 * c = x .whole in let f : length l ≡ 6 * c′ = y .whole in omega arith

@@ -5,12 +5,14 @@
 --   blank          119 zeros: the record beside a refusal
 --   Over m n r     r says whether n is over the limit m
 --   SixRows n      n is a length of six equal rows of at most 4,096 numbers; NoSixRows n r: r says whether it is none
--- In proofs/Limits.antt: `over-yes`, `over-no`, `six-of`, what an answer says; `over-unique`, `no-six-unique`, that the number settles it.
+--   Six c l        the list l is six rows of c numbers each, c at most 4,096: E0, E1, E2, F0, F1, F2
+-- In proofs/Limits.antt: `over-yes`, `over-no`, `six-of`, what an answer says; `over-unique`, `no-six-unique`, that the number settles it;
+-- `six-at`, `six-none`, a list is six rows exactly where its length is one of theirs; `six-unique`, in one way.
 use mathlib.Core.Path.{_≡_}
 use mathlib.Core.Bool.{Bool, true, false}
 use mathlib.Core.List.{List}
-use Prim.Native.Nat.{ℕ, _%_, _≤_, _<_}
-use lib.ListN.{replicate}
+use Prim.Native.Nat.{ℕ, _*_, _%_, _≤_, _<_}
+use lib.ListN.{length, replicate}
 
 abbrev pub most : ℕ
 most = 1000000
@@ -35,3 +37,7 @@ SixRows n = (n % 6 ≡ 0) × (n ≤ longest-six)
 abbrev pub NoSixRows : ℕ → Bool → Type 0
 NoSixRows n true = SixRows n → ⊥
 NoSixRows n false = SixRows n
+
+pub record Six (c : ℕ) (l : List ℕ) : Type 0 where
+  pub room : c ≤ longest
+  pub whole : length l ≡ 6 * c

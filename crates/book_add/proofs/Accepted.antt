@@ -9,6 +9,7 @@ use lib.Seq.{getD-append-seam, length-take-le, take-at}
 use Rattle.book_bytes.specs.Bytes.{le, Bytes}
 use Rattle.book_bytes.proofs.Read.{length-le2, length-le4}
 use Rattle.base_answers.specs.Said.{Said}
+use Rattle.base_answers.proofs.Said.{number-of}
 use Rattle.book_body.specs.Body.{Body, Rule, FieldSays, OneField, bodyOf, Finished}
 use Rattle.book_check.specs.Book.{mark, width, count, lengthAt, entry, Accepted}
 use Rattle.book_check.specs.Value.{bookBytes, valueOf, none, at, Obeys}
@@ -98,9 +99,6 @@ module _ (s b : List ℕ) (bs : Bytes s) (bb : Bytes b) (a : Accepted s) (f : Fi
 
 -- ---- the theorem
 module _ (d : List ℕ) (n : ℕ) (b : List ℕ) (bd : Bytes d) (bb : Bytes b) where
-  number-of : {x y : Said} → x ≡ y → x .number ≡ y .number
-  number-of = ap (λ (z : Said). z .number)
-
   -- the bytes of the new length at the front of the slice, where nothing was refused
   pub added-accepted : {x : Said} {e : List ℕ} → AddTells d n b x e → x .number ≡ 0
       → Accepted (take (newLength n b) e) × (valueOf (take (newLength n b) e) ≡ valueOf (take n d) ++ (bodyOf b ∷ []))

@@ -4,6 +4,7 @@ use mathlib.Core.List.{List}
 use Prim.Native.Nat.{ℕ, _<_}
 use native.Mathlib.Omega.{arith}
 use Rattle.base_answers.specs.Said.{Said, passed, refused}
+use Rattle.base_answers.proofs.Said.{number-of}
 use Rattle.book_body.specs.Body.{bodyOf, Finished}
 use Rattle.book_check.specs.Book.{count, part, Accepted}
 use Rattle.book_check.specs.Answer as asking
@@ -14,9 +15,6 @@ use Rattle.book_check.specs.declared.Request.{Request}
 use Rattle.book_check.specs.declared.Request.the-variants as asked
 use Rattle.book_norm.specs.Attested.{Attested}
 use Rattle.book_attest.specs.Attest.{AttestTells, book, no-entry, yes, no}
-
-number-of : {x y : Said} → x ≡ y → x .number ≡ y .number
-number-of = ap (λ (z : Said). z .number)
 
 module _ (s : List ℕ) (i : ℕ) where
   pub finished-part : (b : List ℕ) → b ≡ part s i → Accepted s × (i < count s) → Finished b

@@ -4,6 +4,7 @@ use mathlib.Core.List.{List, []}
 use Prim.Native.Nat.{ℕ, _<_}
 use native.Mathlib.Omega.{arith}
 use Rattle.base_answers.specs.Said.{Said}
+use Rattle.base_answers.proofs.Said.{number-of}
 use Rattle.book_check.specs.Book.{Accepted, count}
 use Rattle.book_check.specs.Answer.{reasonSays, answerSays, requestSays, Tells, AskTells, AskedPart, book, no-entry, there, empty}
 use Rattle.book_contents.specs.Contents.{Ready}
@@ -14,9 +15,6 @@ use Rattle.book_check.specs.declared.Answer.{Answer}
 use Rattle.book_check.specs.declared.Answer.the-variants.{Yes, Refused}
 use Rattle.book_check.specs.declared.Request.{Request}
 use Rattle.book_check.specs.declared.Request.the-variants as asked
-
-number-of : {x y : Said} → x ≡ y → x .number ≡ y .number
-number-of = ap (λ (z : Said). z .number)
 
 module _ (s : List ℕ) where
   pub yes-of : (r : Answer) → r ≡ Yes → Tells s (answerSays r) → Accepted s

@@ -8,6 +8,7 @@ use native.Mathlib.Omega.{arith}
 use lib.ListN.{length, getD, take, drop}
 use lib.Seq.{ext-getD, getD-take, length-take-le}
 use Rattle.base_answers.specs.Said.{Said}
+use Rattle.base_answers.proofs.Said.{number-of}
 use Rattle.book_body.specs.Body.{FieldSays, OneField, bodyOf, Formed}
 use Rattle.book_check.specs.Book.{mark, Marked, Listed, count, startAt, lengthAt, ends, part, entry, Sound, Accepted}
 use Rattle.book_check.specs.Answer as says
@@ -66,9 +67,6 @@ body-thirteen (says.field g n h o e) = ap (λ (x : Said). x .number) e
 pub fault-thirteen : {s : List ℕ} {i : ℕ} {x : Said} → Fault s i x → x .number ≡ 13
 fault-thirteen (says.body f) = body-thirteen f
 fault-thirteen (says.twice g o j h k l e) = ap (λ (x : Said). x .number) e
-
-number-of : {x y : Said} → x ≡ y → x .number ≡ y .number
-number-of = ap (λ (z : Said). z .number)
 
 -- an answer of 0 says that the book is accepted
 pub told-fine : {s : List ℕ} {x : Said} → Tells s x → x .number ≡ 0 → Accepted s

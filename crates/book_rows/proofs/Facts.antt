@@ -10,12 +10,12 @@ use Rattle.base_lists.specs.Pieces.{Written}
 use Rattle.base_lists.specs.Coefficients.{Size, trim}
 use Rattle.base_lists.proofs.Puts.{written-none, front-is, front-count}
 use Rattle.base_lists.proofs.Trims.{trim-size, trim-length}
-use Rattle.base_answers.specs.Limits.{SixRows, NoSixRows}
-use Rattle.base_answers.proofs.Limits.{no-six}
+use Rattle.base_answers.specs.Limits.{SixRows, NoSixRows, Six}
+use Rattle.base_answers.proofs.Limits.{no-six, six-none}
 use Rattle.base_answers.specs.Said.{Said, refused}
 use Rattle.field_open.specs.Refusal.{Refusal}
 use Rattle.book_write.specs.Write.{bodyFrom, WriteTells}
-use Rattle.book_rows.specs.Rows.{Six, rowOf, field, unfit, RowsSays}
+use Rattle.book_rows.specs.Rows.{rowOf, field, unfit, RowsSays}
 use Rattle.book_rows.specs.Code.{Widened}
 
 pub none-put : (d l : List ℕ) → Written d 0 (take 0 l) 0 0 d
@@ -27,12 +27,6 @@ row-put d l d' n i s e w =
     let g : take i l ≡ trim l = ap (λ k. take k l) e ∙ sym (trim-size l n s) in
     let h : n ≤ length l = s .fits in
     record { put = subst (λ k. Written d 0 (trim l) k i d') (sym f) (subst (λ x. Written d 0 x i i d') g w); within = omega arith }
-
-pub six-of : (l : List ℕ) → SixRows (length l) → Six (length l / 6) l
-six-of l s = let e = s .0 in let h = s .1 in record { room = omega arith; whole = omega arith }
-
-pub six-none : (l : List ℕ) → (SixRows (length l) → ⊥) → (c : ℕ) → Six c l → ⊥
-six-none l f c s = let h = s .room in let w = s .whole in f (omega arith, omega arith)
 
 -- ---- the slices that are handed on
 module _ {row d d' : List ℕ} {r : ℕ} (w : Widened row d r d') (h : length row ≤ length d) where

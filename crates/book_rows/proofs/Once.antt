@@ -5,15 +5,14 @@ use mathlib.Core.Logic.{_≢_}
 use mathlib.Core.List.{List}
 use Prim.Native.Nat.{ℕ}
 use native.Mathlib.Omega.{arith}
+use Rattle.base_answers.specs.Limits.{Six}
+use Rattle.base_answers.proofs.Limits.{six-unique}
 use Rattle.base_answers.specs.Said.{Said, refused}
 use Rattle.field_open.proofs.Stages.{refusal-unique}
 use Rattle.book_write.specs.Write.{WriteTells}
 use Rattle.book_write.proofs.One.{write-unique, write-kept}
 use Rattle.book_numbers.proofs.Same.{same-numbers}
-use Rattle.book_rows.specs.Rows.{Six, bodyOfRows, RowsTells, field, unfit, body, RowsSays}
-
-six-unique : {c k : ℕ} {l : List ℕ} → Six c l → Six k l → k ≡ c
-six-unique t u = let a = t .whole in let b = u .whole in omega arith
+use Rattle.book_rows.specs.Rows.{bodyOfRows, RowsTells, field, unfit, body, RowsSays}
 
 module _ {p : ℕ} {G H : List ℕ} {t : ℕ} {l d : List ℕ} where
   pub rows-unique : {x y : Said} {e f : List ℕ} → RowsTells p G H t l d x e → RowsTells p G H t l d y f → (x ≡ y) × (e ≡ f)
@@ -26,7 +25,7 @@ module _ {p : ℕ} {G H : List ℕ} {t : ℕ} {l d : List ℕ} where
   rows-unique (body c s o) (field r m k u v w) = absurd (r c s)
   rows-unique (body c s o) (unfit r u v w) = absurd (r c s)
   rows-unique {y = y} {f = f} (body c s o) (body k r u) =
-      write-unique (bodyOfRows p G H t c l) d o (subst (λ z. WriteTells (bodyOfRows p G H t z l) d y f) (six-unique s r) u)
+      write-unique (bodyOfRows p G H t c l) d o (subst (λ z. WriteTells (bodyOfRows p G H t z l) d y f) (six-unique r s) u)
 
   pub rows-kept : {x : Said} {e : List ℕ} → RowsTells p G H t l d x e → x .number ≢ 0 → e ≡ d
   rows-kept (field s n h o a b) f = b

@@ -1,5 +1,4 @@
 -- Writing a body from the rows of a unit.
---   Six c l            l has six rows of c numbers, c at most 4,096
 --   rowOf c at l       the row of c numbers from place `at` on, without the zeros at its end
 --   bodyOfRows         the body of p, G, H, the period and the first three of six rows
 --   RowsTells p G H t l d x d'   writing it into the slice d, which is d' then, says x: where l is not six such rows, refusals 1 to 8, then
@@ -14,16 +13,12 @@ use Prim.Native.Nat.{ℕ, _+_, _*_, _≤_}
 use lib.ListN.{length}
 use Rattle.base_lists.specs.Pieces.{piece}
 use Rattle.base_lists.specs.Coefficients.{trim}
-use Rattle.base_answers.specs.Limits.{longest}
+use Rattle.base_answers.specs.Limits.{Six}
 use Rattle.base_answers.specs.Said.{Said, refused}
 use Rattle.field_open.specs.Refusal.{Refusal}
 use Rattle.book_body.specs.Body.{Body}
 use Rattle.book_write.specs.Write.{bodyFrom, WriteTells}
 use Rattle.book_numbers.specs.Numbers.{numbers}
-
-pub record Six (c : ℕ) (l : List ℕ) : Type 0 where
-  pub room : c ≤ longest
-  pub whole : length l ≡ 6 * c
 
 abbrev pub rowOf : ℕ → ℕ → List ℕ → List ℕ
 rowOf c at l = trim (piece at c l)

@@ -2,7 +2,8 @@
 ghost use Prim.Native.Nat.{_≤_};
 ghost use lib.ListN.{length};
 ghost use Rattle.book_write.specs.Write.{wroteSays, WriteTells, Numbered};
-ghost use Rattle.book_rows.specs.Rows.{Six, bodyOfRows, RowsSays};
+ghost use Rattle.base_answers.specs.Limits.{Six};
+ghost use Rattle.book_rows.specs.Rows.{bodyOfRows, RowsSays};
 ghost use Rattle.book_rows.specs.Code.{Widened};
 ghost use Rattle.field_open.specs.Padding.{unpad};
 

@@ -9,16 +9,11 @@ use Prim.Native.Nat.{ℕ, _≤_}
 use native.Mathlib.Omega.{arith}
 use Rattle.field_open.proofs.Stages.{refusal-unique}
 use Rattle.base_answers.specs.Said.{Said, refused}
+use Rattle.base_answers.proofs.Said.{number-of, result-of}
 use Rattle.book_body.specs.Body.{Body, FieldSays}
 use Rattle.book_write.specs.Write.{wroteSays, WriteTells, Numbered, field, rule, short, done}
 use Rattle.book_write.specs.declared.Wrote.{Wrote}
 use Rattle.book_write.specs.declared.Wrote.the-variants.{Length, FieldRefused, RuleBroken, Short}
-
-number-of : {x y : Said} → x ≡ y → x .number ≡ y .number
-number-of = ap (λ (z : Said). z .number)
-
-result-of : {x y : Said} → x ≡ y → x .result ≡ y .result
-result-of = ap (λ (z : Said). z .result)
 
 pub write-kept : {b : Body} {d e : List ℕ} {x : Said} → WriteTells b d x e → x .number ≢ 0 → e ≡ d
 write-kept (field n h s p q) f = q

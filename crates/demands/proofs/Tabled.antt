@@ -8,6 +8,7 @@ use Prim.Native.Nat.{ℕ, _*_, _≤_, _<_}
 use native.Mathlib.Omega.{arith}
 use native.Mathlib.Decide.{ℕ-discrete}
 use lib.ListN.{length}
+use Rattle.base_answers.proofs.Limits.{six-unique}
 use Rattle.base_answers.specs.Limits.{most}
 use Rattle.math_valued.proofs.Degree.{has-unique}
 use Rattle.field_open.specs.Refusal.{Refusal, Accepted}
@@ -310,7 +311,7 @@ module _ (p : ℕ) (G H : List ℕ) where
     AtUnit = UnitTabled p G H n rows scratch
 
     same-c : {c c′ : ℕ} → unit.Lent c rows scratch n → unit.Lent c′ rows scratch n → c ≡ c′
-    same-c {c} {c′} x y = let e : length rows ≡ 6 * c = x .whole in let f : length rows ≡ 6 * c′ = y .whole in omega arith
+    same-c x y = six-unique (x .six) (y .six)
 
     -- what closes within the budget does not stay open
     not-open :

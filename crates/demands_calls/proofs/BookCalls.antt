@@ -7,6 +7,7 @@ use native.Mathlib.Omega.{arith}
 use lib.ListN.{length, take, drop, List·getD-append, length-append}
 use lib.Seq.{getD-append-seam, length-take-le, take-at, drop-at}
 use Rattle.base_answers.specs.Said.{Said, passed, refused}
+use Rattle.base_answers.proofs.Said.{number-of, result-of}
 use Rattle.door_unit.specs.declared.UnitAnswer.{UnitAnswer}
 use Rattle.door_unit.specs.Unit.{Makes}
 use Rattle.book_bytes.specs.Bytes.{Bytes}
@@ -29,12 +30,8 @@ use Rattle.book_put.specs.Code.{newLength}
 use Rattle.book_add.proofs.Front.{bytes-take}
 use Rattle.book_attest.specs.Attest.{AttestTells}
 use Rattle.demands_calls.specs.BookCalls.{listOf, Wrote, Grown, Returns, unitBody, BookCalls}
-use Rattle.demands_calls.proofs.Kept.{number-of}
 use Rattle.demands_calls.proofs.UnitBody.{unit-bookable}
 use Rattle.demands_calls.proofs.Bytes.{bytes-append, bytes-body, bytes-book}
-
-result-of : {x y : Said} → x ≡ y → x .result ≡ y .result
-result-of e = ap (λ (x : Said). x .result) e
 
 -- ---- written
 module _ (b : Body) (s : FieldSays b 0) (r : Rule b) where

@@ -11,6 +11,7 @@ use native.Mathlib.Omega.{arith}
 use lib.ListN.{length, take}
 use Rattle.base_lists.proofs.Puts.{take-put, placed-same}
 use Rattle.base_answers.specs.Said.{Said}
+use Rattle.base_answers.proofs.Said.{number-of}
 use Rattle.field_open.proofs.Door.{door-out}
 use Rattle.door_unit.specs.declared.UnitAnswer.{UnitAnswer}
 use Rattle.door_unit.specs.Unit as unit
@@ -23,9 +24,6 @@ use Rattle.text_read.specs.declared.Parsed.the-variants.{Read, Malformed}
 use Rattle.lister.specs.Listing as lister
 use Rattle.lister.specs.declared.Going.{Going}
 use Rattle.demands_calls.specs.Numbers.{parseSays}
-
-pub number-of : {x y : Said} → x ≡ y → x .number ≡ y .number
-number-of e = ap (λ (x : Said). x .number) e
 
 pub unit-kept : {p n : ℕ} {G H rows scratch rows′ scratch′ : List ℕ} (m : UnitAnswer) → unit.Makes p G H n rows scratch m rows′ scratch′
     → m .refusal ≢ 0 → (rows′ ≡ rows) × (scratch′ ≡ scratch)

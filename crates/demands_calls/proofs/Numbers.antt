@@ -59,7 +59,7 @@ use Rattle.demands_calls.specs.Numbers.{Numbered, Says, refuses, answers
 use Rattle.demands_calls.specs.Numbers.{refusal, open-field, series, open-series, order, check, step, walk, from-order, unit, pairs, compare, transfer}
 use Rattle.demands_calls.specs.Numbers.{book, ask, attest, list, write, add, parse, line, end}
 use Rattle.demands_calls.specs.Numbers.{order-c, step-c, walk-c, from-order-c, unit-c, one-field-c, book-c, ask-c, attest-c, begin-c, prime-c, period-c, list-c, rows-c, write-c, add-c}
-use Rattle.demands_calls.proofs.Kept.{number-of}
+use Rattle.base_answers.proofs.Said.{number-of}
 
 -- ---- the book
 zero-of : {k n : ℕ} {A : Type 0} → n ≡ 0 → (n ≤ k) ⊎ A
@@ -243,7 +243,7 @@ line-unit : {p : ℕ} {G H rows scratch : List ℕ} (m : UnitAnswer) → made.Ma
 line-unit {p} {G} {H} {rows} {scratch} m = door-out (λ k f l r. refused-of (omega arith) l (refused-number r)) (λ A. goes)
   where
     lent : made.Lent 1024 listing.blank listing.blank listing.budget
-    lent = record { room = omega arith; whole = length-replicate {A = ℕ} 6144 0; even = refl; budget = omega arith }
+    lent = record { six = record { room = omega arith; whole = length-replicate {A = ℕ} 6144 0 }; even = refl; budget = omega arith }
 
     goes : made.Goes p G H listing.budget listing.blank listing.blank m rows scratch → Numbered 8 (10 ∷ 11 ∷ 12 ∷ []) (m .refusal)
     goes (made.bad f r) = absurd (f 1024 lent)

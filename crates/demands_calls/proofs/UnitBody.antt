@@ -57,7 +57,7 @@ use Rattle.book_check.specs.Book as book
 use Rattle.book_attest.specs.Attest as attest
 use Rattle.book_norm.specs.Attested as judged
 use Rattle.demands_calls.specs.BookCalls.{unitBody, Bookable}
-use Rattle.demands_calls.proofs.Kept.{number-of}
+use Rattle.base_answers.proofs.Said.{number-of}
 
 -- ---- the theory: E0, E1, E2 of a unit of positive degree
 module _ (S : Setting) where
@@ -185,7 +185,7 @@ made-of {p} {n} {G} {H} {rows} {scratch} {rows′} {scratch′} m h z c e = door
         let a : 1 ≤ l = q .unit A B₀ st .closing .some in
         let t : m .period .0 ≡ l = r .period in
         let y : n ≤ 1000000 = b .budget in
-        let v : c₁ ≤ 4096 = b .room in
+        let v : c₁ ≤ 4096 = b .six .room in
         record {
           field = A;
           room = omega arith;

@@ -17,6 +17,7 @@ use Rattle.door_transfer.proofs.Back.{transfers-back}
 use Rattle.pair_answers.proofs.Alike as answers
 use Rattle.base_answers.specs.Decides.{Decides}
 use Rattle.base_answers.specs.Said.{Said, refused}
+use Rattle.base_answers.proofs.Said.{number-of}
 use Rattle.book_body.specs.Body as body
 use Rattle.book_check.specs.Book as book
 use Rattle.book_check.specs.Answer as says
@@ -32,9 +33,6 @@ yes-of false d a = absurd (d .no! refl a)
 compared : {p : ℕ} {G H G′ H′ : List ℕ} → Accepted p G H → Accepted p G′ H′ → (a : CompareAnswer) → pairs.Compares p G H G′ H′ a →
     OneField p G H G′ H′ → (a .refusal ≡ 0) × (a .same ≡ true)
 compared A A′ a h o = let (e, d) = doors-through (record { first = A; second = A′ }) h in (e, yes-of (a .same) d o)
-
-number-of : {x y : Said} → x ≡ y → x .number ≡ y .number
-number-of e = ap (λ (x : Said). x .number) e
 
 twice : (s : List ℕ) (x : Said) → says.Tells s x → (i j : ℕ) → i < book.count s → j < i → body.OneField (book.entry s i) (book.entry s j) → x .number ≡ 13
 twice s x (says.mark f e) i j h k o = number-of e

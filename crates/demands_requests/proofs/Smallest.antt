@@ -85,7 +85,7 @@ smallest-unit = record {
   unit-narrow = λ m h z c e A.
       let (c′, l, d, t, f, g) = unit-narrow _ _ _ _ _ _ _ _ m h z in
       let (B₀, st) = order-exists (setting A) in
-      let e′ = t .whole in
+      let e′ = t .six .whole in
       (d, closing-least (setting A) st (f A B₀ st .1), omega arith);
   closes = λ A B₀ st η inv h l. unit-closes (setting A) B₀ st η inv h l;
   least-unique = λ A. least-unique (setting A);

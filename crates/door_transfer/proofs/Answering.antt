@@ -9,8 +9,8 @@ use mathlib.Core.List.{List}
 use Prim.Native.Nat.{ℕ, _*_, _/_, _≤_}
 use native.Mathlib.Omega.{arith}
 use lib.ListN.{length, take}
-use Rattle.base_answers.specs.Limits.{longest, SixRows, NoSixRows}
-use Rattle.base_answers.proofs.Limits.{no-six, six-of}
+use Rattle.base_answers.specs.Limits.{NoSixRows, Six}
+use Rattle.base_answers.proofs.Limits.{no-six, six-of, six-at, six-none}
 use Rattle.pair_agree.specs.Answer.{Both, Pairs}
 use Rattle.pair_laws.specs.Rows.{straight, crossed}
 use Rattle.pair_agree.specs.declared.Pairing.{Pairing}
@@ -19,23 +19,16 @@ use Rattle.pair_agree.proofs.Outcomes.{apart-none}
 use Rattle.door_compare.proofs.Doors.{doors-goes}
 use Rattle.door_compare.proofs.Fronts.{four}
 use Rattle.field_open.specs.Padding.{unpad, Unpadded}
-use Rattle.door_transfer.specs.Transfer.{Lent, Goes, Transfers, unfit, carried}
+use Rattle.door_transfer.specs.Transfer.{Goes, Transfers, unfit, carried}
 use Rattle.pair_carry.specs.Code.{CarryAsks, Carried, CarriedSwapped}
 
 module _ {p : ℕ} {G H G′ H′ : List ℕ} (rows : List ℕ) (both : Both p G H G′ H′) where
-  -- six equal rows have one length
-  lent-rule : (c : ℕ) → Lent c rows → SixRows (length rows)
-  lent-rule c t = let w : length rows ≡ 6 * c = t .whole in let l : c ≤ longest = t .room in (omega arith, omega arith)
-
   pub too-long : {b : Bool} → NoSixRows (length rows) b → b ≡ true → Goes p G H G′ H′ rows 14 rows
-  too-long u f = unfit (λ c t o. no-six u f (lent-rule c t)) (record { number = refl; kept = refl })
+  too-long u f = unfit (λ c t o. six-none rows (no-six u f) c t) (record { number = refl; kept = refl })
 
   module _ {b : Bool} (u : NoSixRows (length rows) b) (f : b ≡ false) where
-    rule : SixRows (length rows)
-    rule = six-of u f
-
-    lent : Lent (length rows / 6) rows
-    lent = let (a, l) = rule in record { room = omega arith; whole = omega arith }
+    lent : Six (length rows / 6) rows
+    lent = six-at rows (six-of u f)
 
     pub carry-asks : CarryAsks p G H G′ H′ (length rows / 6) rows
     carry-asks = let t = both in record {

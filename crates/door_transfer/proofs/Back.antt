@@ -9,6 +9,8 @@ use Prim.Native.Nat as N
 use native.Mathlib.Nat.{mod-lt}
 use native.Mathlib.Omega.{arith}
 use lib.ListN.{length, getD}
+use Rattle.base_answers.specs.Limits.{Six}
+use Rattle.base_answers.proofs.Limits.{six-unique}
 use Rattle.math_ring.specs.Ring.{Ops}
 use Rattle.math_ring.proofs.Solve.{var, one, _:*_, hyp, solve-by}
 use Rattle.math_fp.specs.Fp.{Prime}
@@ -22,10 +24,9 @@ use Rattle.pair_agree.specs.Answer.{Both}
 use Rattle.pair_laws.proofs.Lists.{agree-sym, leading-not}
 use Rattle.pair_agree.proofs.Relation.{not-both, one-sym}
 use Rattle.door_compare.proofs.Doors.{doors-out, doors-through}
-use Rattle.door_transfer.specs.Transfer.{Lent, Goes, unfit, carried, Transfers}
+use Rattle.door_transfer.specs.Transfer.{Goes, unfit, carried, Transfers}
 use Rattle.pair_laws.proofs.Laws.{law-swap, law-back}
 use Rattle.door_transfer.proofs.Rows.{Three, six-ext, one-of}
-use Rattle.door_transfer.proofs.Once.{lent-unique}
 
 module _ (p : ℕ) (pr : Prime p) where
   abbrev ρ : Reading p
@@ -85,5 +86,5 @@ transfers-back p G H G′ H′ rows rows′ rows″ n h a b =
     back s (unfit u e) k = absurd (let q : 0 ≡ 14 = e .number in omega arith)
     back s (carried c t k m w) (unfit u e) = absurd (u c (record { room = t .room; whole = m ∙ t .whole }) (one-sym (one-of w)))
     back s (carried c t k m w) (carried c′ t′ k′ m′ w′) =
-        let lent : Lent c rows′ = record { room = t .room; whole = m ∙ t .whole } in
-        (k′, there-and-back s c rows rows′ rows″ (t .whole) (m′ ∙ m) h w (subst (λ q. RowsCarry p G′ H′ G H q rows′ rows″) (lent-unique t′ lent) w′))
+        let lent : Six c rows′ = record { room = t .room; whole = m ∙ t .whole } in
+        (k′, there-and-back s c rows rows′ rows″ (t .whole) (m′ ∙ m) h w (subst (λ q. RowsCarry p G′ H′ G H q rows′ rows″) (six-unique t′ lent) w′))

@@ -1,19 +1,16 @@
 -- One outcome for each input: the number and what the slice holds.
---   lent-unique         a slice has one number of numbers a row
 --   transfers-unique    two outcomes that meet `Transfers` are equal
 use mathlib.Core.Path.{_≡_, sym, _∙_, subst}
 use mathlib.Core.List.{List}
 use Prim.Native.Nat.{ℕ, _*_}
 use native.Mathlib.Omega.{arith}
 use lib.ListN.{length}
+use Rattle.base_answers.proofs.Limits.{six-unique}
 use Rattle.pair_laws.specs.Rows.{RowsCarry}
 use Rattle.pair_agree.specs.Answer.{Both}
 use Rattle.door_compare.proofs.Doors.{doors-unique}
-use Rattle.door_transfer.specs.Transfer.{Lent, Refused, Goes, unfit, carried, Transfers}
+use Rattle.door_transfer.specs.Transfer.{Refused, Goes, unfit, carried, Transfers}
 use Rattle.door_transfer.proofs.Rows.{one-of, rows-unique}
-
-pub lent-unique : {c c′ : ℕ} {rows : List ℕ} → Lent c rows → Lent c′ rows → c ≡ c′
-lent-unique {c} {c′} {rows} x y = let e : length rows ≡ 6 * c = x .whole in let f : length rows ≡ 6 * c′ = y .whole in omega arith
 
 pub transfers-unique : (p : ℕ) (G H G′ H′ rows : List ℕ) (n n′ : ℕ) (r r′ : List ℕ) → Transfers p G H G′ H′ rows n r → Transfers p G H G′ H′ rows n′ r′
     → (n ≡ n′) × (r ≡ r′)
@@ -27,4 +24,4 @@ transfers-unique p G H G′ H′ rows n n′ r r′ = doors-unique (λ k. refusa
     goes s (unfit u a) (carried c t k m w) = absurd (u c t (one-of w))
     goes s (carried c t k m w) (unfit u b) = absurd (u c t (one-of w))
     goes s (carried c t k m w) (carried c′ t′ k′ m′ w′) =
-        (k ∙ sym k′, rows-unique s c rows r r′ (t .whole) m m′ w (subst (λ q. RowsCarry p G H G′ H′ q rows r′) (lent-unique t′ t) w′))
+        (k ∙ sym k′, rows-unique s c rows r r′ (t .whole) m m′ w (subst (λ q. RowsCarry p G H G′ H′ q rows r′) (six-unique t′ t) w′))

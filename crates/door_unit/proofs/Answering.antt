@@ -9,7 +9,7 @@ use mathlib.Core.List.{List}
 use Prim.Native.Nat.{ℕ, _*_, _/_, _≤_, _<_}
 use native.Mathlib.Omega.{arith}
 use lib.ListN.{length}
-use Rattle.base_answers.specs.Limits.{longest}
+use Rattle.base_answers.proofs.Limits.{six-at, six-none}
 use Rattle.field_open.specs.Refusal.{Accepted}
 use Rattle.field_open.proofs.Door.{door-refused, door-goes}
 use Rattle.math_chain.specs.Chain.{Closing, Open}
@@ -34,13 +34,10 @@ use Rattle.door_unit.specs.Fit.{Rule}
 -- ---- lengths and budget
 module _ (rows scratch : List ℕ) (n : ℕ) where
   lent-of : Rule (length rows) (length scratch) n → Lent (length rows / 6) rows scratch n
-  lent-of (a, (b, c), d) = record { room = omega arith; whole = omega arith; even = a; budget = d }
+  lent-of (a, b, d) = record { six = six-at rows b; even = a; budget = d }
 
   lent-not : (Rule (length rows) (length scratch) n → ⊥) → (c : ℕ) → Lent c rows scratch n → ⊥
-  lent-not f c l =
-      let w : length rows ≡ 6 * c = l .whole in
-      let r : c ≤ longest = l .room in
-      f (l .even, (omega arith, omega arith), l .budget)
+  lent-not f c l = six-none rows (λ b. f (l .even, b, l .budget)) c (l .six)
 
 -- the walk from the order's record is the walk from the order
 module _ {p : ℕ} {G H B : List ℕ} (first : IsFirst p G H B) where
@@ -135,9 +132,9 @@ module _ {p : ℕ} {G H : List ℕ} {n : ℕ} {rows scratch : List ℕ} {e : Ope
             last = w .basis;
             closes = closed-q .closes;
             room = l;
-            most = lent-at .room;
+            most = lent-at .six .room;
           };
-          whole = lent-at .whole;
+          whole = lent-at .six .whole;
           even = lent-at .even;
         }
 

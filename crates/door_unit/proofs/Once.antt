@@ -6,6 +6,7 @@ use mathlib.Core.List.{List}
 use Prim.Native.Nat.{ℕ, _+_, _*_, _≤_}
 use native.Mathlib.Omega.{arith}
 use lib.ListN.{length}
+use Rattle.base_answers.proofs.Limits.{six-unique}
 use Rattle.field_open.specs.Refusal.{Accepted}
 use Rattle.field_open.proofs.Door.{door-unique}
 use Rattle.math_chain.proofs.Walk.{closing-unique}
@@ -52,9 +53,6 @@ module _ {p : ℕ} {G H : List ℕ} (A : Accepted p G H) where
       o A B₀ st _ _ B (k .some) l (k .chain) (k .closed)
 
   module _ (n : ℕ) (rows scratch : List ℕ) where
-    lent-unique : {c c′ : ℕ} → Lent c rows scratch n → Lent c′ rows scratch n → c ≡ c′
-    lent-unique {c} {c′} x y = let e : length rows ≡ 6 * c = x .whole in let f : length rows ≡ 6 * c′ = y .whole in omega arith
-
     goes-unique : (m m′ : UnitAnswer) (r r′ s s′ : List ℕ) → Goes p G H n rows scratch m r s → Goes p G H n rows scratch m′ r′ s′ → Same m m′ r r′ s s′
     goes-unique m m′ r r′ s s′ (bad a x) (bad b y) = refused-unique x y
     goes-unique m m′ r r′ s s′ (bad a x) (spent c t o y) = absurd (a c t)
@@ -67,13 +65,13 @@ module _ {p : ℕ} {G H : List ℕ} (A : Accepted p G H) where
     goes-unique m m′ r r′ s s′ (narrow c l d t u f k x) (bad b y) = absurd (b c t)
     goes-unique m m′ r r′ s s′ (narrow c l d t u f k x) (spent c′ t′ o y) = absurd (not-both u f o)
     goes-unique m m′ r r′ s s′ (narrow c l d t u f k x) (narrow c′ l′ d′ t′ u′ f′ k′ y) = refused-unique x y
-    goes-unique m m′ r r′ s s′ (narrow c l d t u f k x) (made c′ l′ d′ t′ u′ f′ k′ y) = let (a, b) = finds-unique f f′ in let e : c ≡ c′ = lent-unique t t′ in absurd (omega arith)
+    goes-unique m m′ r r′ s s′ (narrow c l d t u f k x) (made c′ l′ d′ t′ u′ f′ k′ y) = let (a, b) = finds-unique f f′ in let e : c ≡ c′ = six-unique (t .six) (t′ .six) in absurd (omega arith)
     goes-unique m m′ r r′ s s′ (made c l d t u f k x) (bad b y) = absurd (b c t)
     goes-unique m m′ r r′ s s′ (made c l d t u f k x) (spent c′ t′ o y) = absurd (not-both u f o)
-    goes-unique m m′ r r′ s s′ (made c l d t u f k x) (narrow c′ l′ d′ t′ u′ f′ k′ y) = let (a, b) = finds-unique f f′ in let e : c ≡ c′ = lent-unique t t′ in absurd (omega arith)
+    goes-unique m m′ r r′ s s′ (made c l d t u f k x) (narrow c′ l′ d′ t′ u′ f′ k′ y) = let (a, b) = finds-unique f f′ in let e : c ≡ c′ = six-unique (t .six) (t′ .six) in absurd (omega arith)
     goes-unique m m′ r r′ s s′ (made c l d t u f k x) (made c′ l′ d′ t′ u′ f′ k′ y) =
         let (a, b) = finds-unique f f′ in
-        let e : c ≡ c′ = lent-unique t t′ in
+        let e : c ≡ c′ = six-unique (t .six) (t′ .six) in
         let v : m .regulator .0 + m .regulator .0 ≡ d = x .regulator in
         let w : m′ .regulator .0 + m′ .regulator .0 ≡ d′ = y .regulator in
         record {

@@ -8,7 +8,7 @@ use mathlib.Core.Path.{_≡_}
 use mathlib.Core.List.{List}
 use Prim.Native.Nat.{ℕ, _+_, _*_, _<_, _≤_}
 use lib.ListN.{length, replicate}
-use Rattle.base_answers.specs.Limits.{most, longest}
+use Rattle.base_answers.specs.Limits.{most, Six}
 use Rattle.field_open.specs.Refusal.{Accepted}
 use Rattle.field_open.specs.Door.{Door}
 use Rattle.math_ideals.specs.Ideal.{Basis}
@@ -23,8 +23,7 @@ abbrev pub refusal : ℕ → UnitAnswer
 refusal n = record { refusal = n; period = record { 0 = 0 }; regulator = record { 0 = 0 } }
 
 pub record Lent (c : ℕ) (rows scratch : List ℕ) (n : ℕ) : Type 0 where
-  pub room : c ≤ longest
-  pub whole : length rows ≡ 6 * c
+  pub six : Six c rows
   pub even : length scratch ≡ length rows
   pub budget : n ≤ most
 

@@ -73,7 +73,7 @@ module _ (k : Input) (h : Hints) where
     finds-of A B₀ st = subst (λ x. (B : Basis (setting A)) × Closing (setting A) x (length (h .passed)) (total (h .start) (h .passed)) B) (start-is A B₀ st) (closing-is A)
 
     lent-of : (n : ℕ) → n ≤ most → (rows scratch : List ℕ) → length rows ≡ 6 * c → length scratch ≡ 6 * c → Lent c rows scratch n
-    lent-of n b rows scratch e f = record { room = leb→le c 4096 (q 1); whole = e; even = f ∙ sym e; budget = b }
+    lent-of n b rows scratch e f = record { six = record { room = leb→le c 4096 (q 1); whole = e }; even = f ∙ sym e; budget = b }
 
     -- the whole answer, once the case is known
     answer-of : (n : ℕ) (rows scratch : List ℕ) (m : UnitAnswer) (rows′ scratch′ : List ℕ) → Goes (k .p) (k .G) (k .H) n rows scratch m rows′ scratch′ → Makes (k .p) (k .G) (k .H) n rows scratch m rows′ scratch′

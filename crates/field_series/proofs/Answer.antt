@@ -1,5 +1,5 @@
 -- What `series` and `open_with_series` answer.
---   refused, wrong, done    the three outcomes of `series`; the filling has the fronts that the lists stand for
+--   refused, wrong, done    the three outcomes of `series`; front-done: the last from the fronts that the lists stand for
 --   opening, opened         what `with_series` asks of those fronts, and the opened field with its series
 --   answer-unique              two outcomes of one call of `series` are equal
 --   answer-kept             a refusal leaves both lists
@@ -34,6 +34,9 @@ module _ {p : ℕ} {G H r w : List ℕ} where
   pub wrong : {n : ℕ} → Refusal p G H n → n ≡ 0 → (Fits r w → ⊥) → Answer p G H r w r w 14
   wrong f z h = door-goes f z (unfit h (record { number = refl; kept = (refl, refl) }))
 
+  pub done : {r′ w′ : List ℕ} {n : ℕ} → Refusal p G H n → n ≡ 0 → Fits r w → Grown p G H r r′ w′ → Answer p G H r w r′ w′ 0
+  done f z h g = door-goes f z (filled h refl (g .size) (g .series))
+
   pub answer-unique : {n n′ : ℕ} (r₁ w₁ r₂ w₂ : List ℕ) → Answer p G H r w r₁ w₁ n → Answer p G H r w r₂ w₂ n′ → (n ≡ n′) × (r₁ ≡ r₂) × (w₁ ≡ w₂)
   answer-unique {n} {n′} r₁ w₁ r₂ w₂ = door-unique (λ k. refusals) goes
     where
@@ -54,8 +57,9 @@ module _ {p : ℕ} {G H r w : List ℕ} where
       goes (filled g e s t) = absurd (f e)
 
 module _ {p : ℕ} {G H : List ℕ} {i j : ℕ} (a : Unpadded G i) (b : Unpadded H j) where
-  pub done : {r w r′ w′ : List ℕ} {n : ℕ} → Refusal p (unpad G) (unpad H) n → n ≡ 0 → Fits r w → Grown p (take i G) (take j H) r r′ w′ → Answer p (unpad G) (unpad H) r w r′ w′ 0
-  done {r} {w} {r′} {w′} f z h g = let k = fronts (λ x y. Grown p x y r r′ w′) a b g in door-goes f z (filled h refl (k .size) (k .series))
+  pub front-done : {r w r′ w′ : List ℕ} {n : ℕ} → Refusal p (unpad G) (unpad H) n → n ≡ 0 → Fits r w → Grown p (take i G) (take j H) r r′ w′
+      → Answer p (unpad G) (unpad H) r w r′ w′ 0
+  front-done {r} {w} {r′} {w′} f z h g = done f z h (fronts (λ x y. Grown p x y r r′ w′) a b g)
 
   pub opening : {o : FieldAnswer} → Opens p (unpad G) (unpad H) o → o .refusal ≡ 0 → Opening p (take i G) (take j H) (o .field)
   opening {o} f z =

@@ -142,7 +142,7 @@ goes-short s p G H m rows scratch b l (bad a x) = refused-made s m rows (refused
 goes-short s p G H m rows scratch b l (spent c t o x) = refused-made s m rows (refused-number x) (omega arith) (omega arith)
 goes-short s p G H m rows scratch b l (narrow c n d t u f k x) = refused-made s m rows (refused-number x) (omega arith) (omega arith)
 goes-short s p G H m rows scratch b l (made c n d t u f k x) =
-    let w : 6144 ≡ 6 * c = sym (length-replicate {A = ℕ} 6144 0) ∙ t .whole in
+    let w : 6144 ≡ 6 * c = sym (length-replicate {A = ℕ} 6144 0) ∙ t .six .whole in
     let v : m .regulator .0 + m .regulator .0 ≡ d = x .regulator in
     let q : m .period .0 ≡ n = x .period in
     unit-made s m rows (x .number) l (record { p = p; below = b; period = omega arith; regulator = omega arith; each = x .rows-hold .each })

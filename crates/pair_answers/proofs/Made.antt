@@ -37,10 +37,10 @@ pub record MadeOver (p : ℕ) (G H G′ H′ : List ℕ) (v : UnitAnswer) (r : L
 
 module _ {n : ℕ} {x y x′ y′ : List ℕ} (ex : length x ≡ length x′) (ey : length y ≡ length y′) where
   lent-over : {c : ℕ} → Lent c x y n → Lent c x′ y′ n
-  lent-over t = record { room = t .room; whole = sym ex ∙ t .whole; even = sym ey ∙ t .even ∙ ex; budget = t .budget }
+  lent-over t = record { six = record { room = t .six .room; whole = sym ex ∙ t .six .whole }; even = sym ey ∙ t .even ∙ ex; budget = t .budget }
 
   lent-back : {c : ℕ} → Lent c x′ y′ n → Lent c x y n
-  lent-back t = record { room = t .room; whole = ex ∙ t .whole; even = ey ∙ t .even ∙ sym ex; budget = t .budget }
+  lent-back t = record { six = record { room = t .six .room; whole = ex ∙ t .six .whole }; even = ey ∙ t .even ∙ sym ex; budget = t .budget }
 
 module _ (p : ℕ) (G H G′ H′ : List ℕ) (n : ℕ) (x y x′ y′ : List ℕ) (ex : length x ≡ length x′) (ey : length y ≡ length y′) (v : UnitAnswer) (r s : List ℕ) where
   -- a refusal leaves both slices
@@ -69,7 +69,7 @@ module _ (p : ℕ) (G H G′ H′ : List ℕ) (n : ℕ) (x y x′ y′ : List �
           rows-hold = holds-over A w o (h .rows-hold);
           scratch-blank = refl;
         });
-        carried = λ z. record { c = c; room = t .room; whole = h .rows-hold .whole; whole′ = o .size; carries = rows-in w (o .rows) };
+        carried = λ z. record { c = c; room = t .six .room; whole = h .rows-hold .whole; whole′ = o .size; carries = rows-in w (o .rows) };
       }
 
   pub makes-over : Coefficients p G H → Coefficients p G′ H′ → OneField p G H G′ H′ → Makes p G H n x y v r s

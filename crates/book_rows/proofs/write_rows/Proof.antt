@@ -2,7 +2,7 @@
 use borrow.Author.Needs.{needs}
 use Rattle.base_answers.proofs.Limits as limits
 use Rattle.book_rows.specs.Rows.{body}
-use Rattle.book_rows.proofs.Facts.{six-of, refused-rows, unfit-rows}
+use Rattle.book_rows.proofs.Facts.{refused-rows, unfit-rows}
 use Rattle.book_rows.proofs.write_rows.Statement.{statement}
 use Rattle.book_rows.proofs.write_rows.Tie as tie
 
@@ -28,7 +28,7 @@ returns-2 c =
     (c .if2 .left) (c .before .refusal .ensures)
 
 put-rows-requires : tie.Need-put-rows-requires
-put-rows-requires c κs = six-of _ (limits.six-of (c .before .before .no-six-rows .ensures) (c .before .if1 .left))
+put-rows-requires c κs = limits.six-at _ (limits.six-of (c .before .before .no-six-rows .ensures) (c .before .if1 .left))
 
 wrote-row-requires : tie.Need-wrote-row-requires
 wrote-row-requires c κs = search needs
@@ -41,7 +41,7 @@ returns-3 c =
     let t = c .before .before .before in
     record {
       said = _;
-      tells = body _ (six-of _ (limits.six-of (t .before .before .before .no-six-rows .ensures) (t .before .before .if1 .left))) (t .put-rows .ensures .0);
+      tells = body _ (limits.six-at _ (limits.six-of (t .before .before .before .no-six-rows .ensures) (t .before .before .if1 .left))) (t .put-rows .ensures .0);
       written = c .wrote-row .ensures;
     }
 

@@ -1,8 +1,8 @@
 -- `field_series::open_with_series` meets its contract: zeros beside a refusal, the field with its series beside 0.
-use mathlib.Core.Path.{ap}
+use mathlib.Core.Path.{sym, ap}
 use native.Mathlib.Omega.{arith}
 use borrow.Author.Needs.{needs}
-use Rattle.base_lists.proofs.Paddings.{unpadded-length}
+use lib.Seq.{length-take-le}
 use Rattle.field_open.proofs.Door.{door-refused}
 use Rattle.field_open.proofs.Opening.{opens-number, opens-nothing}
 use Rattle.field_series.specs.declared.OpenedField.{OpenedField}
@@ -34,10 +34,14 @@ unpadded-requires-2 : tie.Need-unpadded-requires-2
 unpadded-requires-2 c κs = search needs
 
 slice-aggregate-with-series : tie.Need-slice-aggregate-with-series
-slice-aggregate-with-series c = unpadded-length (c .before .before .unpadded .ensures)
+slice-aggregate-with-series c =
+    let u = c .before in
+    sym (length-take-le _ _ (omega (arith, u .before .unpadded .ensures .fits, u .unpadded2 .ensures .fits)))
 
 slice-aggregate-with-series-2 : tie.Need-slice-aggregate-with-series-2
-slice-aggregate-with-series-2 c = unpadded-length (c .before .before .unpadded2 .ensures)
+slice-aggregate-with-series-2 c =
+    let u = c .before .before in
+    sym (length-take-le _ _ (omega (arith, u .before .unpadded .ensures .fits, u .unpadded2 .ensures .fits)))
 
 with-series-requires : tie.Need-with-series-requires
 with-series-requires c κs =

@@ -9,7 +9,7 @@ use Rattle.field_open.proofs.Paddings.{front-accepted}
 use Rattle.field_open.proofs.Accept.{accepted}
 use Rattle.base_answers.proofs.Limits.{over-yes, over-no}
 use Rattle.field_series.specs.Answer.{Fits}
-use Rattle.field_series.proofs.Answer.{refused, wrong, done}
+use Rattle.field_series.proofs.Answer.{refused, wrong, front-done}
 use Rattle.field_series.proofs.series.Statement.{statement}
 use Rattle.field_series.proofs.series.Tie as tie
 use Rattle.field_series.proofs.series.Reads as reads
@@ -70,7 +70,7 @@ returns-4 c =
     let u = g .before .before .before .before .before in
     let o = u .before .before .before in
     let l = over-no (o .over-longest .ensures) (u .before .before .if3 .left) in
-    done (u .before .unpadded .ensures) (u .unpadded2 .ensures) (o .before .before .before .refusal .ensures) (omega arith)
+    front-done (u .before .unpadded .ensures) (u .unpadded2 .ensures) (o .before .before .before .refusal .ensures) (omega arith)
     (record { even = omega arith; short = omega arith }) (g .grow .ensures)
 
 pub series-spec : {M : Type 1} → statement M
