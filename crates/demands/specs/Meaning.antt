@@ -6,7 +6,8 @@
 --   Demand2                 the demand, a field for each clause and each function that it speaks of
 -- How to read it: each field takes an outcome that meets the contract of a public function and gives its meaning in the words of the
 -- theory; after `≡ 0` it is no refusal. `Start B` says that B is the scaled reduced basis of the whole order. When each refusal comes is
--- in specs/Tabled.antt, what walks taken up again are in specs/TakenUp.antt.
+-- in specs/Tabled.antt, what walks taken up again are in specs/TakenUp.antt. G and H, here and in those, are the lists that a function reads:
+-- without the zeros at their ends (`unpad`, field_open/specs/Padding.antt).
 -- The theorem `demand-2` is in proofs/Demand2.antt.
 use mathlib.Core.Path.{_≡_}
 use mathlib.Core.Logic.{_⊎_}
