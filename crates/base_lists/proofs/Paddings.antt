@@ -13,7 +13,7 @@ use mathlib.Core.Bool.{Bool, true, false}
 use mathlib.Core.List.{List, [], _∷_, _++_}
 use Prim.Native.Nat.{ℕ, zero, suc, _+_, _-_, _≤_, _<_}
 use native.Mathlib.Omega.{arith}
-use native.Mathlib.Decide.{decLt, ℕ-discrete}
+use native.Mathlib.Decide.{decLt}
 use lib.ListN.{length, getD, take, replicate, length-append, length-replicate, List·getD-eq-default}
 use lib.Seq.{getD-take, length-take-le, take-length}
 use borrow.Author.Tests.{lt-ltb, le-ltb}

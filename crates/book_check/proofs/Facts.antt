@@ -1,16 +1,12 @@
 -- From an entry's answer to the book's.
-use mathlib.Core.Path.{_≡_, refl, sym, ap, _∙_, subst}
-use mathlib.Core.Logic.{_≢_}
+use mathlib.Core.Path.{_≡_, refl, sym, ap, subst}
 use mathlib.Core.List.{List}
-use Prim.Native.Nat.{ℕ, zero, suc, _+_, _-_, _*_, _<_, _≤_}
-use native.Mathlib.Numerals.{add-one}
+use Prim.Native.Nat.{ℕ, _-_, _<_, _≤_}
 use native.Mathlib.Omega.{arith}
-use lib.ListN.{length, getD, take, drop}
-use lib.Seq.{ext-getD, getD-take, length-take-le}
 use Rattle.base_answers.specs.Said.{Said}
 use Rattle.base_answers.proofs.Said.{number-of}
 use Rattle.book_body.specs.Body.{FieldSays, OneField, bodyOf, Formed}
-use Rattle.book_check.specs.Book.{mark, Marked, Listed, count, startAt, lengthAt, ends, part, entry, Sound, Accepted}
+use Rattle.book_check.specs.Book.{mark, part, entry, Sound, Accepted}
 use Rattle.book_check.specs.Answer as says
 use Rattle.book_check.specs.Answer.{reasonSays, BodyFault, Fault, Tells}
 use Rattle.book_first.specs.Earliest.{Earliest}

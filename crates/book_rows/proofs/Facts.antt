@@ -1,16 +1,16 @@
 -- A row without the zeros at its end, put into a slice; six rows and their length.
 use mathlib.Core.Path.{_≡_, _∙_, refl, sym, ap, subst}
-use mathlib.Core.Bool.{Bool, true, false}
+use mathlib.Core.Bool.{Bool, true}
 use mathlib.Core.Logic.{_≢_}
 use mathlib.Core.List.{List, [], _∷_}
-use Prim.Native.Nat.{ℕ, _+_, _-_, _*_, _/_, _%_, _<_, _≤_, min}
+use Prim.Native.Nat.{ℕ, _+_, _-_, _≤_, min}
 use native.Mathlib.Omega.{arith}
 use lib.ListN.{length, take, drop, replicate, length-take, length-replicate}
 use Rattle.base_lists.specs.Pieces.{Written}
 use Rattle.base_lists.specs.Coefficients.{Size, trim}
 use Rattle.base_lists.proofs.Puts.{written-none, front-is, front-count}
 use Rattle.base_lists.proofs.Trims.{trim-size, trim-length}
-use Rattle.base_answers.specs.Limits.{SixRows, NoSixRows, Six}
+use Rattle.base_answers.specs.Limits.{NoSixRows, Six}
 use Rattle.base_answers.proofs.Limits.{no-six, six-none}
 use Rattle.base_answers.specs.Said.{Said, refused}
 use Rattle.field_open.specs.Refusal.{Refusal}

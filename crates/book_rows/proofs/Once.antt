@@ -4,8 +4,6 @@ use mathlib.Core.Path.{_≡_, _∙_, sym, ap, subst}
 use mathlib.Core.Logic.{_≢_}
 use mathlib.Core.List.{List}
 use Prim.Native.Nat.{ℕ}
-use native.Mathlib.Omega.{arith}
-use Rattle.base_answers.specs.Limits.{Six}
 use Rattle.base_answers.proofs.Limits.{six-unique}
 use Rattle.base_answers.specs.Said.{Said, refused}
 use Rattle.field_open.proofs.Stages.{refusal-unique}

@@ -9,8 +9,7 @@
 use mathlib.Core.Path.{_≡_}
 use mathlib.Core.Logic.{_≢_}
 use mathlib.Core.List.{List}
-use Prim.Native.Nat.{ℕ, _+_, _*_, _≤_}
-use lib.ListN.{length}
+use Prim.Native.Nat.{ℕ, _+_}
 use Rattle.base_lists.specs.Pieces.{piece}
 use Rattle.base_lists.specs.Coefficients.{trim}
 use Rattle.base_answers.specs.Limits.{Six}

@@ -1,11 +1,11 @@
 -- Request E1 holds: the contracts speak of what is read of the lists, so that what demand 1 says of one pair of lists carries over to another.
-use mathlib.Core.Path.{_≡_, refl, sym, ap, ap₂, _∙_, subst}
+use mathlib.Core.Path.{_≡_, sym, ap, ap₂, _∙_, subst}
 use mathlib.Core.Logic.{_⊎_, inl, inr}
 use mathlib.Core.List.{List, _∷_, _++_, append-assoc}
-use Prim.Native.Nat.{ℕ, zero, suc, _≤_, _<_}
+use Prim.Native.Nat.{ℕ, _<_}
 use native.Mathlib.Omega.{arith}
 use native.Mathlib.Decide.{ℕ-discrete}
-use lib.ListN.{length, take}
+use lib.ListN.{take}
 use Rattle.base_lists.specs.Pieces.{cut}
 use Rattle.base_lists.specs.Coefficients.{trim}
 use Rattle.base_lists.proofs.Paddings as lists

@@ -2,9 +2,7 @@
 --   transfers-unique    two outcomes that meet `Transfers` are equal
 use mathlib.Core.Path.{_≡_, sym, _∙_, subst}
 use mathlib.Core.List.{List}
-use Prim.Native.Nat.{ℕ, _*_}
-use native.Mathlib.Omega.{arith}
-use lib.ListN.{length}
+use Prim.Native.Nat.{ℕ}
 use Rattle.base_answers.proofs.Limits.{six-unique}
 use Rattle.pair_laws.specs.Rows.{RowsCarry}
 use Rattle.pair_agree.specs.Answer.{Both}

@@ -3,9 +3,8 @@
 --   refused-number   the number beside a refusal
 use mathlib.Core.Path.{_≡_, sym, ap, _∙_, subst}
 use mathlib.Core.List.{List}
-use Prim.Native.Nat.{ℕ, _+_, _*_, _≤_}
+use Prim.Native.Nat.{ℕ, _+_, _≤_}
 use native.Mathlib.Omega.{arith}
-use lib.ListN.{length}
 use Rattle.base_answers.proofs.Limits.{six-unique}
 use Rattle.field_open.specs.Refusal.{Accepted}
 use Rattle.field_open.proofs.Door.{door-unique}
@@ -15,7 +14,7 @@ use Rattle.basis_record.specs.Record.{setting}
 use Rattle.unit_finish.specs.Rows.{Holds}
 use Rattle.unit_finish.proofs.Rows.{rows-unique}
 use Rattle.door_unit.specs.declared.UnitAnswer.{UnitAnswer}
-use Rattle.door_unit.specs.Unit.{Lent, Finds, Misses, Refused, Success, Goes, bad, spent, narrow, made, Makes}
+use Rattle.door_unit.specs.Unit.{Finds, Misses, Refused, Goes, bad, spent, narrow, made, Makes}
 
 pub record Same (m m′ : UnitAnswer) (rows rows′ scratch scratch′ : List ℕ) : Type 0 where
   pub number : m .refusal ≡ m′ .refusal

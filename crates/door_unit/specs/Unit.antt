@@ -6,7 +6,7 @@
 -- What the first slice holds after success is `Holds` of crate unit_finish. `makes-unique` in proofs/Once.antt: two outcomes that meet it are equal.
 use mathlib.Core.Path.{_≡_}
 use mathlib.Core.List.{List}
-use Prim.Native.Nat.{ℕ, _+_, _*_, _<_, _≤_}
+use Prim.Native.Nat.{ℕ, _+_, _<_, _≤_}
 use lib.ListN.{length, replicate}
 use Rattle.base_answers.specs.Limits.{most, Six}
 use Rattle.field_open.specs.Refusal.{Accepted}
