@@ -12,7 +12,7 @@ use native.Mathlib.Omega.{arith}
 use native.Mathlib.Decide.{decLt}
 use lib.ListN.{length, getD, take, drop, length-drop}
 use lib.Seq.{ext-getD, getD-take, getD-drop, length-take-le, take-nil}
-use Rattle.base_lists.specs.Pieces.{piece, between, tab, cut}
+use Rattle.base_lists.specs.Pieces.{piece, between, cut}
 use Rattle.base_lists.proofs.Tabs.{length-tab, at-tab}
 
 pub piece-length : (at n : ℕ) (l : List ℕ) → at + n ≤ length l → length (piece at n l) ≡ n

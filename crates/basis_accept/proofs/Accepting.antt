@@ -4,7 +4,7 @@
 --   not-narrow, not-shaped, not-alone, passes-as    the answer after each
 --   accepts-as, not-below         from seven rows to the 119 numbers
 --   accepts-unique                   two answers to one record are equal
-use mathlib.Core.Path.{_≡_, refl, sym, ap, _∙_, subst}
+use mathlib.Core.Path.{_≡_, refl, sym, subst}
 use mathlib.Core.Bool.{Bool, true, false}
 use mathlib.Core.List.{List}
 use Prim.Native.Nat.{ℕ, zero, suc, _+_, _*_, _-_, _<_, _≤_}
@@ -18,12 +18,12 @@ use Rattle.num_mod.specs.Prepared.{PreparedOf}
 use Rattle.num_mod.specs.declared.Modulus.{Modulus}
 use Rattle.math_rows.specs.Reading.{Reading}
 use Rattle.math_rows.specs.Made.{reading}
-use Rattle.math_rows.specs.Row.{Row, row}
+use Rattle.math_rows.specs.Row.{Row}
 use Rattle.math_ideals.specs.Basis.{Good}
 use Rattle.math_ideals.specs.Tests.{Tests}
 use Rattle.math_ideals.proofs.Tests.{good-of, tests-of}
 use Rattle.field_open.specs.Refusal.{Accepted}
-use Rattle.basis_record.specs.Record.{setting, basisOf, IsRecord}
+use Rattle.basis_record.specs.Record.{setting, IsRecord}
 use Rattle.field_series.specs.Keeps.{Kept, Known}
 use Rattle.field_series.specs.declared.OpenedField.{OpenedField}
 use Rattle.basis_parts.specs.Frame.{Frame, frame, Fine, Meaning, Short}

@@ -25,7 +25,7 @@ use Rattle.poly_cross.specs.Cross.{CrossInAsks, Crossed}
 use Rattle.poly_cross.proofs.Cross.{cross-by}
 use Rattle.base_answers.specs.Decides.{Decides}
 use Rattle.basis_record.specs.Seven.{Seven}
-use Rattle.basis_parts.specs.Frame.{Frame, Meaning, Short, rd, Ser, rowμ, pt, X, Y, Ltμ, Hasμ}
+use Rattle.basis_parts.specs.Frame.{Frame, Meaning, Short, Ser, rowμ, pt, X, Y, Ltμ, Hasμ}
 use Rattle.basis_parts.specs.Leaves.{PartAsks, Parted}
 use Rattle.basis_finish.specs.Based.{Z}
 use Rattle.basis_shape.specs.Lengths.{Shape}

@@ -4,14 +4,13 @@
 --   record-unique   two records of one ideal are the same 119 numbers
 use mathlib.Core.Path.{_≡_, refl, sym, ap, _∙_, subst}
 use mathlib.Core.List.{List}
-use Prim.Native.Nat.{ℕ, zero, suc, _+_, _*_, _/_, _%_, _<_, _≤_}
+use Prim.Native.Nat.{ℕ, zero, suc, _+_, _*_, _/_, _%_, _<_}
 use native.Mathlib.Nat.{mod-lt, mod-add-div}
 use native.Mathlib.Omega.{arith}
 use native.Mathlib.Decide.{decLt}
 use lib.ListN.{length, getD}
 use lib.Seq.{ext-getD}
 use Rattle.math_rows.specs.Made.{reading}
-use Rattle.math_rows.specs.Row.{tab}
 use Rattle.math_rows.proofs.Tab.{length-tab, at-tab, past-tab}
 use Rattle.math_rows.proofs.Unique.{list-unique}
 use Rattle.math_ideals.specs.Setting.{P}

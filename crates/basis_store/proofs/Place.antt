@@ -12,8 +12,7 @@ use Rattle.math_ring.proofs.Solve.{var, minus, _:+_, solve}
 use Rattle.math_fp.specs.Fp.{Prime}
 use Rattle.math_valued.specs.Val.{Valued}
 use Rattle.math_valued.specs.Degree.{Lt}
-use Rattle.math_valued.proofs.Degree.{lt-eq, lt-up, has-eq, above}
-use Rattle.math_valued.proofs.Compare.{has-scale}
+use Rattle.math_valued.proofs.Degree.{lt-eq, above}
 use Rattle.num_mod.specs.declared.Modulus.{Modulus}
 use Rattle.math_rows.specs.Reading.{Reading}
 use Rattle.math_rows.specs.Made.{reading}

@@ -12,7 +12,7 @@ use Rattle.base_answers.specs.Said.{Said}
 use Rattle.base_answers.proofs.Said.{number-of}
 use Rattle.book_body.specs.Body.{Body, Rule, FieldSays, OneField, bodyOf, Finished}
 use Rattle.book_check.specs.Book.{mark, width, count, lengthAt, entry, Accepted}
-use Rattle.book_check.specs.Value.{bookBytes, valueOf, none, at, Obeys}
+use Rattle.book_check.specs.Value.{valueOf, none, at, Obeys}
 use Rattle.book_check.proofs.Value.{length-rows, at-rows, book-obeys}
 use Rattle.book_check.proofs.Written.{writing-accepted, value-back}
 use Rattle.book_check.proofs.Facts.{told-fine, body-thirteen}

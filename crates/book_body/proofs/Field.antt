@@ -1,8 +1,8 @@
 -- A value that obeys the rules and whose field is accepted fits a body's bytes.
 use mathlib.Core.List.{List}
-use Prim.Native.Nat.{ℕ, _<_, _≤_}
+use Prim.Native.Nat.{_<_, _≤_}
 use native.Mathlib.Omega.{arith}
-use lib.ListN.{length, getD}
+use lib.ListN.{length}
 use Rattle.field_open.specs.Refusal.{Accepted}
 use Rattle.field_open.proofs.Accept.{accepted}
 use Rattle.book_bytes.specs.Bytes.{Small}

@@ -4,7 +4,7 @@
 --   both-read        what is read out of a body over p can be compared
 --   one-read         and what that decides; one-p-no: two primes decide it alone
 --   own-sold, own-field, field-own   a body's own p, G, H stand for it
-use mathlib.Core.Path.{_≡_, sym, ap, _∙_, subst}
+use mathlib.Core.Path.{_≡_, sym, _∙_, subst}
 use mathlib.Core.Logic.{_≢_}
 use mathlib.Core.Bool.{Bool}
 use mathlib.Core.List.{List}

@@ -3,7 +3,7 @@
 --   coordinates-unique    the coordinates of an element that has some, and their lengths
 --   member-unique         an element lies in the lattice or does not
 --   taken-off-unique      four polynomials without their common factor: decides-unique up to one constant
-use mathlib.Core.Path.{_≡_, sym, ap, _∙_, subst}
+use mathlib.Core.Path.{_≡_, sym, ap, _∙_}
 use mathlib.Core.Bool.{Bool}
 use mathlib.Core.List.{List, [], _∷_}
 use Prim.Native.Nat.{ℕ}

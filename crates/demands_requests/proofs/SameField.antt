@@ -1,12 +1,9 @@
 -- Request E3 holds: what the layers prove, side by side.
-use mathlib.Core.Path.{_≡_, refl, ap}
+use mathlib.Core.Path.{_≡_, refl}
 use mathlib.Core.Bool.{Bool, true, false}
 use mathlib.Core.List.{List}
-use Prim.Native.Nat.{ℕ, _<_, _≤_}
-use native.Mathlib.Omega.{arith}
-use lib.ListN.{length, take}
+use Prim.Native.Nat.{ℕ, _<_}
 use Rattle.field_open.specs.Refusal.{Accepted}
-use Rattle.field_open.proofs.Accept.{accepted-none}
 use Rattle.pair_laws.specs.OneField.{OneField}
 use Rattle.door_compare.specs.declared.CompareAnswer.{CompareAnswer}
 use Rattle.door_compare.specs.Answer as pairs
@@ -16,7 +13,7 @@ use Rattle.pair_theory.proofs.Shared as theory
 use Rattle.door_transfer.proofs.Back.{transfers-back}
 use Rattle.pair_answers.proofs.Alike as answers
 use Rattle.base_answers.specs.Decides.{Decides}
-use Rattle.base_answers.specs.Said.{Said, refused}
+use Rattle.base_answers.specs.Said.{Said}
 use Rattle.base_answers.proofs.Said.{number-of}
 use Rattle.book_body.specs.Body as body
 use Rattle.book_check.specs.Book as book

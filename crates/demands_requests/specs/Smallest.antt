@@ -8,7 +8,7 @@
 -- The theorem `smallest-unit` is in proofs/Smallest.antt.
 use mathlib.Core.Path.{_≡_}
 use mathlib.Core.List.{List}
-use Prim.Native.Nat.{ℕ, suc, _+_, _*_, _≤_, _<_}
+use Prim.Native.Nat.{ℕ, suc, _+_, _*_, _≤_}
 use lib.ListN.{length}
 use Rattle.math_valued.specs.Degree.{Has}
 use Rattle.math_valued.specs.Polynomial.{IsUnit}

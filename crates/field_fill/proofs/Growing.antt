@@ -2,10 +2,10 @@
 --   leads-of     the leading coefficients of an accepted field
 --   filler-of    what `fill` asks
 --   grown-of     what it makes is `SeriesOf`
-use mathlib.Core.Path.{_≡_, refl, sym, ap, ap₂, _∙_, fun-ext, subst}
+use mathlib.Core.Path.{_≡_, sym, ap, ap₂, _∙_, fun-ext, subst}
 use mathlib.Core.Logic.{_≢_}
 use mathlib.Core.List.{List}
-use Prim.Native.Nat.{ℕ, suc, _*_, _%_, _≤_, _<_}
+use Prim.Native.Nat.{ℕ, _*_, _%_, _≤_, _<_}
 use native.Mathlib.Omega.{arith}
 use lib.ListN.{length, getD}
 use Rattle.base_lists.specs.Sums.{entry, prod}

@@ -2,7 +2,7 @@
 --   top-in, top-out   its entries; 0 past them
 --   top-below         they are below p
 --   heads-are         13 of them are all
-use mathlib.Core.Path.{_≡_, refl, sym, ap, _∙_}
+use mathlib.Core.Path.{_≡_, refl, sym, _∙_}
 use mathlib.Core.List.{List, [], _∷_}
 use Prim.Native.Nat.{ℕ, zero, suc, _-_, _≤_, _<_}
 use native.Mathlib.Decide.{decLt}

@@ -2,14 +2,14 @@
 --   start-square, start-product   the pair of index 0: r0 = c and w0 = 3 g0 h0 c u
 --   next-square, next-product     the pair of index i: r_i = u (h0 a + r0 b) and w_i = u (2 r0 a − w0 b), for what is missing, a and b
 -- u is the inverse of 3 r0². Both go through the ring of the classes mod p, for any p > 0.
-use mathlib.Core.Path.{_≡_, refl, sym, ap, ap₂, _∙_}
+use mathlib.Core.Path.{_≡_, sym, ap, ap₂, _∙_}
 use mathlib.Core.List.{List, [], _∷_}
-use Prim.Native.Nat.{ℕ, zero, suc, _+_, _*_, _-_, _%_, _≤_, _<_}
-use native.Mathlib.Nat.{mod-mod, mod-lt, mul-one}
+use Prim.Native.Nat.{ℕ, _+_, _*_, _-_, _%_, _≤_, _<_}
+use native.Mathlib.Nat.{mod-mod, mod-lt}
 use native.Mathlib.Omega.{arith}
 use Rattle.math_ring.specs.Ring.{Ops, CRing}
 use Rattle.math_ring.proofs.Laws as r
-use Rattle.math_ring.proofs.Solve.{var, lit, one, zer, minus, _:+_, _:*_, _:-_, hyp, solve, solve-by}
+use Rattle.math_ring.proofs.Solve.{var, one, zer, minus, _:+_, _:*_, hyp, solve-by}
 use Rattle.math_fp.specs.Fp.{F, cls, fops}
 use Rattle.math_fp.proofs.Ring.{F-path, ring, cls-add, cls-mul, cls-p}
 

@@ -2,7 +2,7 @@
 --   prod-sum       the coefficient n of a product is a sum of n + 1 products
 --   prod-ext       it asks only for the coefficients up to n
 --   prod-change    how it changes with the coefficients n of the two factors
-use mathlib.Core.Path.{_≡_, refl, sym, ap, ap₂, _∙_}
+use mathlib.Core.Path.{_≡_, sym, ap, ap₂, _∙_}
 use Prim.Native.Nat.{ℕ, zero, suc, _+_, _*_, _-_, _≤_, _<_}
 use native.Mathlib.Nat.{zero-add, add-assoc, mul-le-mul}
 use native.Mathlib.Omega.{arith}

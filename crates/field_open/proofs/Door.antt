@@ -5,7 +5,7 @@
 --   door-map                  another answer at the same door
 --   door-number               where an answer carries its number k: it is the table's
 --   door-none, door-open      beside k ≠ 0 the refusal k; beside 0 an accepted field, and what comes next
-use mathlib.Core.Path.{_≡_, refl, sym, _∙_, subst}
+use mathlib.Core.Path.{_≡_, sym, _∙_, subst}
 use mathlib.Core.Logic.{_≢_}
 use mathlib.Core.List.{List}
 use Prim.Native.Nat.{ℕ, _≤_}

@@ -5,15 +5,14 @@ use mathlib.Core.Path.{_≡_, refl, sym, ap, _∙_, subst}
 use mathlib.Core.Logic.{_≢_, inl, inr}
 use mathlib.Core.Bool.{Bool, true, false}
 use mathlib.Core.List.{List}
-use Prim.Native.Nat.{ℕ, zero, suc, _+_, _-_, _%_, _<_, _≤_}
+use Prim.Native.Nat.{ℕ, _+_, _-_, _%_, _<_, _≤_}
 use native.Mathlib.Omega.{arith}
 use native.Mathlib.Decide.{decLe}
-use lib.ListN.{length, getD}
 use Rattle.base_answers.specs.Stage.{End}
 use Rattle.base_lists.proofs.Coefs.{list-degree}
 pub use Rattle.base_lists.proofs.Coefs.{length-of, list-short}
 use Rattle.num_prime.specs.Table.{largest, PrimeTest}
-use Rattle.field_open.specs.Refusal.{longest, highest, Degree, Fault1, Fault3, Fault4, Fault5, Fault6, Rows36}
+use Rattle.field_open.specs.Refusal.{highest, Degree, Fault1, Fault3, Fault4, Fault5, Fault6, Rows36}
 use Rattle.field_open.specs.Parts.{ListLength}
 use Rattle.field_open.proofs.Stages.{degree-unique}
 

@@ -2,9 +2,9 @@
 --   refusal-unique            two numbers that meet the table are equal
 --   numbered               a number that meets the table is at most 8
 --   degree-unique             a list has one degree
-use mathlib.Core.Path.{_≡_, sym, _∙_}
+use mathlib.Core.Path.{_≡_}
 use mathlib.Core.List.{List}
-use Prim.Native.Nat.{ℕ, suc, _≤_}
+use Prim.Native.Nat.{ℕ, _≤_}
 use native.Mathlib.Omega.{arith}
 pub use Rattle.base_lists.proofs.Coefs.{degree-unique}
 use Rattle.base_answers.proofs.Stages.{stage-unique, end-unique, stage-low}

@@ -7,20 +7,20 @@
 --   fall-mul                                  the product begins with the coefficients of the product
 use mathlib.Core.Path.{_≡_, refl, sym, ap, ap₂, _∙_}
 use mathlib.Core.List.{List, [], _∷_}
-use Prim.Native.Nat.{ℕ, zero, suc, _≤_, _<_}
+use Prim.Native.Nat.{ℕ, zero, suc, _<_}
 use Prim.Native.Nat as N
-use native.Mathlib.Nat.{zero-add, add-zero, suc-add}
+use native.Mathlib.Nat.{zero-add, suc-add}
 use native.Mathlib.Omega.{arith}
 use Rattle.base_lists.specs.Sums.{conv}
 use Rattle.math_ring.specs.Ring.{Ops, CRing}
 use Rattle.math_ring.proofs.Laws as r
-use Rattle.math_ring.proofs.Solve.{var, one, zer, minus, _:+_, _:*_, _:-_, hyp, solve, solve-by}
+use Rattle.math_ring.proofs.Solve.{var, one, zer, _:+_, _:*_, hyp, solve, solve-by}
 use Rattle.math_valued.specs.Val.{Valued}
 use Rattle.math_valued.specs.Degree.{Lt}
 use Rattle.math_valued.proofs.Degree.{lead-eq, lt-add}
 use Rattle.math_rows.specs.Reading.{Reading}
 use Rattle.math_rows.specs.Row.{tpow, psum}
-use Rattle.math_rows.proofs.Rows.{const-zero, tpow-add, tpow-lead}
+use Rattle.math_rows.proofs.Rows.{const-zero, tpow-lead}
 use Rattle.math_rows.proofs.Turn.{lt-scale, lead-scale}
 use Rattle.math_rows.proofs.Unique.{psum-unique}
 use Rattle.field_roots.specs.First.{fall}

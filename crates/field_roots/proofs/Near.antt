@@ -4,15 +4,15 @@
 -- No recursion: let x, y be series that begin with R, W. Then x² − H y and x y − G H are small, and
 --   (r − x)(r² + r x + x²) = r³ − x³ = − x (x² − H y) − H (x y − G H),
 -- where the second factor on the left has degree 2 deg r. So r − x is small.
-use mathlib.Core.Path.{_≡_, refl, sym, ap, ap₂, _∙_, subst}
+use mathlib.Core.Path.{_≡_, refl, sym, subst}
 use mathlib.Core.Logic.{_≢_}
 use mathlib.Core.List.{List, [], _∷_}
-use Prim.Native.Nat.{ℕ, zero, suc, _≤_, _<_}
+use Prim.Native.Nat.{ℕ, zero, suc, _<_}
 use Prim.Native.Nat as N
 use native.Mathlib.Omega.{arith}
 use Rattle.math_ring.specs.Ring.{Ops, CRing}
 use Rattle.math_ring.proofs.Laws as r₀
-use Rattle.math_ring.proofs.Solve.{var, one, zer, minus, _:+_, _:*_, _:-_, hyp, solve, solve-by}
+use Rattle.math_ring.proofs.Solve.{var, minus, _:+_, _:*_, hyp, solve-by}
 use Rattle.math_valued.specs.Val.{Valued}
 use Rattle.math_valued.specs.Degree.{Has, Lt}
 use Rattle.math_valued.proofs.Degree.{lead-eq, lt-eq, lt-add, lt-neg, lt-up, lt-cancel, has-up}
@@ -21,7 +21,7 @@ use Rattle.math_rows.specs.Row.{tpow}
 use Rattle.math_valued.proofs.Compare.{lt-mul-sharp}
 use Rattle.field_roots.specs.Pair.{RootPair}
 use Rattle.field_roots.specs.First.{Begins}
-use Rattle.field_roots.proofs.Pair.{three, trio, trio-has, r-cube, w-has}
+use Rattle.field_roots.proofs.Pair.{three, trio-has, r-cube, w-has}
 use Rattle.field_roots.proofs.First.{convᵏ}
 use Rattle.field_roots.proofs.Begin.{begins-none, begins-lead, begins-mul, begins-close, begins-near, stand-in}
 

@@ -2,14 +2,14 @@
 --   series-of-begins   r and w begin with the numbers of the lists
 --   series-of-unique     two pairs of lists of one length that meet it are equal
 --   series-of-reads    32 numbers of each are what the code's polynomial parts are made from
-use mathlib.Core.Path.{_≡_, refl, sym, ap, ap₂, _∙_, subst}
+use mathlib.Core.Path.{_≡_, sym, ap, ap₂, _∙_, subst}
 use mathlib.Core.List.{List}
-use Prim.Native.Nat.{ℕ, suc, _-_, _%_, _<_, _≤_}
+use Prim.Native.Nat.{ℕ, suc, _-_, _<_, _≤_}
 use Prim.Native.Nat as N
 use native.Mathlib.Omega.{arith}
 use lib.ListN.{length, getD}
 use lib.Seq.{ext-getD}
-use Rattle.base_lists.specs.Sums.{entry, conv, prod}
+use Rattle.base_lists.specs.Sums.{entry}
 use Rattle.math_ring.specs.Ring.{Ops, CRing}
 use Rattle.math_fp.specs.Fp.{Prime}
 use Rattle.math_valued.specs.Val.{Valued}

@@ -3,15 +3,15 @@
 --   w-has       deg w = 2 deg r − deg H
 --   pair-from   a cube root of G H² makes a pair
 --   trio-has    r² + r s + s² has degree 2 d where r and s have degree d and one leading coefficient
-use mathlib.Core.Path.{_≡_, refl, sym, ap, ap₂, _∙_}
+use mathlib.Core.Path.{_≡_, refl}
 use mathlib.Core.Logic.{_≢_}
 use mathlib.Core.List.{List, [], _∷_}
-use Prim.Native.Nat.{ℕ, suc}
+use Prim.Native.Nat.{ℕ}
 use Prim.Native.Nat as N
 use native.Mathlib.Omega.{arith}
 use Rattle.math_ring.specs.Ring.{Ops, CRing}
 use Rattle.math_ring.proofs.Laws as r
-use Rattle.math_ring.proofs.Solve.{var, one, zer, minus, _:+_, _:*_, _:-_, hyp, solve, solve-by}
+use Rattle.math_ring.proofs.Solve.{var, one, minus, _:+_, _:*_, hyp, solve, solve-by}
 use Rattle.math_valued.specs.Val.{Valued}
 use Rattle.math_valued.specs.Degree.{HasDeg, Has, Lt}
 use Rattle.math_valued.proofs.Degree.{lead-eq, k-domain, has-mul, has-inv, has-move, has-eq, has-cancel}

@@ -8,7 +8,7 @@ use Prim.Native.Nat.{ℕ, zero, suc, _-_, _%_, _<_, _≤_}
 use Prim.Native.Nat as N
 use native.Mathlib.Nat.{mod-lt}
 use native.Mathlib.Omega.{arith}
-use lib.ListN.{length, getD}
+use lib.ListN.{length}
 use Rattle.base_lists.specs.Sums.{entry}
 use Rattle.math_ring.specs.Ring.{Ops, CRing}
 use Rattle.math_ring.proofs.Laws as r₀
@@ -22,7 +22,6 @@ use Rattle.math_rows.specs.Made.{reading}
 use Rattle.math_rows.specs.Row.{tab, fallAt, tpow, psum, coefs, row, Floor}
 use Rattle.math_rows.specs.Sum.{sumTo}
 use Rattle.math_rows.proofs.Rows.{const-zero, const-neg, cast-sub, psum-ext, psum-plus, row-tab, row-upto}
-use Rattle.math_rows.proofs.Product.{sum-more}
 use Rattle.math_rows.proofs.Floors.{floor-add, floor-sub}
 use Rattle.math_rows.proofs.Turn.{lt-scale}
 use Rattle.field_open.specs.Refusal.{Accepted}

@@ -4,15 +4,15 @@
 --   root-pair           r² = H w, r w = G H, and r has degree degR and leads with leadR
 --   G-has .. w-degree   the four degrees
 -- That no other two series obey the two laws is `field-roots-unique` of crate basis_record.
-use mathlib.Core.Path.{_≡_, refl, sym, ap, ap₂, _∙_}
+use mathlib.Core.Path.{_≡_, refl, sym, ap, _∙_}
 use mathlib.Core.Logic.{_≢_}
-use mathlib.Core.List.{List, [], _∷_}
-use Prim.Native.Nat.{ℕ, suc, _+_, _*_, _%_, _<_}
+use mathlib.Core.List.{List}
+use Prim.Native.Nat.{ℕ, _+_, _*_, _%_}
 use native.Mathlib.Nat.{mod-lt}
 use native.Mathlib.Omega.{arith}
-use lib.ListN.{length, getD}
+use lib.ListN.{getD}
 use Rattle.math_ring.specs.Ring.{Ops, CRing}
-use Rattle.math_ring.proofs.Solve.{var, zer, _:*_, _:=_, ring₁}
+use Rattle.math_ring.proofs.Solve.{zer, _:*_, _:=_, ring₁}
 use Rattle.math_fp.specs.Fp.{Prime, powMod, third}
 use Rattle.math_fp.proofs.Value.{root-value}
 use Rattle.math_valued.specs.Val.{Valued}

@@ -7,7 +7,7 @@
 -- (`series-of-begins` in proofs/Only.antt).
 use mathlib.Core.Path.{_≡_}
 use mathlib.Core.List.{List}
-use Prim.Native.Nat.{ℕ, _+_, _*_, _-_, _%_, _<_}
+use Prim.Native.Nat.{ℕ, _*_, _-_, _%_, _<_}
 use lib.ListN.{length}
 use Rattle.math_rows.specs.Row.{fallAt}
 use Rattle.base_lists.specs.Sums.{entry, prod}

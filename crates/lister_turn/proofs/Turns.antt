@@ -1,11 +1,10 @@
 -- One outcome for each input.
 --   plan-unique    what comes next
 --   ended-unique   after the input's end
-use mathlib.Core.Path.{_≡_, refl, sym, ap, ap₂, _∙_}
+use mathlib.Core.Path.{_≡_, refl, sym, _∙_}
 use mathlib.Core.List.{List}
-use Prim.Native.Nat.{ℕ, _≤_, _<_}
+use Prim.Native.Nat.{ℕ}
 use native.Mathlib.Omega.{arith}
-use lib.IntN.{ℤ}
 use Rattle.base_lists.proofs.Puts.{placed-unique}
 use Rattle.lister_turn.specs.declared.Stand.{Stand}
 use Rattle.lister_turn.specs.declared.Act.{Act}

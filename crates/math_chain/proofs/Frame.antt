@@ -9,7 +9,7 @@ use mathlib.Core.List.{[], _∷_}
 use mathlib.Core.Logic.{_≢_}
 use Rattle.math_ring.proofs.Laws as rg
 use Rattle.math_ring.specs.Ring.{Ops, CRing}
-use Rattle.math_ring.proofs.Solve.{var, hyp, one, minus, _:+_, _:*_, _:=_, solve, solve-by, ring₃}
+use Rattle.math_ring.proofs.Solve.{var, hyp, one, minus, _:+_, _:*_, _:=_, solve-by, ring₃}
 use Rattle.math_valued.specs.Val.{Valued}
 use Rattle.math_valued.specs.Polynomial.{polys, Divides, IsUnit}
 use Rattle.math_valued.proofs.Gcds.{divides-trans}

@@ -3,7 +3,7 @@
 --   smallest-unique    so is the smallest unit of positive degree with E0 monic
 --   constant-norm   an element of constant norm and of the least degree is a constant times it
 use mathlib.Core.Path.{_≡_, sym, ap, _∙_, subst}
-use Prim.Native.Nat.{ℕ, suc, _≤_, _<_}
+use Prim.Native.Nat.{ℕ, _≤_}
 use native.Mathlib.Omega.{arith}
 use native.Mathlib.Decide.{decLe}
 use Rattle.math_ring.proofs.Laws as rg

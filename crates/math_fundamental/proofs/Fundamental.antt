@@ -4,8 +4,7 @@
 --                      power of it, in one way
 --   unit-smallest      it is the smallest unit of positive degree with E0 monic
 --   closing-least      the degree sum at the first closing is the least positive degree of a unit
-use mathlib.Core.Path.{refl}
-use Prim.Native.Nat.{ℕ, suc, _-_ as _-ⁿ_, _≤_}
+use Prim.Native.Nat.{ℕ, _-_ as _-ⁿ_}
 use native.Mathlib.Omega.{arith}
 use Rattle.math_valued.specs.Degree.{Has}
 use Rattle.math_valued.proofs.Degree as d

@@ -5,8 +5,7 @@
 --   powers     both
 use mathlib.Core.Path.{_≡_, sym, ap, _∙_, subst}
 use mathlib.Core.List.{[], _∷_}
-use mathlib.Core.Logic.{_⊎_, inl, inr}
-use Prim.Native.Nat.{ℕ, zero, suc, _≤_, _<_, _+_ as _+ⁿ_, _-_ as _-ⁿ_, _*_ as _*ⁿ_}
+use Prim.Native.Nat.{ℕ, zero, suc, _<_, _+_ as _+ⁿ_, _-_ as _-ⁿ_, _*_ as _*ⁿ_}
 use native.Mathlib.Nat.{eq-of-mul-eq-mul-right}
 use native.Mathlib.Omega.{arith}
 use native.Mathlib.Decide.{decLe}

@@ -9,15 +9,14 @@
 --   none-within         nor from 1 to a number of steps of which none closes
 use mathlib.Core.Path.{_≡_, refl, sym, ap, _∙_}
 use mathlib.Core.List.{[], _∷_}
-use mathlib.Core.Logic.{_⊎_, inl, inr}
-use Prim.Native.Nat.{ℕ, suc, _≤_, _<_, _+_ as _+ⁿ_, _-_ as _-ⁿ_}
+use Prim.Native.Nat.{ℕ, suc, _≤_, _<_, _-_ as _-ⁿ_}
 use native.Mathlib.Omega.{arith}
 use native.Mathlib.Decide.{decLe}
 use Rattle.math_ring.proofs.Laws as rg
 use Rattle.math_ring.specs.Ring.{Ops}
 use Rattle.math_ring.proofs.Solve.{var, hyp, one, minus, _:*_, solve-by}
 use Rattle.math_valued.specs.Degree.{HasDeg, Has}
-use Rattle.math_valued.specs.Polynomial.{polys, IsUnit}
+use Rattle.math_valued.specs.Polynomial.{IsUnit}
 use Rattle.math_valued.proofs.Degree as d
 use Rattle.math_valued.proofs.Polynomial.{unit-const}
 use Rattle.math_ideals.specs.Setting.{Setting, P}

@@ -1,8 +1,8 @@
 -- What follows from the laws of a commutative ring: cancelling, signs, zero, inverses, numerals.
-use mathlib.Core.Path.{_≡_, refl, sym, ap, ap₂, _∙_}
+use mathlib.Core.Path.{_≡_, sym, ap, ap₂, _∙_}
 use Prim.Native.Nat.{ℕ, zero, suc}
 use Prim.Native.Nat as N
-use native.Mathlib.Nat.{zero-add, add-suc, suc-add, zero-mul, suc-mul}
+use native.Mathlib.Nat.{zero-add, suc-add, zero-mul, suc-mul}
 use Rattle.math_ring.specs.Ring.{Ops, Laws, CRing, nat}
 
 module _ (R : CRing) where

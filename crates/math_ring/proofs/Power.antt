@@ -8,7 +8,7 @@ use native.Mathlib.Nat as M
 use native.Mathlib.Omega.{arith}
 use Rattle.math_ring.specs.Ring.{Ops, Laws, CRing, nat}
 use Rattle.math_ring.specs.Power.{pow}
-use Rattle.math_ring.proofs.Laws.{nat-add, nat-one, zero-add′, one-mul}
+use Rattle.math_ring.proofs.Laws.{nat-add, nat-one, one-mul}
 use Rattle.math_ring.proofs.Solve.{var, one, zer, minus, _:+_, _:*_, hyp, solve, solve-by}
 
 -- Pascal's triangle

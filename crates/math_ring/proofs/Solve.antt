@@ -10,7 +10,7 @@ use Prim.Native.Nat.{ℕ, zero, suc}
 use Prim.Native.Nat as N
 use lib.Dec.{T, eqb, eqb→eq}
 use Rattle.math_ring.specs.Ring.{Ops, Laws, CRing, nat}
-use Rattle.math_ring.proofs.Laws.{zero-add′, one-mul, add-mul, add-left-comm, mul-left-comm, swap4, neg-neg, neg-zero, neg-add, mul-zero, zero-mul′, mul-neg, neg-mul, eq-of-sub, add-cancel, nat-add, nat-mul, nat-one}
+use Rattle.math_ring.proofs.Laws.{zero-add′, one-mul, add-mul, mul-left-comm, swap4, neg-neg, neg-zero, neg-add, mul-zero, zero-mul′, mul-neg, neg-mul, eq-of-sub, add-cancel, nat-add, nat-mul, nat-one}
 
 -- ---- expressions
 pub data Expr : Type 0 where

@@ -6,15 +6,15 @@
 --   no-omega           z² + z + 1 ≠ 0
 --   form, form′        u² − u v + v² = 0 and 3 u² + v² = 0 only for u = v = 0
 --   cube-inj, root     each constant has one cube root
-use mathlib.Core.Path.{_≡_, refl, sym, ap, ap₂, _∙_}
+use mathlib.Core.Path.{_≡_, sym, ap, ap₂, _∙_}
 use mathlib.Core.Logic.{_≢_}
-use Prim.Native.Nat.{ℕ, _<_, _≤_, _%_}
+use Prim.Native.Nat.{ℕ, _<_, _%_}
 use Prim.Native.Nat as N
 use native.Mathlib.Nat.{mod-eq-of-lt}
 use native.Mathlib.Omega.{arith}
 use Rattle.math_ring.proofs.Laws as r
 use Rattle.math_ring.specs.Ring.{Ops, CRing, nat}
-use Rattle.math_fp.specs.Fp.{F, Prime, cls}
+use Rattle.math_fp.specs.Fp.{F, Prime}
 use Rattle.math_fp.proofs.Ring.{F-path}
 use Rattle.math_fp.proofs.Field.{Fld, ppos}
 use Rattle.math_fp.proofs.Cube as c

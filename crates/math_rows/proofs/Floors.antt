@@ -7,13 +7,13 @@ use Prim.Native.Nat.{ℕ, zero, suc, _≤_, _<_}
 use Prim.Native.Nat as N
 use native.Mathlib.Nat.{zero-add, add-zero, suc-add}
 use native.Mathlib.Omega.{arith}
-use native.Mathlib.Decide.{decLe, ℕ-discrete}
+use native.Mathlib.Decide.{decLe}
 use lib.ListN.{length, getD, List·getD-eq-default}
 use Rattle.math_ring.specs.Ring.{Ops}
 use Rattle.math_ring.proofs.Solve.{var, zer, minus, _:+_, _:*_, solve}
 use Rattle.math_valued.specs.Val.{Valued}
 use Rattle.math_valued.specs.Degree.{Has, Lt}
-use Rattle.math_valued.proofs.Degree.{lead-eq, lt-eq, lt-add, lt-neg, lt-up, above, lt-cancel}
+use Rattle.math_valued.proofs.Degree.{lead-eq, lt-eq, lt-add, lt-neg, lt-up, lt-cancel}
 use Rattle.math_rows.specs.Reading.{Reading}
 pub use Rattle.base_lists.proofs.Trims.{sized}
 use Rattle.math_rows.specs.Row.{tab, Row, Size, fallAt, tpow, psum, row, Floor, Reads}

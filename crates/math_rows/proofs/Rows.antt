@@ -5,16 +5,16 @@ use mathlib.Core.Logic.{_≢_}
 use mathlib.Core.List.{List, [], _∷_}
 use Prim.Native.Nat.{ℕ, zero, suc, _≤_, _<_, _%_}
 use Prim.Native.Nat as N
-use native.Mathlib.Nat.{mod-lt, mod-self, zero-add, add-zero, suc-add}
+use native.Mathlib.Nat.{mod-self, zero-add, add-zero, suc-add}
 use native.Mathlib.Omega.{arith}
-use native.Mathlib.Decide.{decLt, decLe, ℕ-discrete}
+use native.Mathlib.Decide.{decLe}
 use lib.ListN.{length, getD, List·getD-eq-default}
 use Rattle.math_ring.proofs.Laws as r
 use Rattle.math_ring.specs.Ring.{Ops, CRing}
-use Rattle.math_ring.proofs.Solve.{var, one, zer, minus, _:+_, _:*_, _:-_, hyp, solve, solve-by}
+use Rattle.math_ring.proofs.Solve.{var, one, zer, minus, _:+_, _:*_, solve}
 use Rattle.math_valued.specs.Val.{Valued}
 use Rattle.math_valued.specs.Degree.{Has, Lt}
-use Rattle.math_valued.proofs.Degree.{lead-eq, lt-add, lt-up, above, has-up}
+use Rattle.math_valued.proofs.Degree.{lead-eq, lt-add, lt-up, above}
 use Rattle.math_rows.specs.Reading.{Reading}
 use Rattle.math_rows.specs.Row.{tab, Row, Size, shiftAt, tpow, psum, coefs, row}
 use Rattle.math_rows.proofs.Tab.{length-tab, at-tab, shift-low, shift-high, crossAt}

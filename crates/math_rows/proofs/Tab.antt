@@ -9,7 +9,7 @@ use Prim.Native.Nat.{ℕ, zero, suc, _+_, _*_, _-_, _%_, _<_, _≤_}
 use native.Mathlib.Nat.{mod-lt}
 use native.Mathlib.Omega.{arith}
 use native.Mathlib.Decide.{decLt}
-use lib.ListN.{length, getD}
+use lib.ListN.{getD}
 pub use Rattle.base_lists.proofs.Tabs.{length-tab, at-tab, past-tab, zeros-at}
 pub use Rattle.base_lists.proofs.Tabs.{Filled, filled-start, filled-more, filled-end, Begun, begun-start, begun-more, begun-end}
 use Rattle.math_rows.specs.Row.{tab, Row, shiftAt}

@@ -3,9 +3,8 @@
 --   trim-row    the trimmed list
 use mathlib.Core.Path.{_≡_, sym, ap, _∙_}
 use mathlib.Core.List.{List}
-use Prim.Native.Nat.{ℕ, _≤_, _<_}
-use native.Mathlib.Omega.{arith}
-use lib.ListN.{length, getD, take}
+use Prim.Native.Nat.{ℕ}
+use lib.ListN.{take}
 use lib.Seq.{length-take-le, getD-take}
 use Rattle.base_lists.specs.Coefficients.{Size, trim}
 use Rattle.base_lists.proofs.Trims.{sized, trim-size}

@@ -1,20 +1,19 @@
 -- The combination s x − c t^k y, the turn of a reduction, on leading terms. No row and no list is named here.
-use mathlib.Core.Path.{_≡_, refl, sym, ap, ap₂, _∙_, subst}
+use mathlib.Core.Path.{_≡_, refl}
 use mathlib.Core.Logic.{_≢_}
 use mathlib.Core.List.{List, [], _∷_}
-use Prim.Native.Nat.{ℕ, zero, _≤_, _<_}
+use Prim.Native.Nat.{ℕ}
 use Prim.Native.Nat as N
 use native.Mathlib.Omega.{arith}
-use native.Mathlib.Decide.{decLe}
 use Rattle.math_ring.proofs.Laws as r
 use Rattle.math_ring.specs.Ring.{Ops, CRing}
-use Rattle.math_ring.proofs.Solve.{var, one, zer, minus, _:+_, _:*_, _:-_, hyp, solve, solve-by}
+use Rattle.math_ring.proofs.Solve.{var, zer, minus, _:+_, _:*_, solve}
 use Rattle.math_valued.specs.Val.{Valued}
 use Rattle.math_valued.specs.Degree.{Has, Lt}
-use Rattle.math_valued.proofs.Degree.{k-domain, k-neg, lead-eq, lt-eq, has-eq, lt-add, lt-neg, lt-up, above, has-lt, lt-cancel, lead-up}
+use Rattle.math_valued.proofs.Degree.{k-domain, lead-eq, lt-add, lt-neg, has-lt}
 use Rattle.math_rows.specs.Reading.{Reading}
 use Rattle.math_rows.specs.Row.{tpow, comb}
-use Rattle.math_rows.proofs.Rows.{tpow-lead, tpow-poly, const-neg}
+use Rattle.math_rows.proofs.Rows.{tpow-lead}
 
 module _ {p : ℕ} (ρ : Reading p) where
   open Reading ρ using (𝓥)

@@ -1,5 +1,4 @@
 -- The triples are a commutative ring themselves, over any commutative ring R with any G and H: every law by the solver.
-use mathlib.Core.Path.{_≡_}
 use Rattle.math_ring.specs.Ring.{Ops, Laws, CRing}
 use Rattle.math_ring.proofs.Solve.{Expr, exprs}
 use Rattle.math_triple.specs.Tri.{Tri, Tri-set, mulT, env, solve₃, G, H, X, Y, Z}

@@ -1,13 +1,13 @@
 -- Euclid's algorithm by leading terms. `Span a b x y`: the pairs (a, b) and (x, y) are combinations of each other. A swap and a turn
 -- x := s x − c t^k y with s ≠ 0 keep it, and where y = 0 the polynomial x is a greatest common divisor of a and b.
-use mathlib.Core.Path.{_≡_, refl, sym, ap, ap₂, _∙_}
+use mathlib.Core.Path.{_≡_, ap, _∙_}
 use mathlib.Core.Logic.{_≢_}
 use mathlib.Core.List.{List, [], _∷_}
-use Prim.Native.Nat.{ℕ, zero, suc}
+use Prim.Native.Nat.{ℕ}
 use Rattle.math_ring.specs.Ring.{Ops, CRing}
-use Rattle.math_ring.proofs.Solve.{var, one, zer, minus, _:+_, _:*_, hyp, solve, solve-by}
+use Rattle.math_ring.proofs.Solve.{var, zer, minus, _:+_, _:*_, solve}
 use Rattle.math_valued.specs.Val.{Valued}
-use Rattle.math_valued.specs.Polynomial.{polys, Poly, Divides}
+use Rattle.math_valued.specs.Polynomial.{Poly, Divides}
 use Rattle.math_valued.specs.Gcd.{IsGcd}
 use Rattle.math_valued.proofs.Polynomial.{P-path}
 use Rattle.math_rows.specs.Reading.{Reading}

@@ -4,7 +4,7 @@
 --   moved-start, -scale, -swap, -turn, -then, -back    the change of basis that a loop of turns makes
 --   moved-has                         it keeps the degree of the determinant
 --   full                              where Y(m) is small, X(m) and Y(n) make up all of the determinant's degree
-use mathlib.Core.Path.{_≡_, refl, sym, ap, ap₂, _∙_, subst}
+use mathlib.Core.Path.{_≡_, refl, sym, ap, ap₂, _∙_}
 use mathlib.Core.Logic.{_≢_}
 use mathlib.Core.Bool.{Bool, true, false}
 use mathlib.Core.List.{List, [], _∷_}
@@ -13,17 +13,17 @@ use Prim.Native.Nat as N
 use native.Mathlib.Omega.{arith}
 use native.Mathlib.Decide.{decLe}
 use Rattle.math_ring.specs.Ring.{Ops, CRing, Hom}
-use Rattle.math_ring.proofs.Solve.{var, one, minus, _:+_, _:*_, _:-_, hyp, solve, solve-by}
+use Rattle.math_ring.proofs.Solve.{var, one, minus, _:+_, _:*_, hyp, solve, solve-by}
 use Rattle.math_triple.proofs.Pairs.{changed-start, changed-swap, changed-mix, changed-scale, changed-then, changed-back, changed-det}
 use Rattle.math_valued.specs.Val.{Valued}
 use Rattle.math_valued.specs.Degree.{Has, Lt}
 use Rattle.math_valued.specs.Polynomial.{polys, Poly, IsUnit}
 use Rattle.math_valued.proofs.Polynomial.{const-unit, unit-const}
 use Rattle.math_valued.proofs.Compare.{has-scale, lt-mul-sharp}
-use Rattle.math_valued.proofs.Degree.{lead-eq, lt-eq, has-eq, lt-add, lt-neg, lt-up, above, has-lt, lt-cancel, lead-up}
+use Rattle.math_valued.proofs.Degree.{lt-eq, has-eq, lt-add, lt-neg, lt-up, above, lt-cancel}
 use Rattle.math_rows.specs.Reading.{Reading}
 use Rattle.math_rows.specs.Row.{tpow, comb}
-use Rattle.math_rows.proofs.Rows.{tpow-lead, tpow-poly}
+use Rattle.math_rows.proofs.Rows.{tpow-poly}
 use Rattle.math_rows.proofs.Turn.{lt-scale}
 use Rattle.math_turns.specs.Points.{Pt, X, Y, side, D, Turned, Moved}
 

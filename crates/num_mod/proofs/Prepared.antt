@@ -3,7 +3,7 @@
 --   made-low, made-high      what `prepare` makes of p below 2^16, and above
 --   ready-prepared           so `ready p` is prepared
 use mathlib.Core.Path.{_≡_, refl, sym, subst}
-use Prim.Native.Nat.{ℕ, _*_, _/_, _<_, _≤_}
+use Prim.Native.Nat.{ℕ, _*_, _<_, _≤_}
 use native.Mathlib.Decide.{decLt}
 use native.Mathlib.Omega.{arith}
 use Rattle.num_mod.specs.Residue.{IsModulus}

@@ -1,6 +1,6 @@
 -- Why one multiplication is enough: with m = N / p and q = x m / N, q p ≤ x < (q + 2) p for every x ≤ N.
-use mathlib.Core.Path.{_≡_, refl, sym, ap, _∙_}
-use Prim.Native.Nat.{ℕ, zero, suc, _+_, _*_, _-_, _/_, _%_, _<_, _≤_}
+use mathlib.Core.Path.{_≡_, sym, ap, _∙_}
+use Prim.Native.Nat.{ℕ, _+_, _*_, _-_, _/_, _%_, _<_, _≤_}
 use native.Mathlib.Nat as M
 use native.Mathlib.Omega.{arith}
 

@@ -2,7 +2,7 @@
 --   refusal-carry   lists of coefficients that are of one field have one number in the table of refusals
 --   accept-carry    where one pair is accepted, so is the other
 use mathlib.Core.Path.{_≡_, sym, subst}
-use mathlib.Core.Logic.{_⊎_, inl, inr}
+use mathlib.Core.Logic.{inl, inr}
 use mathlib.Core.List.{List}
 use Prim.Native.Nat.{ℕ, _<_}
 use native.Mathlib.Nat.{add-comm}

@@ -3,7 +3,7 @@
 --   filled-same     a list filled with the entries of another is the other
 --   filled-zeros    a list filled with zeros
 --   Changing        the invariant of a loop that changes a list in place, entry by entry
-use mathlib.Core.Path.{_≡_, refl, sym, ap, _∙_}
+use mathlib.Core.Path.{_≡_, refl, sym, _∙_}
 use mathlib.Core.List.{List}
 use Prim.Native.Nat.{ℕ, _+_, _*_, _<_, _≤_}
 use native.Mathlib.Nat.{mul-le-mul}

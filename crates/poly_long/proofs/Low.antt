@@ -24,7 +24,7 @@ use Rattle.math_rows.specs.Made.{reading}
 use Rattle.math_rows.specs.Row.{tab, tpow, psum, coefs, row}
 use Rattle.math_rows.specs.Sum.{sumTo, termAt}
 use Rattle.math_rows.proofs.Tab.{Filled, filled-end, length-tab, at-tab, past-tab}
-use Rattle.math_rows.proofs.Rows.{psum-ext, psum-scale, psum-plus, psum-poly, psum-lt, psum-cut, tpow-add, tpow-lead, row-tab, row-upto}
+use Rattle.math_rows.proofs.Rows.{psum-ext, psum-scale, psum-plus, psum-poly, psum-lt, tpow-add, tpow-lead, row-tab, row-upto}
 use Rattle.math_rows.proofs.Product.{product-law}
 use Rattle.poly_long.specs.Long.{Low, ScaleAsks, Scaled}
 

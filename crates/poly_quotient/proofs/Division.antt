@@ -2,19 +2,18 @@
 -- agree at one place more.
 use mathlib.Core.Path.{_≡_, refl, sym, ap, ap₂, _∙_, subst}
 use mathlib.Core.List.{List, [], _∷_}
-use Prim.Native.Nat.{ℕ, zero, suc, _<_, _≤_, _%_, _-_, _+_, _*_}
+use Prim.Native.Nat.{ℕ, suc, _<_, _≤_, _%_, _-_, _+_, _*_}
 use native.Mathlib.Nat.{mod-lt}
-use native.Mathlib.Numerals.{add-one}
 use native.Mathlib.Omega.{arith}
 use native.Mathlib.Decide.{ℕ-discrete}
 use lib.ListN.{length, getD, set, length-set, List·getD-eq-default}
 use lib.Seq.{ext-getD, getD-set-same, getD-set-other}
 use Rattle.math_ring.specs.Ring.{Ops}
-use Rattle.math_ring.proofs.Solve.{var, one, minus, _:+_, _:*_, solve}
+use Rattle.math_ring.proofs.Solve.{var, minus, _:+_, solve}
 use Rattle.math_fp.specs.Fp.{Prime}
 use Rattle.math_rows.specs.Reading.{Reading}
 use Rattle.math_rows.specs.Made.{reading}
-use Rattle.math_rows.specs.Row.{row, psum, shiftAt}
+use Rattle.math_rows.specs.Row.{row}
 use Rattle.math_rows.specs.Sum.{sumTo, termAt}
 use Rattle.math_rows.proofs.Tab.{shift-high}
 use Rattle.math_rows.proofs.Rows.{cast-sub}

@@ -6,7 +6,7 @@
 --   from_list         Listed: the polynomial of a list
 use mathlib.Core.Path.{_≡_}
 use mathlib.Core.List.{List}
-use Prim.Native.Nat.{ℕ, _+_, _-_, _<_, _≤_}
+use Prim.Native.Nat.{ℕ, _+_, _-_, _≤_}
 use lib.ListN.{length, getD}
 use Rattle.math_fp.specs.Fp.{Prime}
 use Rattle.num_mod.specs.Residue.{IsModulus}

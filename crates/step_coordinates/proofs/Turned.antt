@@ -2,7 +2,7 @@
 --   r-near, w-near     how large the coordinates of r m and w m are
 --   x-in, turned-r     r m: its coordinates are asked for, and come back
 --   y-in, turned-w     w m
-use mathlib.Core.Path.{_≡_, sym}
+use mathlib.Core.Path.{sym}
 use mathlib.Core.List.{List}
 use Prim.Native.Nat.{ℕ, suc, _+_, _≤_}
 use native.Mathlib.Omega.{arith}

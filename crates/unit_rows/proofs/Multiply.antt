@@ -1,7 +1,7 @@
 -- E times m: the three coordinates, one after the other, make the rows of E′ with U E′ = E M.
 use mathlib.Core.Path.{_≡_, refl, sym, ap, ap₂, _∙_, subst}
 use mathlib.Core.List.{List, [], _∷_}
-use Prim.Native.Nat.{ℕ, zero, suc, _+_, _*_, _-_, _<_, _≤_}
+use Prim.Native.Nat.{ℕ, _+_, _*_, _-_, _<_, _≤_}
 use native.Mathlib.Omega.{arith}
 use native.Mathlib.Decide.{decLt}
 use lib.ListN.{length, getD}
@@ -11,7 +11,7 @@ use Rattle.math_fp.specs.Fp.{Prime}
 use Rattle.math_valued.specs.Degree.{Lt}
 use Rattle.math_rows.specs.Reading.{Reading}
 use Rattle.math_rows.specs.Made.{reading}
-use Rattle.math_rows.specs.Row.{tab, row, psum, coefs}
+use Rattle.math_rows.specs.Row.{row, coefs}
 use Rattle.math_rows.proofs.Tab.{at-tab, past-tab}
 use Rattle.math_rows.proofs.Rows.{psum-ext, row-tab, row-upto}
 use Rattle.base_lists.specs.Pieces.{cut, between}

@@ -11,10 +11,10 @@ use lib.ListN.{length, take, drop, length-take, take-append-drop}
 use lib.Seq.{drop-drop}
 use lib.IntN.{ℤ, pos, negsuc}
 use Rattle.base_lists.specs.Pieces.{Put, between, piece}
-use Rattle.base_lists.proofs.Pieces.{between-length, drop-take}
+use Rattle.base_lists.proofs.Pieces.{drop-take}
 use Rattle.base_lists.proofs.Puts.{placed-same, front-is}
 use Rattle.text_cut.specs.Lines.{Line, lines-of}
-use Rattle.text_cut.specs.Feed.{Fed, start, next-piece, at-end, Answered, no-line, Output, end-text}
+use Rattle.text_cut.specs.Feed.{Fed, start, next-piece, Answered, no-line, Output, end-text}
 use Rattle.text_cut.proofs.Feeds.{answered-append, fed-lines, fed-output}
 use Rattle.libc.specs.Io.{Moved}
 use Rattle.lister.specs.declared.Going.{Going}
@@ -25,7 +25,6 @@ use Rattle.lister_turn.specs.declared.Stand.{Stand}
 use Rattle.units.specs.Serve.{Call, write, read, moved, took, brought, Settles, Wrote, Answers, Came, Heard, Turn, writes, answers, reads, stops}
 use Rattle.units.specs.Serve.{Asks, Run, begin, more, Begun, Ending, Ran}
 use Rattle.lister_turn.specs.Turn.{at-stop}
-use Rattle.units.proofs.Turning.{moved-within}
 
 -- ---- the part of the answers that is not written yet
 end-short : (n : ℕ) → length (end-text n) ≤ room

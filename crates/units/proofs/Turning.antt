@@ -6,9 +6,9 @@
 --   part-starts, part-ends, wrote-asks, moved-as   what the calls in `turn` ask
 --   turn-writes, turn-answers, turn-reads, turn-stops   a turn, from its arm
 use mathlib.Core.Path.{_≡_, refl, sym, ap, subst, _∙_}
-use mathlib.Core.Logic.{_⊎_, inl, inr}
+use mathlib.Core.Logic.{inl, inr}
 use mathlib.Core.List.{List}
-use Prim.Native.Nat.{ℕ, zero, suc, _+_, _≤_, _<_, _-_, min}
+use Prim.Native.Nat.{ℕ, zero, suc, _+_, _≤_, _-_}
 use native.Mathlib.Omega.{arith}
 use lib.ListN.{length}
 use lib.IntN.{ℤ, pos, negsuc}

@@ -1,18 +1,17 @@
 -- One answer to each walk, and walks that are taken up again.
 use mathlib.Core.Path.{_≡_, refl, sym, _∙_}
 use mathlib.Core.List.{List}
-use Prim.Native.Nat.{ℕ, zero, suc, _+_, _≤_, _<_}
+use Prim.Native.Nat.{ℕ, _≤_}
 use native.Mathlib.Omega.{arith}
 use Rattle.field_open.specs.Refusal.{Accepted}
 use Rattle.field_open.proofs.Door.{door-unique}
 use Rattle.math_ideals.specs.Ideal.{Basis}
 use Rattle.math_chain.specs.Chain.{Chain, Closing, Open}
-use Rattle.math_chain.proofs.Walk.{same-chain, closing-unique, chain-then}
+use Rattle.math_chain.proofs.Walk.{same-chain, closing-unique}
 use Rattle.basis_record.specs.Record.{setting, basisOf, IsRecord}
 use Rattle.basis_record.proofs.Unique.{basis-unique}
 use Rattle.walk_chain.specs.declared.WalkAnswer.{WalkAnswer}
-use Rattle.walk_chain.specs.Walk.{Reaches, Closes, StaysOpen, refused, Closed, Spent, Goes, budget, no-record, closed, spent, Walks}
-use Rattle.base_answers.specs.Limits.{most}
+use Rattle.walk_chain.specs.Walk.{Reaches, Closes, StaysOpen, Closed, Spent, Goes, budget, no-record, closed, spent, Walks}
 
 -- an answer is its four parts
 walked-eq : (v w : WalkAnswer) → v .refusal ≡ w .refusal → v .steps ≡ w .steps → v .sum ≡ w .sum → v .basis ≡ w .basis → v ≡ w

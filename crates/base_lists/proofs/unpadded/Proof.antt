@@ -1,8 +1,6 @@
 -- `base_lists::unpadded` meets its contract. The loop's invariant: from n on there are zeros.
 use borrow.Author.Needs.{needs}
 use native.Mathlib.Omega.{arith}
-use lib.ListN.{length}
-use Prim.Native.Nat.{_≤_}
 use Rattle.base_lists.proofs.Trims.{ZerosFrom, zeros-start, zeros-less, zeros-here}
 use Rattle.base_lists.proofs.Paddings.{unpadded-size, unpadded-none}
 use Rattle.base_lists.proofs.unpadded.Statement.{statement}

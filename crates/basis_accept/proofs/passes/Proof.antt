@@ -1,7 +1,5 @@
 -- `basis_accept::passes` meets its contract: one test after the other.
-use Prim.Native.Nat.{_≤_, _+_}
 use native.Mathlib.Omega.{arith}
-use borrow.Author.Needs.{needs}
 use Rattle.basis_field.proofs.Keeps.{modulus}
 use Rattle.basis_accept.proofs.Accepting.{narrow-in, sum-low, shaped-by, shaped-from, alone-from, under-from, shaped-in, alone-in, under-in, passes-as, not-narrow, not-shaped, not-alone}
 use Rattle.basis_accept.proofs.passes.Statement.{statement}

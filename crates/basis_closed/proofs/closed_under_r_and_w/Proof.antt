@@ -1,6 +1,5 @@
 -- `basis_closed::closed_under_r_and_w` meets its contract: the rank, then U, M and N.
 use mathlib.Core.Path.{refl, subst}
-use mathlib.Core.Bool.{true, false}
 use native.Mathlib.Omega.{arith}
 use borrow.Author.Needs.{needs}
 use Rattle.poly_rows.proofs.Leaf.{zeros-size}

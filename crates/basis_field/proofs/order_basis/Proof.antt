@@ -1,7 +1,5 @@
 -- `basis_field::order_basis` meets its contract: the reduction of r and w.
-use Prim.Native.Nat.{_≤_, _+_}
 use native.Mathlib.Omega.{arith}
-use borrow.Author.Needs.{needs}
 use Rattle.basis_field.proofs.Keeps.{modulus, room}
 use Rattle.basis_field.proofs.First.{order-by, based-by, first-in, is-first}
 use Rattle.basis_field.proofs.order_basis.Statement.{statement}

@@ -1,6 +1,6 @@
 -- `basis_parts::floor_at` meets its contract: `part-minus`, `part-plus`.
 use mathlib.Core.Path.{_≡_, ap, _∙_}
-use Prim.Native.Nat.{ℕ, _*_, _≤_, _<_}
+use Prim.Native.Nat.{_*_, _≤_, _<_}
 use native.Mathlib.Omega.{arith}
 use Rattle.math_rows.specs.Made.{reading}
 use Rattle.num_mod.proofs.Prepared.{bare}

@@ -1,6 +1,6 @@
 -- `basis_parts::floor_in` meets its contract: a row swept from the front.
 use mathlib.Core.Path.{refl}
-use Prim.Native.Nat.{ℕ, _*_, _-_, _≤_, _<_}
+use Prim.Native.Nat.{_*_, _-_, _≤_, _<_}
 use native.Mathlib.Omega.{arith}
 use Rattle.basis_parts.specs.Given.{given}
 use Rattle.basis_parts.specs.Leaves.{partAt}

@@ -1,5 +1,5 @@
 -- `basis_parts::plain` meets its contract: `Heap`, i products of numbers below p are summed.
-use Prim.Native.Nat.{ℕ, _+_, _*_, _-_, _≤_, _<_}
+use Prim.Native.Nat.{_+_, _*_, _-_, _≤_, _<_}
 use native.Mathlib.Omega.{arith}
 use lib.ListN.{getD}
 use Rattle.basis_parts.proofs.Leaves.{Run, heap-start, heap-term, heap-square, heap-room, heap-more, heap-end}

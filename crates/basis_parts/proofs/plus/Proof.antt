@@ -1,6 +1,6 @@
 -- `basis_parts::plus` meets its contract: a product of two numbers below p is below p p, which is below 2^62.
 use mathlib.Core.Path.{_≡_, refl}
-use Prim.Native.Nat.{ℕ, _+_, _*_, _<_}
+use Prim.Native.Nat.{_+_, _*_, _<_}
 use native.Mathlib.Omega.{arith}
 use Rattle.math_rows.specs.Made.{reading}
 use Rattle.basis_parts.proofs.Leaves.{less-square, square-small, cast-less}

@@ -1,5 +1,5 @@
 -- `basis_parts::terms` meets its contract: `Run`, the first i terms are summed.
-use Prim.Native.Nat.{ℕ, _+_, _-_, _≤_}
+use Prim.Native.Nat.{_+_, _-_, _≤_}
 use native.Mathlib.Omega.{arith}
 use Rattle.basis_parts.proofs.Leaves.{Run, run-start, run-in, run-more, run-end}
 use borrow.Author.Needs.{needs}

@@ -1,5 +1,5 @@
 -- `basis_record::load` meets its contract: `Loading`, j numbers are read.
-use Prim.Native.Nat.{ℕ, _-_, _<_}
+use Prim.Native.Nat.{_-_, _<_}
 use native.Mathlib.Omega.{arith}
 use Rattle.basis_record.proofs.Store.{Loading, loading-start, loading-more, loading-end}
 use borrow.Author.Needs.{needs}

@@ -1,5 +1,5 @@
 -- `basis_record::stored` meets its contract: `Storing`, j numbers are written.
-use Prim.Native.Nat.{ℕ, _-_, _<_, _≤_}
+use Prim.Native.Nat.{_-_, _<_, _≤_}
 use native.Mathlib.Omega.{arith}
 use Rattle.basis_record.proofs.Store.{Storing, storing-start, storing-more, storing-end}
 use Rattle.basis_record.proofs.stored.Statement.{statement}

@@ -1,5 +1,5 @@
 -- `basis_store::factors_of` meets its contract: `scaling`.
-use Prim.Native.Nat.{ℕ, _*_, _%_, _<_}
+use Prim.Native.Nat.{_*_, _%_, _<_}
 use native.Mathlib.Nat.{mod-lt}
 use native.Mathlib.Omega.{arith}
 use Rattle.basis_store.proofs.Scales.{product-fits, scales-in, scaling}

@@ -1,5 +1,5 @@
 -- `basis_store::store_element` meets its contract: the lemmas of Place.
-use Prim.Native.Nat.{ℕ, _+_, _<_}
+use Prim.Native.Nat.{_+_, _<_}
 use native.Mathlib.Omega.{arith}
 use Rattle.basis_store.proofs.Place.{place-scale, place-cut, place-both, place-level, place-0, place-1, place-2, placed}
 use Rattle.basis_store.proofs.store_element.Statement.{statement}

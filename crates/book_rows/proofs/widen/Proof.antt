@@ -1,7 +1,7 @@
 -- `widen` meets its contract. The loop's invariant: so many numbers of the row stand in the slice.
 use Prim.Native.Nat.{_≤_, _-_}
 use native.Mathlib.Omega.{arith}
-use lib.ListN.{length, take}
+use lib.ListN.{take}
 use borrow.Author.Needs.{needs}
 use Rattle.base_lists.specs.Pieces.{Written}
 use Rattle.base_lists.proofs.Puts.{written-more}

@@ -1,5 +1,5 @@
 -- `door_check::check` meets its contract: the test of the record in the opened field.
-use mathlib.Core.Path.{_≡_, refl}
+use mathlib.Core.Path.{refl}
 use native.Mathlib.Omega.{arith}
 use borrow.Author.Needs.{needs}
 use Rattle.field_open.proofs.Door.{door-refused}

@@ -4,7 +4,7 @@ use mathlib.Core.Path.{_≡_, _∙_, ap, subst}
 use native.Mathlib.Omega.{arith}
 use lib.ListN.{length, length-replicate}
 use borrow.Author.Needs.{needs}
-use mathlib.Core.Bool.{Bool, true, false}
+use mathlib.Core.Bool.{Bool, false}
 use Rattle.field_open.specs.Padding.{unpad}
 use Rattle.basis_field.proofs.Known.{known-of}
 use Rattle.door_unit.specs.Fit.{Rule, Unfit}

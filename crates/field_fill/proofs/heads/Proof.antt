@@ -1,5 +1,5 @@
 -- `field_fill::heads` meets its contract: a row filled from the front.
-use Prim.Native.Nat.{ℕ, _<_, _-_}
+use Prim.Native.Nat.{_-_}
 use mathlib.Core.Path.{refl}
 use native.Mathlib.Omega.{arith}
 use borrow.Author.Needs.{needs}

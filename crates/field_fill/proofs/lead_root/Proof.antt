@@ -1,9 +1,8 @@
 -- `field_fill::lead_root` meets its contract.
-use Prim.Native.Nat.{ℕ, _*_, _%_, _<_}
-use mathlib.Core.Path.{_≡_, _∙_, sym, ap, subst}
+use Prim.Native.Nat.{_*_, _%_}
+use mathlib.Core.Path.{_∙_, ap, subst}
 use native.Mathlib.Nat.{mod-lt}
 use native.Mathlib.Omega.{arith}
-use borrow.Author.Needs.{needs}
 use Rattle.math_fp.proofs.Field.{ppos}
 use Rattle.num_power.specs.Powers.{CubeRoot}
 use Rattle.field_fill.proofs.Leads.{modulus-of, lead-root-is}

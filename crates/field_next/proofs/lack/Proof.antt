@@ -1,7 +1,6 @@
 -- `field_next::lack` meets its contract.
-use Prim.Native.Nat.{ℕ, _≤_, _<_, _-_, _*_, _+_, _%_}
+use Prim.Native.Nat.{_-_, _+_}
 use native.Mathlib.Nat.{mod-lt}
-use native.Mathlib.Omega.{arith}
 use borrow.Author.Needs.{needs}
 use Rattle.field_next.proofs.lack.Statement.{statement}
 use Rattle.field_next.proofs.lack.Tie as tie

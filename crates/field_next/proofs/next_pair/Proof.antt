@@ -1,13 +1,13 @@
 -- `field_next::next_pair` meets its contract: `turned` of proofs/Turns.antt, at what the calls hand out.
-use Prim.Native.Nat.{ℕ, _<_}
-use mathlib.Core.Path.{_≡_, _∙_, ap₂}
+use Prim.Native.Nat.{ℕ}
+use mathlib.Core.Path.{_∙_, ap₂}
 use native.Mathlib.Omega.{arith}
-use lib.ListN.{length, length-set, set}
+use lib.ListN.{length-set, set}
 use borrow.Author.Needs.{needs}
 use Rattle.base_lists.specs.Sums.{entry}
 use Rattle.field_next.specs.Next.{Filling}
 use Rattle.field_next.proofs.Step.{r-next, w-next}
-use Rattle.field_next.proofs.Turns.{short-a, short-b, turned}
+use Rattle.field_next.proofs.Turns.{turned}
 use Rattle.field_next.proofs.next_pair.Statement.{statement}
 use Rattle.field_next.proofs.next_pair.Tie as tie
 use Rattle.field_next.proofs.next_pair.Reads as reads

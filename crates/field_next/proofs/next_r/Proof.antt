@@ -1,5 +1,5 @@
 -- `field_next::next_r` meets its contract.
-use Prim.Native.Nat.{ℕ, _≤_, _<_, _-_, _*_, _+_, _%_}
+use Prim.Native.Nat.{_≤_, _<_, _-_, _*_, _+_, _%_}
 use native.Mathlib.Nat.{mod-lt}
 use native.Mathlib.Omega.{arith}
 use borrow.Author.Needs.{needs}

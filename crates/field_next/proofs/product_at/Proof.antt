@@ -1,14 +1,14 @@
 -- `field_next::product_at` meets its contract. The loop's invariant: the sum of the products passed; past the end of the first list there are none.
-use Prim.Native.Nat.{ℕ, zero, suc, _≤_, _<_, _-_, _*_, _+_, _%_}
-use mathlib.Core.Path.{_≡_, _∙_, sym, ap, ap₂, refl, subst}
-use mathlib.Core.List.{List, [], _∷_, _++_}
+use Prim.Native.Nat.{ℕ, suc, _≤_, _-_, _*_, _+_, _%_}
+use mathlib.Core.Path.{_≡_, _∙_, sym, ap, ap₂}
+use mathlib.Core.List.{List}
 use native.Mathlib.Omega.{arith}
 use native.Mathlib.Numerals.{add-one}
-use lib.ListN.{length, length-set, getD, List·getD-eq-default}
+use lib.ListN.{length, List·getD-eq-default}
 use native.Mathlib.Nat.{zero-mul, mod-lt}
 use mathlib.Core.Logic.{_⊎_, inl, inr, ⊎-elim}
 use borrow.Author.Needs.{needs}
-use Rattle.base_lists.specs.Sums.{entry, prod}
+use Rattle.base_lists.specs.Sums.{entry}
 use Rattle.field_next.proofs.Sums.{prod-sum, product-small}
 use Rattle.math_rows.specs.Sum.{sumTo}
 use Rattle.math_rows.proofs.Product.{sum-more, sum-skip, sum-none}

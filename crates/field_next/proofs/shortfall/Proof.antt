@@ -1,6 +1,6 @@
 -- `field_next::shortfall` meets its contract.
-use Prim.Native.Nat.{ℕ, _-_, _+_, _%_}
-use mathlib.Core.Path.{_≡_, _∙_, ap₂}
+use Prim.Native.Nat.{_-_, _+_, _%_}
+use mathlib.Core.Path.{_∙_, ap₂}
 use borrow.Author.Needs.{needs}
 use Rattle.field_next.proofs.shortfall.Statement.{statement}
 use Rattle.field_next.proofs.shortfall.Tie as tie

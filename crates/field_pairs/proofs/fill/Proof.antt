@@ -1,5 +1,5 @@
 -- `field_pairs::fill` meets its contract. The loop's invariant: the two lists are filled up to i, and r begins with the cube root.
-use Prim.Native.Nat.{ℕ, _≤_, _<_, _-_, _*_, _%_}
+use Prim.Native.Nat.{_≤_, _<_, _-_, _*_, _%_}
 use mathlib.Core.Path.{_≡_, _∙_, sym, ap, ap₂, refl, subst}
 use native.Mathlib.Omega.{arith}
 use lib.Seq.{getD-set-same}

@@ -1,7 +1,6 @@
 -- `field_series::no_cubic` meets its contract.
-use mathlib.Core.Path.{_≡_, ap}
+use mathlib.Core.Path.{ap}
 use lib.ListN.{replicate}
-use borrow.Author.Needs.{needs}
 use Rattle.field_open.specs.declared.Field.{Field}
 use Rattle.field_series.specs.declared.OpenedField.{OpenedField}
 use Rattle.field_series.proofs.no_cubic.Statement.{statement}

@@ -1,8 +1,7 @@
 -- `field_series::series` meets its contract: a refusal leaves both lists as they were, and 0 comes with both filled.
-use mathlib.Core.Path.{_≡_, subst}
+use mathlib.Core.Path.{subst}
 use native.Mathlib.Omega.{arith}
 use borrow.Author.Needs.{needs}
-use lib.ListN.{length}
 use Rattle.base_lists.proofs.Paddings.{unpadded-length}
 use Rattle.field_open.specs.Refusal.{Refusal}
 use Rattle.field_open.proofs.Paddings.{front-accepted}

@@ -1,8 +1,8 @@
 -- `field_series::widened` meets its contract: a row filled from the front.
-use Prim.Native.Nat.{ℕ, _<_, _-_}
+use Prim.Native.Nat.{_-_}
 use mathlib.Core.Path.{_≡_, _∙_, sym, refl}
 use native.Mathlib.Omega.{arith}
-use lib.ListN.{length, getD}
+use lib.ListN.{length}
 use lib.Seq.{ext-getD}
 use borrow.Author.Needs.{needs}
 use Rattle.base_lists.specs.Sums.{entry}

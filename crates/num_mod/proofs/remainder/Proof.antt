@@ -1,6 +1,6 @@
 -- `remainder` meets its contract: the quotient by one multiplication is right or one less.
-use mathlib.Core.Path.{_≡_, sym, ap, subst}
-use Prim.Native.Nat.{ℕ, _+_, _*_, _-_, _/_, _%_, _<_, _≤_, _^_}
+use mathlib.Core.Path.{sym, subst}
+use Prim.Native.Nat.{ℕ, _+_, _*_, _-_, _/_, _<_, _≤_, _^_}
 use native.Mathlib.Omega.{arith}
 use native.Mathlib.Nat as M
 use Rattle.num_mod.proofs.Quick.{not-above, nearly, left-small, left-large, fits, within}

@@ -1,6 +1,6 @@
 -- `poly_divide::quotient_in` meets its contract: each turn is `dividing-turn`.
-use mathlib.Core.Path.{_≡_, ap, subst, sym, _∙_}
-use Prim.Native.Nat.{_+_, _-_, _*_, _%_, _≤_, _<_}
+use mathlib.Core.Path.{_≡_, subst, sym}
+use Prim.Native.Nat.{_+_, _-_, _≤_, _<_}
 use native.Mathlib.Omega.{arith}
 use borrow.Author.Needs.{needs}
 use mathlib.Core.Logic.{⊎-elim}

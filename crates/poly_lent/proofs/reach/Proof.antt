@@ -1,6 +1,6 @@
 -- `poly_lent::reach` meets its contract.
 use native.Mathlib.Omega.{arith}
-use Prim.Native.Nat.{_+_, _-_, _≤_, _<_}
+use Prim.Native.Nat.{_-_, _≤_}
 use mathlib.Core.Logic.{⊎-elim}
 use borrow.Author.Needs.{needs}
 use Rattle.poly_lent.proofs.reach.Statement.{statement}

@@ -1,6 +1,6 @@
 -- `poly_long::scale` meets its contract. The loop's invariant: the numbers passed are changed, the others are as they were.
-use Prim.Native.Nat.{_≤_, _<_, _-_, _*_, _%_}
-use mathlib.Core.Path.{_≡_, _∙_, ap}
+use Prim.Native.Nat.{_-_, _*_, _%_}
+use mathlib.Core.Path.{_∙_, ap}
 use native.Mathlib.Omega.{arith}
 use lib.ListN.{length, getD}
 use borrow.Author.Needs.{needs}

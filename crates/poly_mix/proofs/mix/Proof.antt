@@ -1,10 +1,9 @@
 -- `poly_mix::mix` meets its contract: the list is filled with the remainders of the sums, which need no more than the sizes of g and h.
-use Prim.Native.Nat.{ℕ, zero, suc, _≤_, _<_, _-_, _*_, _+_, _%_}
-use mathlib.Core.Path.{_≡_, _∙_, sym, ap, ap₂, refl, subst}
-use mathlib.Core.List.{List, [], _∷_, _++_}
+use Prim.Native.Nat.{_<_, _-_, _+_, _%_}
+use mathlib.Core.Path.{_∙_, ap₂, refl}
+use mathlib.Core.List.{List}
 use native.Mathlib.Omega.{arith}
-use native.Mathlib.Numerals.{add-one}
-use lib.ListN.{length, length-set, getD, set, replicate, take, drop}
+use lib.ListN.{length}
 use native.Mathlib.Nat.{mod-lt}
 use Rattle.math_rows.specs.Sum.{sumTo, termAt}
 use Rattle.math_rows.proofs.Tab.{Filled, filled-start, filled-more}

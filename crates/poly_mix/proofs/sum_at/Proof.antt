@@ -1,10 +1,9 @@
 -- `poly_mix::sum_at` meets its contract: proofs/Sums.antt.
-use Prim.Native.Nat.{ℕ, zero, suc, _≤_, _<_, _-_, _*_, _+_, _%_}
-use mathlib.Core.Path.{_≡_, _∙_, sym, ap, ap₂, refl, subst}
-use mathlib.Core.List.{List, [], _∷_, _++_}
+use Prim.Native.Nat.{_≤_, _<_, _-_, _*_}
+use mathlib.Core.Path.{refl}
+use mathlib.Core.List.{List}
 use native.Mathlib.Omega.{arith}
-use native.Mathlib.Numerals.{add-one}
-use lib.ListN.{length, length-set, getD, set, replicate, take, drop}
+use lib.ListN.{getD}
 use Rattle.poly_mix.proofs.Sums.{Summing, summing-start, summing-more, summing-end}
 use Rattle.poly_long.proofs.Loops.{product-small}
 use mathlib.Core.Logic.{_⊎_, inl, inr, ⊎-elim}

@@ -1,10 +1,8 @@
 -- `poly_quotient::digit` meets its contract.
-use Prim.Native.Nat.{ℕ, zero, suc, _≤_, _<_, _-_, _*_, _+_, _%_}
-use mathlib.Core.Path.{_≡_, _∙_, sym, ap, ap₂, refl, subst}
-use mathlib.Core.List.{List, [], _∷_, _++_}
+use Prim.Native.Nat.{_<_, _-_, _+_, _%_}
+use mathlib.Core.Path.{ap₂}
+use mathlib.Core.List.{List}
 use native.Mathlib.Omega.{arith}
-use native.Mathlib.Numerals.{add-one}
-use lib.ListN.{length, length-set, getD, set, replicate, take, drop}
 use native.Mathlib.Nat.{mod-lt}
 use borrow.Author.Needs.{needs}
 use Rattle.poly_quotient.proofs.digit.Statement.{statement}

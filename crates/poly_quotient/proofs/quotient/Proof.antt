@@ -1,10 +1,7 @@
 -- `poly_quotient::quotient` meets its contract: each turn is `down-more` of proofs/Division.antt.
-use Prim.Native.Nat.{ℕ, zero, suc, _≤_, _<_, _-_, _*_, _+_, _%_}
-use mathlib.Core.Path.{_≡_, _∙_, sym, ap, ap₂, refl, subst}
-use mathlib.Core.List.{List, [], _∷_, _++_}
+use Prim.Native.Nat.{_-_}
+use mathlib.Core.List.{List}
 use native.Mathlib.Omega.{arith}
-use native.Mathlib.Numerals.{add-one}
-use lib.ListN.{length, length-set, getD, set, replicate, take, drop}
 use Rattle.poly_quotient.proofs.Division.{Down, down-start, down-more, down-end}
 use borrow.Author.Needs.{needs}
 use Rattle.poly_quotient.proofs.quotient.Statement.{statement}

@@ -1,5 +1,5 @@
 -- `poly_rows::minus` meets its contract: a row filled with p − x_i.
-use Prim.Native.Nat.{_≤_, _-_, _+_, _%_}
+use Prim.Native.Nat.{_≤_, _-_, _%_}
 use native.Mathlib.Omega.{arith}
 use lib.ListN.{getD}
 use Rattle.math_rows.proofs.Tab.{Begun, begun-start, begun-more, begun-end}

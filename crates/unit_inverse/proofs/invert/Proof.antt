@@ -1,10 +1,9 @@
 -- `unit_inverse::invert` meets its contract: proofs/Inverting.antt.
-use Prim.Native.Nat.{ℕ, zero, suc, _≤_, _<_, _-_, _*_, _+_, _%_}
-use mathlib.Core.Path.{_≡_, _∙_, sym, ap, ap₂, refl, subst}
-use mathlib.Core.List.{List, [], _∷_, _++_}
+use Prim.Native.Nat.{_-_, _+_}
+use mathlib.Core.Path.{_∙_, ap, refl}
+use mathlib.Core.List.{List}
 use native.Mathlib.Omega.{arith}
-use native.Mathlib.Numerals.{add-one}
-use lib.ListN.{length, length-set, getD, set, replicate, take, drop}
+use lib.ListN.{length}
 use lib.ListN.{length-replicate}
 use Rattle.unit_inverse.proofs.Inverting.{invert-asks, norm-asks, inverse-asks, inverted}
 use borrow.Author.Needs.{needs}

@@ -1,10 +1,9 @@
 -- `unit_rows::times` meets its contract: proofs/Multiply.antt.
-use Prim.Native.Nat.{ℕ, zero, suc, _≤_, _<_, _-_, _*_, _+_, _%_}
-use mathlib.Core.Path.{_≡_, _∙_, sym, ap, ap₂, refl, subst}
-use mathlib.Core.List.{List, [], _∷_, _++_}
+use Prim.Native.Nat.{_≤_, _-_, _+_}
+use mathlib.Core.Path.{_≡_}
+use mathlib.Core.List.{List}
 use native.Mathlib.Omega.{arith}
-use native.Mathlib.Numerals.{add-one}
-use lib.ListN.{length, length-set, getD, set, replicate, take, drop}
+use lib.ListN.{length}
 use Rattle.base_lists.specs.Pieces.{between}
 use Rattle.unit_rows.proofs.Multiply.{piece-length, times-asks, times-made}
 use borrow.Author.Needs.{needs}

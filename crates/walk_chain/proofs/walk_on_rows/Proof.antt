@@ -1,10 +1,9 @@
 -- `walk_on_rows` meets its contract. The loop's invariant is `Going`; what is left of the budget falls.
 use Prim.Native.Nat.{_-_, _≤_}
 use mathlib.Core.Bool.{Bool}
-use mathlib.Core.Path.{_≡_, refl, sym, ap, _∙_, subst}
+use mathlib.Core.Path.{refl, subst}
 use native.Mathlib.Omega.{arith}
 use native.Mathlib.Numerals.{add-one}
-use borrow.Author.Needs.{needs}
 use Rattle.base_answers.specs.Limits.{most}
 use Rattle.walk_closed.specs.Closed.{OnePart}
 use Rattle.walk_chain.specs.Going.{Going}
