@@ -27,7 +27,7 @@ use Rattle.door_period.specs.Order.{FromOrder}
 use Rattle.door_unit.specs.declared.UnitAnswer.{UnitAnswer}
 use Rattle.door_unit.specs.Unit.{Makes}
 use Rattle.door_unit.proofs.Once.{refused-number}
-use Rattle.door_compare.specs.Answer.{Compares}
+use Rattle.door_compare.specs.Answer.{Refusals, Compares}
 use Rattle.door_transfer.specs.Transfer.{Transfers}
 use Rattle.book_body.specs.Body.{Body, FieldSays, bodyOf}
 use Rattle.book_write.specs.Write.{bodyFrom, WriteTells}
@@ -145,6 +145,8 @@ padded-lists = record {
   walk-same = λ {p} {n} {B = B} v w a b x y. D .walk-fixed v w x (back a b (λ g h. Walks p g h n B w) y);
   from-order-same = λ {p} {n} v w a b x y. D .from-order-fixed v w x (back a b (λ g h. FromOrder p g h n w) y);
   unit-same = λ {p} {n} {rows = rows} {scratch} {r′ = r′} {s′} m m′ a b x y. D .unit-fixed m m′ x (back a b (λ g h. Makes p g h n rows scratch m′ r′ s′) y);
+  pairs-same = λ {p} {m} {n} {K = K} {L} {G′} {H′} a b c d x y.
+      D .pairs-fixed x (back a b (λ g h. Refusals p g h (unpad K) (unpad L) n) (back c d (λ k l. Refusals p (unpad G′) (unpad H′) k l n) y));
   compare-same = λ {p} {K = K} {L} {G′} {H′} v w a b c d x y.
       D .compare-fixed v w x (back a b (λ g h. Compares p g h (unpad K) (unpad L) w) (back c d (λ k l. Compares p (unpad G′) (unpad H′) k l w) y));
   transfer-same = λ {p} {n} {n′} {K = K} {L} {G′} {H′} {rows = rows} {r′ = r′} a b c d x y.

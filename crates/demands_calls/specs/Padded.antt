@@ -34,7 +34,7 @@ use Rattle.door_period.specs.Order.{FromOrder}
 use Rattle.door_unit.specs.declared.UnitAnswer.{UnitAnswer}
 use Rattle.door_unit.specs.Unit.{Makes}
 use Rattle.door_compare.specs.declared.CompareAnswer.{CompareAnswer}
-use Rattle.door_compare.specs.Answer.{Compares}
+use Rattle.door_compare.specs.Answer.{Refusals, Compares}
 use Rattle.door_transfer.specs.Transfer.{Transfers}
 use Rattle.book_body.specs.Body.{Body, FieldSays, bodyOf}
 use Rattle.book_write.specs.Write.{bodyFrom, WriteTells}
@@ -99,6 +99,10 @@ pub record PaddedLists : Type 1 where
       Makes p (unpad G) (unpad H) n rows scratch m r s → Makes p (unpad G′) (unpad H′) n rows scratch m′ r′ s′ →
       (m ≡ m′) × (r ≡ r′) × (s ≡ s′)
   -- two pairs: each list may be padded
+  pub pairs-same :
+      {p m n : ℕ} {G H K L G′ H′ K′ L′ : List ℕ} → Stand G G′ → Stand H H′ → Stand K K′ → Stand L L′ →
+      Refusals p (unpad G) (unpad H) (unpad K) (unpad L) m → Refusals p (unpad G′) (unpad H′) (unpad K′) (unpad L′) n →
+      m ≡ n
   pub compare-same :
       {p : ℕ} {G H K L G′ H′ K′ L′ : List ℕ} (a b : CompareAnswer) → Stand G G′ → Stand H H′ → Stand K K′ → Stand L L′ →
       Compares p (unpad G) (unpad H) (unpad K) (unpad L) a → Compares p (unpad G′) (unpad H′) (unpad K′) (unpad L′) b →
