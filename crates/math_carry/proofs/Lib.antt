@@ -1,4 +1,5 @@
 pub mod Inverse
+pub mod Norms
 pub mod Pairs
 pub mod Meets
 pub mod Transport

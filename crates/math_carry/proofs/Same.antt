@@ -9,6 +9,7 @@ use Rattle.math_valued.specs.Val.{Valued}
 use Rattle.math_ideals.specs.Ideal.{Basis}
 use Rattle.math_ideals.specs.Next.{Start}
 use Rattle.math_chain.specs.Chain.{Chain, Open, Closing}
+use Rattle.math_chain.specs.Convention.{Convention}
 use Rattle.math_chain.specs.Unit.{UnitOf}
 use Rattle.math_chain.proofs.Walk.{closing-unique}
 use Rattle.math_chain.proofs.Closing.{start-unique}
@@ -31,13 +32,13 @@ module _ (𝓥 : Valued) {s s′ : Roots 𝓥} (c : Carries s s′)
   pub closing-over : {l n : ℕ} {B : Basis (at s)} → Closing (at s) B₀ l n B → Closing (at s′) B₀′ l n (over 𝓥 c B)
   closing-over {l} {n} {B} k = subst (λ b. Closing (at s′) b l n (over 𝓥 c B)) start-same (closing-carry 𝓥 c k)
 
-  pub unit-over : {l n : ℕ} {E F : El 𝓥} → UnitOf (at s) B₀ l n E F → UnitOf (at s′) B₀′ l n (c .to E) (c .to F)
-  unit-over {l} {n} {E} {F} u = subst (λ b. UnitOf (at s′) b l n (c .to E) (c .to F)) start-same (unit-carry 𝓥 c u)
+  pub unit-over : {k : Convention} {l n : ℕ} {E F : El 𝓥} → UnitOf (at s) k B₀ l n E F → UnitOf (at s′) k B₀′ l n (c .to E) (c .to F)
+  unit-over {k} {l} {n} {E} {F} u = subst (λ b. UnitOf (at s′) k b l n (c .to E) (c .to F)) start-same (unit-carry 𝓥 c u)
 
   pub closing-same : {l l′ n n′ : ℕ} {B : Basis (at s)} {B′ : Basis (at s′)}
       → Closing (at s) B₀ l n B → Closing (at s′) B₀′ l′ n′ B′ → (l ≡ l′) × (n ≡ n′) × (over 𝓥 c B ≡ B′)
   closing-same k k′ = closing-unique (at s′) B₀′ (st′ .good) (closing-over k) k′
 
-  pub unit-same : {l l′ n n′ : ℕ} {E F E′ F′ : El 𝓥}
-      → UnitOf (at s) B₀ l n E F → UnitOf (at s′) B₀′ l′ n′ E′ F′ → (l ≡ l′) × (n ≡ n′) × (c .to E ≡ E′) × (c .to F ≡ F′)
+  pub unit-same : {k : Convention} {l l′ n n′ : ℕ} {E F E′ F′ : El 𝓥}
+      → UnitOf (at s) k B₀ l n E F → UnitOf (at s′) k B₀′ l′ n′ E′ F′ → (l ≡ l′) × (n ≡ n′) × (c .to E ≡ E′) × (c .to F ≡ F′)
   unit-same u u′ = unit-unique (at s′) B₀′ st′ (unit-over u) u′

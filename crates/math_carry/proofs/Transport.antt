@@ -25,9 +25,11 @@ use Rattle.math_ideals.proofs.Sizes.{X-sc, Y-sc, Z-sc, X-Y-det}
 use Rattle.math_ideals.proofs.Lattice.{in-U, sc-mul, by-all, divides-all, all-divides}
 use Rattle.math_ideals.proofs.Form.{has-two}
 use Rattle.math_chain.specs.Chain.{Degree, Chain, here, then, tops, bottoms, Open, Closing}
+use Rattle.math_chain.specs.Convention.{Convention}
 use Rattle.math_chain.specs.Unit.{UnitOf}
 use Rattle.math_carry.specs.Carries.{El, Carries, carry}
 use Rattle.math_carry.proofs.Inverse.{twice, back, ev-kept, Z-kept, undone, carry-back}
+use Rattle.math_carry.proofs.Norms.{scaled-kept}
 
 module _ (𝓥 : Valued) {s s′ : Roots 𝓥} (c : Carries s s′) where
   open Valued 𝓥 using (K, L)
@@ -241,21 +243,21 @@ module _ (𝓥 : Valued) {s s′ : Roots 𝓥} (c : Carries s s′) where
     none = λ m e B some l k. h .none m e (over 𝓥 (back 𝓥 c) B) some l (chain-back k);
   }
 
-  pub unit-carry : {B₀ : Basis (at s)} {l n : ℕ} {E F : El 𝓥} → UnitOf (at s) B₀ l n E F → UnitOf (at s′) (over 𝓥 c B₀) l n (c .to E) (c .to F)
+  pub unit-carry : {k : Convention} {B₀ : Basis (at s)} {l n : ℕ} {E F : El 𝓥} → UnitOf (at s) k B₀ l n E F → UnitOf (at s′) k (over 𝓥 c B₀) l n (c .to E) (c .to F)
   unfolding closing-carry
-  unit-carry {B₀} {E = E} {F} u =
-      let k = u .closing .chain in
+  unit-carry {k} {B₀} {E = E} {F} u =
+      let h = u .closing .chain in
       record {
         start = start-carry 𝓥 c B₀ (u .start);
         B = over 𝓥 c (u .B);
         closing = closing-carry (u .closing);
         scale = u .scale;
         is-unit = u .is-unit;
-        product = ap (λ z. sc (at s′) z ⊗′ c .to E) (bottoms-carry 𝓥 c k)
-            ∙ sym (to-sc 𝓥 c (bottoms (at s) k) E)
+        product = ap (λ z. sc (at s′) z ⊗′ c .to E) (bottoms-carry 𝓥 c h)
+            ∙ sym (to-sc 𝓥 c (bottoms (at s) h) E)
             ∙ ap (c .to) (u .product)
-            ∙ to-sc 𝓥 c (u .scale) (tops (at s) k)
-            ∙ ap (λ z. sc (at s′) (u .scale) ⊗′ z) (sym (tops-carry 𝓥 c k));
-        monic = subst (λ z. Leads 𝓥 (z .0) (𝓥 .K .ops .𝟏)) (sym (c .first E)) (u .monic);
+            ∙ to-sc 𝓥 c (u .scale) (tops (at s) h)
+            ∙ ap (λ z. sc (at s′) (u .scale) ⊗′ z) (sym (tops-carry 𝓥 c h));
+        scaled = scaled-kept 𝓥 c k E (u .scaled);
         inverse = sym (c .mul E F) ∙ ap (c .to) (u .inverse) ∙ c .poly 1ₚ;
       }

@@ -7,6 +7,7 @@ pub mod Correct
 pub mod Walk
 pub mod Passed
 pub mod Closing
+pub mod Scaling
 pub mod Unit
 pub mod Rows
 pub mod Reduce

@@ -31,6 +31,7 @@ use Rattle.math_ideals.proofs.Lattice.{in-M, in-N}
 use Rattle.math_ideals.proofs.Norm.{F, F-deg, YZ-of, Below, below-of}
 use Rattle.math_ideals.proofs.Degrees.{Small, small, lt-off}
 use Rattle.math_chain.specs.Chain.{Chain}
+use Rattle.math_chain.specs.Convention.{Convention}
 use Rattle.math_chain.specs.Unit.{Fit, UnitOf}
 use Rattle.math_chain.proofs.Walk.{chain-good}
 use Rattle.math_chain.proofs.Passed.{Passed, passed, rows, spans}
@@ -67,7 +68,7 @@ module _ (S : Setting) where
         fit-below F′ (suc h) (below-of S F′ (suc h) (𝓥 .lead-up (suc h +ⁿ suc h) 0 (F-deg S F′ (Q-F S E F′ inverse hE) .2) (omega arith)) (𝓥 .lead-up (suc h) 0 (inverse-has S E F′ inverse hE .2) (omega arith))),
       )
 
-  pub unit-fits : (B₀ : Basis S) → Start S B₀ → {l n : ℕ} {E F : O S .El} → UnitOf S B₀ l n E F → (c : ℕ) → (n < c → Fit S c E × Fit S c F) × (Fit S c E → n < c)
+  pub unit-fits : (B₀ : Basis S) → Start S B₀ → {k : Convention} {l n : ℕ} {E F : O S .El} → UnitOf S k B₀ l n E F → (c : ℕ) → (n < c → Fit S c E × Fit S c F) × (Fit S c E → n < c)
   unit-fits B₀ st {n = n} {E = E} {F = F′} u c =
       let (hE, hA, h, e) = unit-degree S B₀ st u in
       let (fE, fF) = unit-rows E F′ n h (u .inverse) hE (closing-pos S B₀ st (u .closing)) e in (

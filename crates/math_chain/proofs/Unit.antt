@@ -3,10 +3,11 @@
 --   large                  a unit of positive degree: Y and Z lie below 0, and E0 has the degree of E
 --   inverse-cof cof-inverse   F = cof(E)/N(E), and where N(E) is a unit that is the inverse
 --   inverse-has inverse-unique   the inverse has the opposite degree, and it is one
---   scale-to scale-unique  one constant gives a size of an element a wanted leading coefficient
 --   closing-unit closing-norm   the product at a closing has an inverse, and its norm is a unit
 --   unit-made              the unit as it is computed
 --   unit-exists unit-unique   the unit of document 01 exists and is one; `unit-degree`: deg E0 = d, and d is even
+--   unit-positive unit-rescaled   it is a unit of positive degree, and scaled by another convention it is the unit of that one
+--   positive-scaling       a unit of positive degree has exactly one scaling under each convention
 use mathlib.Core.Path.{_≡_, refl, sym, ap, ap₂, _∙_, subst}
 use mathlib.Core.List.{[], _∷_}
 use mathlib.Core.Logic.{_≢_, _⊎_, inl, inr}
@@ -20,19 +21,21 @@ use Rattle.math_valued.specs.Val.{Valued}
 use Rattle.math_valued.specs.Degree.{HasDeg, Has, Lt, Leads}
 use Rattle.math_valued.specs.Polynomial.{polys, IsUnit}
 use Rattle.math_valued.proofs.Degree as d
-use Rattle.math_valued.proofs.Compare.{has-scale, has-unscale, leads-mul, leads-unique}
-use Rattle.math_valued.proofs.Polynomial.{view, unit-of, unit-const, const-path, not-zero}
+use Rattle.math_valued.proofs.Compare.{has-scale, has-unscale}
+use Rattle.math_valued.proofs.Polynomial.{view, unit-const, const-unit, not-zero}
 use Rattle.math_ideals.specs.Setting.{Roots, Setting, P}
 use Rattle.math_ideals.specs.Element.{O, sc, ev, Y, Z, norm, cof}
 use Rattle.math_ideals.specs.Ideal.{Basis}
 use Rattle.math_ideals.specs.Next.{Start}
-use Rattle.math_ideals.proofs.Sizes.{sc-a, sc-cancel, ev-sc, ev-flat, three-a}
+use Rattle.math_ideals.proofs.Sizes.{sc-cancel, ev-sc, ev-flat, three-a}
 use Rattle.math_ideals.proofs.Values.{Q, Q-YZ, Q-mul, Q-one, ev-Q, ev-mul, ev-one, norm-mul, norm-cof, plain}
 use Rattle.math_ideals.proofs.Form.{has-two, has-three, form-lt}
 use Rattle.math_ideals.proofs.Lattice.{sc-mul}
 use Rattle.math_ideals.proofs.Norm.{YZ-lt, Q-deg}
 use Rattle.math_chain.specs.Chain.{tops, bottoms, Product, Closing}
+use Rattle.math_chain.specs.Convention.{Convention, e0-monic, Cubes, Scaled, PositiveUnit, OneScaling}
 use Rattle.math_chain.specs.Unit.{Invertible, UnitOf}
+use Rattle.math_chain.proofs.Scaling.{weigh, scale-unique, monic-exists, weight, one-scaling}
 use Rattle.math_chain.proofs.Walk.{same-products, closing-unique, chain-room}
 use Rattle.math_chain.proofs.Passed.{Passed, passed, bottoms-deg, product-unique, product-scaled}
 
@@ -108,27 +111,8 @@ module _ (S : Setting) where
         let (y, z) = form-lt S j 0 (d.lt-up 𝓥 (j +ⁿ 0) hy (omega arith)) (d.lt-up 𝓥 (j +ⁿ 0) hz (omega arith)) (d.lt-eq 𝓥 (𝓥 .lead-up 0 0 (f .2) (omega arith)) (Q-YZ S E)) in
         (y, z, has-unscale 𝓥 (has-three S) (d.has-eq 𝓥 (d.has-lt 𝓥 E-deg (d.lt-up 𝓥 n z (omega arith))) (three-a S E)))
 
-  -- ---- scaling, over which coefficient is made what
-  module _ (f : O S .El → L .El) (f-sc : (a : P S) (v : O S .El) → f (sc S a ⊗ v) ≡ a .0 * f v) where
-    -- f(v) leads with c; the constant k/c makes it lead with k
-    pub scale-to : {c : K .El} (k : K .El) (v : O S .El) → k ≢ 0ᵏ → Leads 𝓥 (f v) c → (s : P S) × IsUnit 𝓥 s × Leads 𝓥 (f (sc S s ⊗ v)) k
-    scale-to {c} k v hk (p, q, hc, l) =
-        let (i, e) = 𝓥 .field .inv c hc in
-        let hi : k *ᵏ i ≢ 0ᵏ = d.k-domain 𝓥 k i hk (λ z. 𝓥 .one≢zero (sym e ∙ ap (λ t. c *ᵏ t) z ∙ rg.mul-zero K c)) in
-        let u = unit-of 𝓥 (k *ᵏ i) hi in (
-          u .a,
-          (u .a′, sym (u .inverse)),
-          (p, q, hk, d.lead-eq 𝓥 (𝓥 .lead-move p q (𝓥 .lead-mul (u .lead) l) (omega arith)) (sym (f-sc (u .a) v)) (ring₃ K (λ k i c. k :* i :* c := k :* (c :* i)) tt k i c ∙ ap (λ t. k *ᵏ t) e ∙ K .laws .mul-one k)),
-        )
-
-    pub scale-unique : {c k : K .El} (v : O S .El) (s s′ : P S) → Leads 𝓥 (f v) c → IsUnit 𝓥 s → IsUnit 𝓥 s′ → Leads 𝓥 (f (sc S s ⊗ v)) k → Leads 𝓥 (f (sc S s′ ⊗ v)) k → s ≡ s′
-    scale-unique {c} {k} v s s′ lv us us′ ls ls′ =
-        let (a, ha, h) = unit-const 𝓥 s us in
-        let (b, hb, g) = unit-const 𝓥 s′ us′ in
-        let e : a *ᵏ c ≡ k = leads-unique 𝓥 (leads-mul 𝓥 (0, 0, ha, h) lv) (subst (λ z. Leads 𝓥 z k) (f-sc s v) ls) in
-        let e′ : b *ᵏ c ≡ k = leads-unique 𝓥 (leads-mul 𝓥 (0, 0, hb, g) lv) (subst (λ z. Leads 𝓥 z k) (f-sc s′ v) ls′) in
-        let ab : a ≡ b = d.k-cancel 𝓥 c a b (lv .2) (K .laws .mul-comm c a ∙ e ∙ sym e′ ∙ K .laws .mul-comm b c) in
-        const-path 𝓥 (d.lead-eq 𝓥 h refl ab) g
+  pub unit-product : (a b : P S) → IsUnit 𝓥 a → IsUnit 𝓥 b → IsUnit 𝓥 (a ⊠ b)
+  unit-product a b ua ub = const-unit 𝓥 (a ⊠ b) (d.has-mul 𝓥 (unit-const 𝓥 a ua) (unit-const 𝓥 b ub))
 
   -- ---- at a closing
   pub closing-unit : (B₀ : Basis S) (st : Start S B₀) {l n : ℕ} {B : Basis S} (c : Closing S B₀ l n B) → Invertible S (passed S B₀ st (c .chain) .E)
@@ -140,16 +124,13 @@ module _ (S : Setting) where
   pub closing-pos : {l n : ℕ} {B : Basis S} (B₀ : Basis S) → Start S B₀ → Closing S B₀ l n B → 1 ≤ n
   closing-pos {l} B₀ st c = let (a, b) = chain-room S B₀ (st .good) (c .chain) in let some : 1 ≤ l = c .some in omega arith
 
-  abbrev at-0 : O S .El → L .El
-  at-0 v = v .a .0
-
   -- the unit of document 01
-  pub unit-exists : (B₀ : Basis S) → Start S B₀ → {l n : ℕ} {B : Basis S} → Closing S B₀ l n B → (E : O S .El) × (F : O S .El) × UnitOf S B₀ l n E F
+  pub unit-exists : (B₀ : Basis S) → Start S B₀ → {l n : ℕ} {B : Basis S} → Closing S B₀ l n B → (E : O S .El) × (F : O S .El) × UnitOf S e0-monic B₀ l n E F
   unit-exists B₀ st {B = B} c =
       let p : Passed S (c .chain) = passed S B₀ st (c .chain) in
       let (F, e) = closing-unit B₀ st c in
       let (y, z, (k, hk, h)) = large (p .E) F e (p .E-deg) (closing-pos B₀ st c) in
-      let (s, (s′, u), m) = scale-to at-0 (sc-a S) 1ᵏ (p .E) (𝓥 .one≢zero) (_, 0, hk, h) in (
+      let (s, (s′, u), m) = monic-exists S (p .E) (norm-unit (p .E) F e) (_, 0, hk, h) in (
         sc S s ⊗ p .E,
         sc S s′ ⊗ F,
         record {
@@ -159,7 +140,7 @@ module _ (S : Setting) where
           scale = s;
           is-unit = (s′, u);
           product = solve-by (O S) (var 0 :* (var 1 :* var 2)) (var 1 :* var 3) (hyp (var 1) (var 0 :* var 2) (var 3) ∷ []) tt (sc S (bottoms S (c .chain)) ∷ sc S s ∷ p .E ∷ tops S (c .chain) ∷ []) (p .product, tt);
-          monic = m;
+          scaled = m;
           inverse = solve-by (O S) (var 0 :* var 1 :* (var 2 :* var 3)) one (hyp (var 0 :* var 2) (var 1 :* var 3) one ∷ hyp (minus one) one (var 0 :* var 2) ∷ []) tt (sc S s ∷ p .E ∷ sc S s′ ∷ F ∷ []) (e, (ap (sc S) u ∙ sc-mul S s s′, tt));
         },
       )
@@ -171,26 +152,26 @@ module _ (S : Setting) where
       norm-unit E F (ap (λ t. t ⊗ F) (product-unique S (c .chain) E (passed S B₀ st (c .chain) .E) p (passed S B₀ st (c .chain) .product)) ∙ e)
 
   -- the unit as it is computed: the product, scaled, and its cofactor over its norm
-  pub unit-made : (B₀ : Basis S) → Start S B₀ → {l n : ℕ} {B : Basis S} (c : Closing S B₀ l n B) (E₁ : O S .El) (s ν : P S) → Product S (c .chain) E₁ → IsUnit 𝓥 s → Leads 𝓥 ((sc S s ⊗ E₁) .a .0) 1ᵏ →
-      1ₚ ≡ norm S (sc S s ⊗ E₁) ⊠ ν → UnitOf S B₀ l n (sc S s ⊗ E₁) (sc S ν ⊗ cof S (sc S s ⊗ E₁))
-  unit-made B₀ st {B = B} c E₁ s ν p us m e = record {
+  pub unit-made : (k : Convention) (B₀ : Basis S) → Start S B₀ → {l n : ℕ} {B : Basis S} (c : Closing S B₀ l n B) (E₁ : O S .El) (s ν : P S) → Product S (c .chain) E₁ → IsUnit 𝓥 s → Scaled S k (sc S s ⊗ E₁) →
+      1ₚ ≡ norm S (sc S s ⊗ E₁) ⊠ ν → UnitOf S k B₀ l n (sc S s ⊗ E₁) (sc S ν ⊗ cof S (sc S s ⊗ E₁))
+  unit-made k B₀ st {B = B} c E₁ s ν p us m e = record {
     start = st;
     B = B;
     closing = c;
     scale = s;
     is-unit = us;
     product = solve-by (O S) (var 0 :* (var 1 :* var 2)) (var 1 :* var 3) (hyp (var 1) (var 0 :* var 2) (var 3) ∷ []) tt (sc S (bottoms S (c .chain)) ∷ sc S s ∷ E₁ ∷ tops S (c .chain) ∷ []) (p, tt);
-    monic = m;
+    scaled = m;
     inverse = cof-inverse (sc S s ⊗ E₁) ν e;
   }
 
   module _ (B₀ : Basis S) (st : Start S B₀) where
     -- it is a constant times the product
-    pub unit-eq : {l n : ℕ} {E F : O S .El} (u : UnitOf S B₀ l n E F) → E ≡ sc S (u .scale) ⊗ passed S B₀ st (u .closing .chain) .E
+    pub unit-eq : {k : Convention} {l n : ℕ} {E F : O S .El} (u : UnitOf S k B₀ l n E F) → E ≡ sc S (u .scale) ⊗ passed S B₀ st (u .closing .chain) .E
     unit-eq {E = E} u = let c = u .closing .chain in product-scaled S c (u .scale) E (passed S B₀ st c .E) (u .product) (passed S B₀ st c .product)
 
     -- its degree is the degree sum, which is even, and E0 has it
-    pub unit-degree : {l n : ℕ} {E F : O S .El} → UnitOf S B₀ l n E F → Has 𝓥 (ev S E) n × Has 𝓥 (E .a .0) n × (h : ℕ) × (n ≡ h +ⁿ h)
+    pub unit-degree : {k : Convention} {l n : ℕ} {E F : O S .El} → UnitOf S k B₀ l n E F → Has 𝓥 (ev S E) n × Has 𝓥 (E .a .0) n × (h : ℕ) × (n ≡ h +ⁿ h)
     unit-degree {n = n} {E} {F} u =
         let p : Passed S (u .closing .chain) = passed S B₀ st (u .closing .chain) in
         let hE : Has 𝓥 (ev S E) n = d.has-eq 𝓥 (has-scale 𝓥 (unit-const 𝓥 (u .scale) (u .is-unit)) (p .E-deg)) (sym (ap (ev S) (unit-eq u) ∙ ev-sc S (u .scale) (p .E))) in
@@ -198,8 +179,8 @@ module _ (S : Setting) where
         let (h, e) = half E F (u .inverse) hE in
         (hE, a, h, e)
 
-    pub unit-unique : {l l′ n n′ : ℕ} {E E′ F F′ : O S .El} → UnitOf S B₀ l n E F → UnitOf S B₀ l′ n′ E′ F′ → (l ≡ l′) × (n ≡ n′) × (E ≡ E′) × (F ≡ F′)
-    unit-unique {E = E} {E′} {F} {F′} u u′ =
+    pub unit-unique : {k : Convention} {l l′ n n′ : ℕ} {E E′ F F′ : O S .El} → UnitOf S k B₀ l n E F → UnitOf S k B₀ l′ n′ E′ F′ → (l ≡ l′) × (n ≡ n′) × (E ≡ E′) × (F ≡ F′)
+    unit-unique {k} {E = E} {E′} {F} {F′} u u′ =
         let (e, f, g) = closing-unique S B₀ (st .good) (u .closing) (u′ .closing) in
         let c = u .closing .chain in
         let c′ = u′ .closing .chain in
@@ -209,8 +190,42 @@ module _ (S : Setting) where
         let same : p .E ≡ p′ .E = sc-cancel S (bottoms S c) (p .E) (p′ .E) (bottoms-deg S c .1) (p .product ∙ i ∙ sym (p′ .product) ∙ ap (λ t. sc S t ⊗ p′ .E) (sym j)) in
         let eE : E ≡ sc S (u .scale) ⊗ p .E = unit-eq u in
         let eE′ : E′ ≡ sc S (u′ .scale) ⊗ p .E = unit-eq u′ ∙ ap (λ t. sc S (u′ .scale) ⊗ t) (sym same) in
-        let (F₁, k) = closing-unit B₀ st (u .closing) in
-        let (y, z, (a, ha, h)) = large (p .E) F₁ k (p .E-deg) (closing-pos B₀ st (u .closing)) in
-        let s-eq : u .scale ≡ u′ .scale = scale-unique at-0 (sc-a S) (p .E) (u .scale) (u′ .scale) (_, 0, ha, h) (u .is-unit) (u′ .is-unit) (subst (λ v. Leads 𝓥 (v .a .0) 1ᵏ) eE (u .monic)) (subst (λ v. Leads 𝓥 (v .a .0) 1ᵏ) eE′ (u′ .monic)) in
+        let (F₁, i₁) = closing-unit B₀ st (u .closing) in
+        let (y, z, (a, ha, h)) = large (p .E) F₁ i₁ (p .E-deg) (closing-pos B₀ st (u .closing)) in
+        let (c₁, w₁) = weight S k (p .E) (norm-unit (p .E) F₁ i₁) (_, 0, ha, h) in
+        let s-eq : u .scale ≡ u′ .scale = scale-unique S k (p .E) (u .scale) (u′ .scale) w₁ (u .is-unit) (u′ .is-unit) (subst (Scaled S k) eE (u .scaled)) (subst (Scaled S k) eE′ (u′ .scaled)) in
         let E-eq : E ≡ E′ = eE ∙ ap (λ t. sc S t ⊗ p .E) s-eq ∙ sym eE′ in
         (e, f, E-eq, inverse-unique E F (u .inverse) F′ (ap (λ t. t ⊗ F′) E-eq ∙ u′ .inverse))
+
+    pub unit-positive : {k : Convention} {l n : ℕ} {E F : O S .El} → UnitOf S k B₀ l n E F → PositiveUnit S E F
+    unit-positive {n = n} u = record { inverse = u .inverse; degree = n; has = unit-degree u .0; positive = closing-pos B₀ st (u .closing) }
+
+    -- the unit of one convention, scaled by another
+    pub unit-rescaled : {k : Convention} (k′ : Convention) {l n : ℕ} {E F : O S .El} (s : P S) (F′ : O S .El) → UnitOf S k B₀ l n E F → IsUnit 𝓥 s → Scaled S k′ (sc S s ⊗ E) → sc S s ⊗ E ⊗ F′ ≡ 1ₒ → UnitOf S k′ B₀ l n (sc S s ⊗ E) F′
+    unit-rescaled k′ {E = E} s F′ u us m i = record {
+      start = u .start;
+      B = u .B;
+      closing = u .closing;
+      scale = s ⊠ u .scale;
+      is-unit = unit-product s (u .scale) us (u .is-unit);
+      product = ring₃ (O S) (λ b s e. b :* (s :* e) := s :* (b :* e)) tt (sc S (bottoms S (u .closing .chain))) (sc S s) E
+          ∙ ap (λ t. sc S s ⊗ t) (u .product)
+          ∙ ring₃ (O S) (λ s c t. s :* (c :* t) := s :* c :* t) tt (sc S s) (sc S (u .scale)) (tops S (u .closing .chain))
+          ∙ ap (λ t. t ⊗ tops S (u .closing .chain)) (sym (sc-mul S s (u .scale)));
+      scaled = m;
+      inverse = i;
+    }
+
+  -- ---- scalings
+  pub positive-norm : {E F : O S .El} → PositiveUnit S E F → IsUnit 𝓥 (norm S E)
+  positive-norm {E} {F} u = norm-unit E F (u .inverse)
+
+  -- E0 is not 0
+  pub positive-top : {E F : O S .El} (u : PositiveUnit S E F) → Has 𝓥 (E .a .0) (u .degree)
+  positive-top {E} {F} u = let (y, z, a) = large E F (u .inverse) (u .has) (u .positive) in a
+
+  pub positive-weight : (k : Convention) {E F : O S .El} → PositiveUnit S E F → (c : K .El) × Leads 𝓥 (weigh S k E) c
+  positive-weight k {E} u = let (c, hc, h) = positive-top u in weight S k E (positive-norm u) (_, 0, hc, h)
+
+  pub positive-scaling : Cubes K → (k : Convention) {E F : O S .El} → PositiveUnit S E F → OneScaling S k E
+  positive-scaling cubes k {E} u = let (c, hc, h) = positive-top u in one-scaling S cubes k E (positive-norm u) (_, 0, hc, h)

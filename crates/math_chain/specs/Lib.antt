@@ -1,3 +1,4 @@
 pub mod Chain
+pub mod Convention
 pub mod Unit
 pub mod Parts

@@ -2,7 +2,7 @@
 --   NoneBetween d       no unit of the order has a degree strictly between 0 and d
 --   Least E d           E is a unit of the order, its degree d is positive, and no unit has a degree strictly between 0 and d
 --   LeastDegree d       d is the least positive degree of a unit of the order
---   Smallest E d        E is the smallest unit of positive degree with E0 monic, and d its degree
+--   Smallest k E d      E is the smallest unit of positive degree scaled by the convention k, and d its degree
 --   power E F i         E^i for any integer i, where F is the inverse of E
 --   Powers E F          every unit of the order is a non-zero constant times a power of E, with one exponent and one constant
 --   Fundamental E F d   F is the inverse of E, E has the least positive degree, and the units are the constants times the powers of E
@@ -14,10 +14,11 @@ use Prim.Native.Nat.{ℕ, suc, _+_, _<_}
 use lib.IntN.{ℤ, pos, negsuc}
 use Rattle.math_ring.specs.Ring.{Ops}
 use Rattle.math_ring.specs.Power.{pow}
-use Rattle.math_valued.specs.Degree.{HasDeg, Has, Leads}
+use Rattle.math_valued.specs.Degree.{HasDeg, Has}
 use Rattle.math_valued.specs.Polynomial.{IsUnit}
 use Rattle.math_ideals.specs.Setting.{Setting, P}
 use Rattle.math_ideals.specs.Element.{O, sc, ev}
+use Rattle.math_chain.specs.Convention.{Convention, Scaled}
 use Rattle.math_chain.specs.Unit.{Invertible}
 
 module _ (S : Setting) where
@@ -38,9 +39,9 @@ module _ (S : Setting) where
   abbrev pub LeastDegree : ℕ → Type 0
   LeastDegree d = (E : O S .El) × Least E d
 
-  pub record Smallest (E : O S .El) (d : ℕ) : Type 0 where
+  pub record Smallest (k : Convention) (E : O S .El) (d : ℕ) : Type 0 where
     pub least : Least E d
-    pub monic : Leads 𝓥 (E .a .0) (𝓥 .K .ops .𝟏)
+    pub scaled : Scaled S k E
 
   -- negsuc k is −(k + 1)
   abbrev pub power : O S .El → O S .El → ℤ → O S .El

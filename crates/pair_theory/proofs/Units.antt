@@ -6,6 +6,7 @@ use Prim.Native.Nat.{ℕ}
 use Rattle.math_valued.specs.Val.{Valued}
 use Rattle.math_ideals.specs.Ideal.{Basis}
 use Rattle.math_ideals.specs.Next.{Start}
+use Rattle.math_chain.specs.Convention.{Convention}
 use Rattle.math_chain.specs.Unit.{UnitOf}
 use Rattle.math_ideals.specs.Setting.{Roots, at}
 use Rattle.math_carry.specs.Carries.{El, Carries, Stretched, Exchanged}
@@ -18,8 +19,8 @@ module _ (𝓥 : Valued) {s s′ : Roots 𝓥} where
   shaped c (inl k) {E} {F} e f = record { factors = k .factors; rows = inl (k .pair, sym e ∙ k .rows E, sym f ∙ k .rows F) }
   shaped c (inr k) {E} {F} e f = record { factors = k .factors; rows = inr (k .pair, sym e ∙ k .rows E, sym f ∙ k .rows F) }
 
-  pub unit-carries : Meets 𝓥 s s′ → (B₀ : Basis (at s)) (B₀′ : Basis (at s′)) → Start (at s) B₀ → Start (at s′) B₀′ → {l l′ n n′ : ℕ} {E F E′ F′ : El 𝓥}
-      → UnitOf (at s) B₀ l n E F → UnitOf (at s′) B₀′ l′ n′ E′ F′ → (l ≡ l′) × (n ≡ n′) × UnitCarries 𝓥 s s′ E F E′ F′
+  pub unit-carries : Meets 𝓥 s s′ → (B₀ : Basis (at s)) (B₀′ : Basis (at s′)) → Start (at s) B₀ → Start (at s′) B₀′ → {k : Convention} {l l′ n n′ : ℕ} {E F E′ F′ : El 𝓥}
+      → UnitOf (at s) k B₀ l n E F → UnitOf (at s′) k B₀′ l′ n′ E′ F′ → (l ≡ l′) × (n ≡ n′) × UnitCarries 𝓥 s s′ E F E′ F′
   unit-carries m B₀ B₀′ st st′ u u′ =
       let (a, b, e, f) = unit-same 𝓥 (m .carries) B₀ B₀′ st st′ u u′ in
       (a, b, shaped (m .carries) (m .rows) e f)

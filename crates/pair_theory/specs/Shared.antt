@@ -11,6 +11,7 @@ use Rattle.math_ideals.specs.Ideal.{Basis}
 use Rattle.math_ideals.specs.Basis.{Good}
 use Rattle.math_ideals.specs.Next.{Next, Start}
 use Rattle.math_chain.specs.Chain.{Degree, Chain, Open, Closing}
+use Rattle.math_chain.specs.Convention.{Convention}
 use Rattle.math_chain.specs.Unit.{UnitOf}
 use Rattle.math_ideals.specs.Setting.{Roots, at}
 use Rattle.math_carry.specs.Carries.{El, Carries, carry, Stretched, Exchanged}
@@ -27,14 +28,14 @@ pub record Shared (𝓥 : Valued) (s s′ : Roots 𝓥) : Type 0 where
   pub chain : {B₀ B : Basis (at s)} {l n : ℕ} → Chain (at s) B₀ l n B → Chain (at s′) (carry s s′ map B₀) l n (carry s s′ map B)
   pub stays-open : {B₀ : Basis (at s)} {l : ℕ} → Open (at s) B₀ l → Open (at s′) (carry s s′ map B₀) l
   pub closing : {B₀ B : Basis (at s)} {l n : ℕ} → Closing (at s) B₀ l n B → Closing (at s′) (carry s s′ map B₀) l n (carry s s′ map B)
-  pub unit : {B₀ : Basis (at s)} {l n : ℕ} {E F : El 𝓥} → UnitOf (at s) B₀ l n E F → UnitOf (at s′) (carry s s′ map B₀) l n (map .to E) (map .to F)
-  -- "the same period and regulator", and the unit
+  pub unit : {k : Convention} {B₀ : Basis (at s)} {l n : ℕ} {E F : El 𝓥} → UnitOf (at s) k B₀ l n E F → UnitOf (at s′) k (carry s s′ map B₀) l n (map .to E) (map .to F)
+  -- "the same period and regulator", and the unit, under each convention
   pub one-order : (B₀ : Basis (at s)) (B₀′ : Basis (at s′)) → Start (at s) B₀ → Start (at s′) B₀′ → carry s s′ map B₀ ≡ B₀′
   pub one-period : (B₀ : Basis (at s)) (B₀′ : Basis (at s′)) → Start (at s) B₀ → Start (at s′) B₀′ →
       {l l′ n n′ : ℕ} {B : Basis (at s)} {B′ : Basis (at s′)} →
       Closing (at s) B₀ l n B → Closing (at s′) B₀′ l′ n′ B′ →
       (l ≡ l′) × (n ≡ n′) × (carry s s′ map B ≡ B′)
   pub one-unit : (B₀ : Basis (at s)) (B₀′ : Basis (at s′)) → Start (at s) B₀ → Start (at s′) B₀′ →
-      {l l′ n n′ : ℕ} {E F E′ F′ : El 𝓥} →
-      UnitOf (at s) B₀ l n E F → UnitOf (at s′) B₀′ l′ n′ E′ F′ →
+      {k : Convention} {l l′ n n′ : ℕ} {E F E′ F′ : El 𝓥} →
+      UnitOf (at s) k B₀ l n E F → UnitOf (at s′) k B₀′ l′ n′ E′ F′ →
       (l ≡ l′) × (n ≡ n′) × (map .to E ≡ E′) × (map .to F ≡ F′)

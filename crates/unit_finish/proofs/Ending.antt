@@ -34,6 +34,7 @@ use Rattle.math_ideals.specs.Next.{Start}
 use Rattle.math_ideals.proofs.Sizes.{sc-a, sc-b, sc-c, ev-sc}
 use Rattle.math_ideals.proofs.Lattice.{sc-mul}
 use Rattle.math_chain.specs.Chain.{Closing, Product}
+use Rattle.math_chain.specs.Convention.{e0-monic}
 use Rattle.math_chain.specs.Unit.{UnitOf, Fit}
 use Rattle.math_chain.proofs.Walk.{same-products}
 use Rattle.math_chain.proofs.Passed.{passed, product-unique}
@@ -174,6 +175,6 @@ module _ {p : ℕ} {G H B : List ℕ} {c l d : ℕ} {b rows : List ℕ} (A : Acc
     unit-at = subst (λ v. IsUnit (S .𝓥) (norm S v)) (sym scaled-six) (closing-norm-unit S (basisOf A B) st k E₁ product-at factor factor-unit)
 
     -- the unit
-    pub unit-of : (ν : P S) → polys (S .𝓥) .ops .𝟏 ≡ polys (S .𝓥) .ops .mul (norm S (six A c 0 rows₁)) ν → UnitOf S (basisOf A B) l d (six A c 0 rows₁) (O S .ops .mul (sc S ν) (cof S (six A c 0 rows₁)))
-    unit-of ν e = subst (λ v. UnitOf S (basisOf A B) l d v (O S .ops .mul (sc S ν) (cof S v))) (sym scaled-six)
-        (unit-made S (basisOf A B) st k E₁ factor ν product-at factor-unit scaled-monic (subst (λ v. polys (S .𝓥) .ops .𝟏 ≡ polys (S .𝓥) .ops .mul (norm S v) ν) scaled-six e))
+    pub unit-of : (ν : P S) → polys (S .𝓥) .ops .𝟏 ≡ polys (S .𝓥) .ops .mul (norm S (six A c 0 rows₁)) ν → UnitOf S e0-monic (basisOf A B) l d (six A c 0 rows₁) (O S .ops .mul (sc S ν) (cof S (six A c 0 rows₁)))
+    unit-of ν e = subst (λ v. UnitOf S e0-monic (basisOf A B) l d v (O S .ops .mul (sc S ν) (cof S v))) (sym scaled-six)
+        (unit-made S e0-monic (basisOf A B) st k E₁ factor ν product-at factor-unit scaled-monic (subst (λ v. polys (S .𝓥) .ops .𝟏 ≡ polys (S .𝓥) .ops .mul (norm S v) ν) scaled-six e))

@@ -9,6 +9,7 @@ use native.Mathlib.Omega.{arith}
 use native.Mathlib.Decide.{decLt}
 use lib.ListN.{length, getD}
 use Rattle.field_open.specs.Refusal.{Accepted}
+use Rattle.math_chain.specs.Convention.{e0-monic}
 use Rattle.math_chain.specs.Unit.{UnitOf}
 use Rattle.math_chain.proofs.Closing.{start-unique}
 use Rattle.basis_record.specs.Record.{setting, basisOf}
@@ -64,7 +65,7 @@ module _ (f : OpenedField) (c d : ℕ) (rows s : List ℕ) (t : FinishedAsks f c
       unit = λ A′. unit-at A′ (t .along) (t .task .is-first .start A′) (t .task .closes .closing A′) (t .task .room) rows₁ (made .by) one-at (made .at);
     }
 
-    pub holds-at : (s₁ rows₂ s₂ : List ℕ) → Inverses f c rows₁ s₁ rows₂ s₂ → Holds p G H (t .l) d c rows₂
+    pub holds-at : (s₁ rows₂ s₂ : List ℕ) → Inverses f c rows₁ s₁ rows₂ s₂ → Holds e0-monic p G H (t .l) d c rows₂
     holds-at s₁ rows₂ s₂ i = record {
       whole = i .size ∙ made .size ∙ t .along .whole;
       each = i .each;
@@ -74,8 +75,8 @@ module _ (f : OpenedField) (c d : ℕ) (rows s : List ℕ) (t : FinishedAsks f c
           let (ν, e) = unit-at A′ (t .along) first (t .task .closes .closing A′) (t .task .room) rows₁ (made .by) one-at (made .at) in
           let (x, y) = i .law G H A′ (t .task .known .kept) ν e in
           let u = unit-of A′ (t .along) first (t .task .closes .closing A′) (t .task .room) rows₁ (made .by) one-at (made .at) ν e in
-          subst (λ b. UnitOf S b (t .l) d (six A′ c 0 rows₂) (six A′ c (c + c + c) rows₂)) (start-unique S (basisOf A′ (t .B)) B₀ first st)
-          (subst (λ v. UnitOf S (basisOf A′ (t .B)) (t .l) d v (six A′ c (c + c + c) rows₂)) (sym x) (subst (λ v. UnitOf S (basisOf A′ (t .B)) (t .l) d (six A′ c 0 rows₁) v) (sym y) u));
+          subst (λ b. UnitOf S e0-monic b (t .l) d (six A′ c 0 rows₂) (six A′ c (c + c + c) rows₂)) (start-unique S (basisOf A′ (t .B)) B₀ first st)
+          (subst (λ v. UnitOf S e0-monic (basisOf A′ (t .B)) (t .l) d v (six A′ c (c + c + c) rows₂)) (sym x) (subst (λ v. UnitOf S e0-monic (basisOf A′ (t .B)) (t .l) d (six A′ c 0 rows₁) v) (sym y) u));
     }
 
 -- what `finished` hands out

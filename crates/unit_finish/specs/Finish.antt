@@ -17,6 +17,7 @@ use Rattle.field_open.specs.Refusal.{Accepted}
 use Rattle.math_ideals.specs.Setting.{Setting, P}
 use Rattle.math_ideals.specs.Element.{O, sc, norm, cof}
 use Rattle.math_chain.specs.Chain.{Chain, Product}
+use Rattle.math_chain.specs.Convention.{e0-monic}
 use Rattle.math_chain.specs.Unit.{Fit}
 use Rattle.basis_record.specs.Record.{setting, basisOf, IsRecord}
 use Rattle.field_series.specs.Keeps.{Kept, Known}
@@ -74,4 +75,4 @@ pub record FinishedAsks (f : OpenedField) (c d : ℕ) (rows s : List ℕ) : Type
 pub record Finishes (f : OpenedField) (c d : ℕ) (rows s rows′ s′ : List ℕ) : Type 0 where
   pub size : length rows′ ≡ length rows
   pub blank : s′ ≡ replicate (length s) 0
-  pub goes : (t : FinishedAsks f c d rows s) → Holds (f .field .p) (t .task .known .G) (t .task .known .H) (t .l) d c rows′
+  pub goes : (t : FinishedAsks f c d rows s) → Holds e0-monic (f .field .p) (t .task .known .G) (t .task .known .H) (t .l) d c rows′

@@ -13,6 +13,7 @@ use Rattle.math_ring.specs.Ring.{Ops}
 use Rattle.field_open.specs.Refusal.{Accepted}
 use Rattle.math_ideals.specs.Setting.{Setting}
 use Rattle.math_ideals.specs.Element.{O, sc}
+use Rattle.math_chain.specs.Convention.{e0-monic}
 use Rattle.math_chain.specs.Unit.{Fit}
 use Rattle.basis_record.specs.Record.{setting, basisOf, IsRecord}
 use Rattle.field_series.specs.Keeps.{Kept, Known}
@@ -84,4 +85,4 @@ pub record MakeAsks (f : OpenedField) (B : List ℕ) (l d c : ℕ) (rows s : Lis
 pub record Making (f : OpenedField) (B : List ℕ) (l d c : ℕ) (rows s rows′ s′ : List ℕ) : Type 0 where
   pub size : length rows′ ≡ length rows
   pub blank : s′ ≡ replicate (length s) 0
-  pub goes : (t : MakeAsks f B l d c rows s) → Holds (f .field .p) (t .task .known .G) (t .task .known .H) l d c rows′
+  pub goes : (t : MakeAsks f B l d c rows s) → Holds e0-monic (f .field .p) (t .task .known .G) (t .task .known .H) l d c rows′
