@@ -1,5 +1,6 @@
 -- One scaling under each convention, over both at once. A convention weighs an element, by E0 or by the norm, and the weight of s v is s or s³
 -- times that of v: both send the constants other than 0 to such constants, one to one.
+--   named-one named-two  a convention by its number
 --   weigh weigh-sc       the weight, and that of s v
 --   times times-inj      s or s³, for a constant s; one to one
 --   scaled-out scaled-in   scaled is: the weight leads with 1
@@ -11,6 +12,7 @@ use mathlib.Core.Path.{_≡_, refl, sym, ap, _∙_, subst}
 use mathlib.Core.Logic.{_≢_}
 use mathlib.Core.List.{[], _∷_}
 use Prim.Native.Nat.{ℕ}
+use native.Mathlib.Omega.{arith}
 use Rattle.math_ring.proofs.Laws as rg
 use Rattle.math_ring.specs.Ring.{Ops, CRing}
 use Rattle.math_ring.proofs.Solve.{var, hyp, one, zer, minus, _:+_, _:*_, solve-by}
@@ -25,7 +27,15 @@ use Rattle.math_ideals.specs.Element.{O, sc, norm}
 use Rattle.math_ideals.proofs.Sizes.{sc-a}
 use Rattle.math_ideals.proofs.Values.{norm-mul}
 use Rattle.math_ideals.proofs.Norm.{norm-sc}
-use Rattle.math_chain.specs.Convention.{Convention, e0-monic, norm-one, Cubes, Scaled, OneScaling}
+use Rattle.math_chain.specs.Convention.{Convention, e0-monic, norm-one, number, Cubes, Scaled, OneScaling}
+
+pub named-one : (k : Convention) → number k ≡ 1 → k ≡ e0-monic
+named-one e0-monic e = refl
+named-one norm-one e = absurd (omega (arith, e))
+
+pub named-two : (k : Convention) → number k ≢ 1 → k ≡ norm-one
+named-two e0-monic f = absurd (f refl)
+named-two norm-one f = refl
 
 module _ (S : Setting) where
   open Setting S using (𝓥)

@@ -9,8 +9,7 @@ use mathlib.Core.Logic.{_≢_}
 use mathlib.Core.List.{List, [], _∷_}
 use Prim.Native.Nat.{ℕ, zero, suc, _+_, _*_, _-_, _/_, _%_, _<_}
 use native.Mathlib.Omega.{arith}
-use lib.ListN.{length, getD}
-use lib.Seq.{ext-getD}
+use lib.ListN.{getD}
 use Rattle.math_ring.specs.Ring.{Ops}
 use Rattle.math_ring.proofs.Laws as rg
 use Rattle.math_ring.proofs.Solve.{var, hyp, one, minus, _:*_, solve-by}
@@ -22,9 +21,9 @@ use Rattle.math_valued.proofs.Compare.{has-scale, lt-scale}
 use Rattle.math_valued.proofs.Polynomial.{unit-const, const-unit}
 use Rattle.math_rows.specs.Reading.{Reading}
 use Rattle.math_rows.specs.Made.{reading}
-use Rattle.math_rows.specs.Row.{Size, row, tab}
+use Rattle.math_rows.specs.Row.{Size, row}
 use Rattle.math_rows.proofs.Rows.{size-lead}
-use Rattle.math_rows.proofs.Tab.{length-tab, at-tab}
+use Rattle.math_rows.proofs.Tab.{at-tab}
 use Rattle.math_rows.proofs.Floors.{sized, zero-row}
 use Rattle.field_open.specs.Refusal.{Accepted}
 use Rattle.math_ideals.specs.Setting.{Setting, P}
@@ -41,7 +40,7 @@ use Rattle.math_chain.proofs.Passed.{passed, product-unique}
 use Rattle.math_chain.proofs.Rows.{product-rows, unit-rows}
 use Rattle.math_chain.proofs.Unit.{norm-unit, inverse-cof, half, closing-unit, closing-pos, unit-made}
 use Rattle.basis_record.specs.Record.{setting, basisOf}
-use Rattle.poly_long.proofs.Low.{scale-law}
+use Rattle.unit_inverse.proofs.Inverting.{row-scaled}
 use Rattle.unit_rows.specs.Six.{cut}
 use Rattle.unit_finish.specs.Rows.{six}
 use Rattle.unit_finish.specs.Finish.{Along}
@@ -93,19 +92,10 @@ module _ (S : Setting) (B₀ : Basis S) (st : Start S B₀) {l n : ℕ} {B : Bas
           c-lt = lt-eq (S .𝓥) (lt-scale (S .𝓥) u (fF .c-lt)) (sym (sc-c S (norm S E) F));
         }))
 
--- ---- rows times a constant
+-- ---- the top of a row
 module _ {p : ℕ} (ρ : Reading p) where
   open Reading ρ using (𝓥, cast)
-  open Valued 𝓥 using (K, L, Lead, const)
-
-  scaled-row : (at c : ℕ) (x y : List ℕ) (q : ℕ) → ((i : ℕ) → i < c → getD y (at + i) 0 ≡ (getD x (at + i) 0 * q) % p) → row ρ (cut at c y) ≡ L .ops .mul (const (cast q)) (row ρ (cut at c x))
-  scaled-row at c x y q h =
-      let f : ℕ → ℕ = (λ i. (getD (cut at c x) i 0 * q) % p) in
-      let m : length (cut at c x) ≡ c = length-tab c (λ i. getD x (at + i) 0) in
-      let e : cut at c y ≡ tab (length (cut at c x)) f = ext-getD 0 (cut at c y) (tab (length (cut at c x)) f) (length-tab c (λ i. getD y (at + i) 0) ∙ sym (length-tab (length (cut at c x)) f ∙ m))
-      (λ i u. let w : length (cut at c y) ≡ c = length-tab c (λ i. getD y (at + i) 0) in let v : i < c = omega arith in
-      at-tab c (λ i. getD y (at + i) 0) i v ∙ h i v ∙ ap (λ z. (z * q) % p) (sym (at-tab c (λ i. getD x (at + i) 0) i v)) ∙ sym (at-tab (length (cut at c x)) f i (omega arith))) in
-      ap (row ρ) e ∙ scale-law ρ q (cut at c x)
+  open Valued 𝓥 using (Lead)
 
   -- the coefficient at the degree
   top-lead : (l : List ℕ) (d : ℕ) → ((i : ℕ) → getD l i 0 < p) → Has 𝓥 (row ρ l) d → (0 < getD l d 0) × Lead (row ρ l) d 0 (cast (getD l d 0))
@@ -161,9 +151,9 @@ module _ {p : ℕ} {G H B : List ℕ} {c l d : ℕ} {b rows : List ℕ} (A : Acc
 
     pub scaled-six : six A c 0 rows₁ ≡ O S .ops .mul (sc S factor) E₁
     scaled-six = six-path A c 0 rows₁ (O S .ops .mul (sc S factor) E₁)
-        (scaled-row ρ 0 c rows rows₁ q (λ i u. at (0 + i) (omega arith)) ∙ sym (sc-a S factor E₁))
-        (scaled-row ρ (0 + c) c rows rows₁ q (λ i u. at (0 + c + i) (omega arith)) ∙ sym (sc-b S factor E₁))
-        (scaled-row ρ (0 + c + c) c rows rows₁ q (λ i u. at (0 + c + c + i) (omega arith)) ∙ sym (sc-c S factor E₁))
+        (row-scaled ρ q 0 c rows rows₁ (λ i u. at (0 + i) (omega arith)) ∙ sym (sc-a S factor E₁))
+        (row-scaled ρ q (0 + c) c rows rows₁ (λ i u. at (0 + c + i) (omega arith)) ∙ sym (sc-b S factor E₁))
+        (row-scaled ρ q (0 + c + c) c rows rows₁ (λ i u. at (0 + c + c + i) (omega arith)) ∙ sym (sc-c S factor E₁))
 
     scaled-monic : Leads (S .𝓥) (O S .ops .mul (sc S factor) E₁ .a .0) (S .𝓥 .K .ops .𝟏)
     scaled-monic = (d, 0, S .𝓥 .one≢zero, lead-eq (S .𝓥) (S .𝓥 .lead-move d 0 (S .𝓥 .lead-mul (S .𝓥 .const-lead (ρ .cast q)) (top-of .1)) (omega arith)) (sym (sc-a S factor E₁)) product-one)

@@ -34,7 +34,7 @@ unfolding row psum tpow
 row-one ρ v = let L = ρ .𝓥 .L in solve L (zer :+ var 0 :* one) (var 0) tt (ρ .𝓥 .const (ρ .cast v) ∷ [])
 
 -- a row of which all numbers are scaled
-row-scaled : {p : ℕ} (ρ : Reading p) (s at c : ℕ) (l z : List ℕ) → ((i : ℕ) → i < c → getD z (at + i) 0 ≡ (getD l (at + i) 0 * s) % p) → row ρ (cut at c z) ≡ ρ .𝓥 .L .ops .mul (ρ .𝓥 .const (ρ .cast s)) (row ρ (cut at c l))
+pub row-scaled : {p : ℕ} (ρ : Reading p) (s at c : ℕ) (l z : List ℕ) → ((i : ℕ) → i < c → getD z (at + i) 0 ≡ (getD l (at + i) 0 * s) % p) → row ρ (cut at c z) ≡ ρ .𝓥 .L .ops .mul (ρ .𝓥 .const (ρ .cast s)) (row ρ (cut at c l))
 row-scaled {p} ρ s at c l z h =
     ap (row ρ) (ext-getD 0 (cut at c z) (tab (length (cut at c l)) (λ i. (getD (cut at c l) i 0 * s) % p)) (length-tab c (λ i. getD z (at + i) 0) ∙ sym (length-tab (length (cut at c l)) (λ i. (getD (cut at c l) i 0 * s) % p) ∙ length-tab c (λ i. getD l (at + i) 0)))
     (λ i u. let e : length (cut at c z) ≡ c = length-tab c (λ i. getD z (at + i) 0) in let f : length (cut at c l) ≡ c = length-tab c (λ i. getD l (at + i) 0) in let v : i < c = omega arith in

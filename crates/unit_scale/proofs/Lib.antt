@@ -1,0 +1,5 @@
+pub mod AtZero
+pub mod Numbers
+pub mod Scales
+pub mod Turning
+pub mod Turned

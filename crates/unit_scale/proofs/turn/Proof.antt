@@ -1,0 +1,87 @@
+use Prim.Native.Nat.{ℕ, zero, suc, _≤_, _<_, _-_, _*_, _+_, _%_}
+use mathlib.Core.Path.{_≡_, _∙_, sym, ap, refl, subst}
+use mathlib.Core.List.{List, [], _∷_, _++_}
+use native.Mathlib.Omega.{arith}
+use native.Mathlib.Numerals.{add-one}
+use lib.ListN.{length, length-set, getD, set, replicate, take, drop}
+use borrow.Author.Needs.{needs}
+use Rattle.unit_scale.proofs.turn.Statement.{statement}
+use Rattle.unit_scale.proofs.turn.Tie as tie
+use Rattle.unit_scale.proofs.turn.Reads as reads
+use Rattle.unit_scale.proofs.turn.Lts as lts
+use Rattle.num_power.proofs.inverse.Reads as inverse-reads
+use Rattle.poly_long.proofs.scale.Reads as scale-reads
+use Rattle.unit_scale.proofs.factor.Reads as factor-reads
+
+factor-requires : tie.Need-factor-requires
+factor-requires c κs = search needs
+
+inverse-requires : tie.Need-inverse-requires
+inverse-requires c κs = search needs
+
+add-c3 : tie.Need-add-c3
+add-c3 c = search needs
+
+add-c3-2 : tie.Need-add-c3-2
+add-c3-2 c = search needs
+
+add-c6 : tie.Need-add-c6
+add-c6 c = search needs
+
+mul-scale : tie.Need-mul-scale
+mul-scale c = search needs
+
+sub-scale : tie.Need-sub-scale
+sub-scale c = search needs
+
+part-scale-start : tie.Need-part-scale-start
+part-scale-start c = search needs
+
+part-scale-end : tie.Need-part-scale-end
+part-scale-end c = search needs
+
+scale-requires : tie.Need-scale-requires
+scale-requires c κs = search needs
+
+mul-scale-2 : tie.Need-mul-scale-2
+mul-scale-2 c = search needs
+
+sub-scale-2 : tie.Need-sub-scale-2
+sub-scale-2 c = search needs
+
+part-scale-start-2 : tie.Need-part-scale-start-2
+part-scale-start-2 c = search needs
+
+part-scale-end-2 : tie.Need-part-scale-end-2
+part-scale-end-2 c = search needs
+
+scale-requires-2 : tie.Need-scale-requires-2
+scale-requires-2 c κs = search needs
+
+same-length : tie.Need-same-length
+same-length c = search needs
+
+returns : tie.Need-returns
+returns c = search needs
+
+pub turn-spec : {M : Type 1} → statement M
+turn-spec =
+    tie.close
+    (tie.spec
+    factor-requires
+    inverse-requires
+    add-c3
+    add-c3-2
+    add-c6
+    mul-scale
+    sub-scale
+    part-scale-start
+    part-scale-end
+    scale-requires
+    mul-scale-2
+    sub-scale-2
+    part-scale-start-2
+    part-scale-end-2
+    scale-requires-2
+    same-length
+    returns)
