@@ -2,18 +2,24 @@
 --   three-cast   a b c, read in the field
 --   norm-made    what `norm` hands out
 use mathlib.Core.Path.{_≡_, sym, ap, ap₂, _∙_, subst}
-use mathlib.Core.List.{[], _∷_}
+use mathlib.Core.Logic.{_≢_}
+use mathlib.Core.List.{List, [], _∷_}
 use Prim.Native.Nat.{ℕ, _<_, _≤_}
 use Prim.Native.Nat as N
 use native.Mathlib.Omega.{arith}
 use native.Mathlib.Nat.{mod-lt}
+use lib.ListN.{length, getD}
 use Rattle.math_ring.specs.Ring.{Ops}
 use Rattle.math_ring.proofs.Solve.{exprs, var, one, minus, _:+_, _:*_, solve}
 use Rattle.math_triple.specs.Tri.{normT, triE}
 use Rattle.math_valued.specs.Val.{Valued}
 use Rattle.math_rows.specs.Reading.{Reading}
 use Rattle.math_rows.specs.Made.{reading}
+use Rattle.math_rows.specs.Row.{Size}
 use Rattle.math_rows.proofs.Rows.{cast-sub}
+use Rattle.base_lists.specs.Pieces.{between}
+use Rattle.base_lists.proofs.Pieces.{between-length}
+use Rattle.unit_monic.proofs.InPlace.{mid-at}
 use Rattle.num_mod.specs.Residue.{IsModulus}
 use Rattle.num_power.specs.Powers.{Two}
 use Rattle.poly_long.specs.Long.{Storable}
@@ -79,3 +85,11 @@ two m u v = record { modulus = modulus-of m; left = u; right = v }
 -- a remainder is below p
 pub below : {p r : ℕ} → Storable p → (x : ℕ) → r ≡ N._%_ x p → r < p
 below {p} m x e = subst (λ z. z < p) (sym e) (mod-lt x (let o : 1 < p = m .prime .big in omega arith))
+
+-- the last number of a row is not 0
+pub top-not-zero : (c : ℕ) (rows : List ℕ) {n v : ℕ} → c ≤ length rows → Size (between 0 c rows) n → 0 < n → v ≡ getD rows (N._-_ n 1) 0 → 0 < v
+top-not-zero c rows {n} {v} l s u e =
+    let w : length (between 0 c rows) ≡ N._-_ c 0 = between-length 0 c rows (omega arith) l in
+    let f : n ≤ length (between 0 c rows) = s .fits in
+    let z : v ≢ 0 = (λ q. s .top u (mid-at c rows (N._-_ n 1) (omega arith) ∙ sym e ∙ q)) in
+    omega (arith, z)

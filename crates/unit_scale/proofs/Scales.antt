@@ -5,12 +5,12 @@
 --   norm-number     the number for the norm stands for the norm, which is not 0
 --   norm-law        the inverse of its cube root makes the norm 1
 --   held-of, monic-in, norm-in, factors-monic, factors-norm   what `factor` asks of its parts and hands out
-use mathlib.Core.Path.{_≡_, sym, ap, _∙_, subst}
+use mathlib.Core.Path.{_≡_, refl, sym, ap, _∙_, subst}
 use mathlib.Core.Logic.{_≢_}
 use mathlib.Core.List.{List, [], _∷_}
 use Prim.Native.Nat.{ℕ, zero, suc, _+_, _*_, _-_, _%_, _<_, _≤_}
 use native.Mathlib.Omega.{arith}
-use native.Mathlib.Nat.{mul-zero, zero-mod}
+use native.Mathlib.Nat.{mul-zero, mod-eq-of-lt}
 use lib.ListN.{length, getD}
 use Rattle.math_ring.specs.Ring.{Ops}
 use Rattle.math_ring.proofs.Solve.{var, hyp, one, _:*_, solve-by}
@@ -126,8 +126,8 @@ module _ {f : OpenedField} {G H : List ℕ} {c : ℕ} {rows : List ℕ} (t : Hel
   at-0 : (at : ℕ) → getD (cut at c rows) 0 0 ≡ getD rows at 0
   at-0 at = at-tab c (λ j. getD rows (at + j) 0) 0 some ∙ ap (λ j. getD rows j 0) (let o : at + 0 ≡ at = omega arith in o)
 
-  at-row-0 : (at : ℕ) → At ρ (row ρ (cut at c rows)) (ρ .cast (getD rows at 0))
-  at-row-0 at = subst (λ n. At ρ (row ρ (cut at c rows)) (ρ .cast n)) (at-0 at) (at-row ρ (cut at c rows) (let w : length (cut at c rows) ≡ c = length-tab c (λ j. getD rows (at + j) 0) in let u = some in omega arith))
+  at-row-0 : (at b : ℕ) → at ≡ b → At ρ (row ρ (cut at c rows)) (ρ .cast (getD rows b 0))
+  at-row-0 at b e = subst (λ n. At ρ (row ρ (cut at c rows)) (ρ .cast n)) (at-0 at ∙ ap (λ j. getD rows j 0) e) (at-row ρ (cut at c rows) (let w : length (cut at c rows) ≡ c = length-tab c (λ j. getD rows (at + j) 0) in let u = some in omega arith))
 
   at-G : At ρ (row ρ G) (ρ .cast (getD (f .field .g) 0 0))
   at-G = subst (λ z. At ρ z (ρ .cast (getD (f .field .g) 0 0))) (keeps.holds-of (t .kept) A .g-is) (at-row ρ (f .field .g) (let w : length (f .field .g) ≡ 32 = keeps.g-row (t .kept) .size in omega arith))
@@ -137,7 +137,7 @@ module _ {f : OpenedField} {G H : List ℕ} {c : ℕ} {rows : List ℕ} (t : Hel
 
   module _ (v : ℕ) (made : NormIs p (getD (f .field .g) 0 0) (getD (f .field .h) 0 0) (getD rows 0 0) (getD rows c 0) (getD rows (c + c) 0) v) where
     value : At ρ (norm S E .0) (ρ .cast v)
-    value = subst (At ρ (norm S E .0)) (sym (made .law (A .prime))) (at-norm ρ at-G at-H (at-row-0 0) (at-row-0 (0 + c)) (at-row-0 (0 + c + c)))
+    value = subst (At ρ (norm S E .0)) (sym (made .law (A .prime))) (at-norm ρ at-G at-H (at-row-0 0 0 refl) (at-row-0 (0 + c) c (omega arith)) (at-row-0 (0 + c + c) (c + c) (omega arith)))
 
     norm-number : Leads (ρ .𝓥) (norm S E .0) (ρ .cast v)
     norm-number =
@@ -191,26 +191,38 @@ module _ {f : OpenedField} {n c : ℕ} {rows : List ℕ} (t : FactorAsks f n c r
     each = t .holds .each;
     g-below = keeps.g-row (t .kept) .each 0;
     h-below = keeps.h-row (t .kept) .each 0;
-    some = root-some held-of A₀;
+    some = λ v w made root. root-some held-of A₀ v made w root;
   }
 
-inverse-some : {p a r : ℕ} → Inverse p a r → 0 < r
-inverse-some {p} {a} {r} i = let z : r ≢ 0 = (λ e. (let o : 0 ≡ 1 = sym (zero-mod p) ∙ ap (λ x. x % p) (sym (mul-zero a) ∙ ap (λ x. a * x) (sym e)) ∙ i .law in absurd (omega (arith, o)))) in omega (arith, z)
+-- a number with an inverse is not 0
+inverse-some : {p a r : ℕ} → 0 < p → Inverse p a r → 0 < r
+inverse-some {p} {a} {r} pos i =
+    let z : r ≢ 0 = (λ e.
+        let o : (a * r) % p ≡ 0 = ap (λ x. (a * x) % p) e ∙ ap (λ x. x % p) (mul-zero a) ∙ mod-eq-of-lt pos in
+        let l : (a * r) % p ≡ 1 = i .law in absurd (omega arith)) in
+    omega (arith, z)
 
-pub factors-monic : {f : OpenedField} {n c : ℕ} {rows : List ℕ} {r : ℕ} → n ≡ 1 → ForMonic (f .field .p) c rows r → Factors f n c rows r
-factors-monic {f} {n} {c} {rows} {r} e m = record {
+-- the norm of the numbers in their places
+pub norm-at : {p g h a b c a′ b′ c′ v : ℕ} → a ≡ a′ → b ≡ b′ → c ≡ c′ → NormIs p g h a b c v → NormIs p g h a′ b′ c′ v
+norm-at {p} {g} {h} {a} {b} {c} {a′} {b′} {c′} {v} x y z n = subst (λ k. NormIs p g h k b′ c′ v) x (subst (λ k. NormIs p g h a k c′ v) y (subst (λ k. NormIs p g h a b k v) z n))
+
+pub factors-monic : {f : OpenedField} {n c : ℕ} {rows : List ℕ} {r : ℕ} → 0 < f .field .p → n ≡ 1 → ForMonic (f .field .p) c rows r → Factors f n c rows r
+factors-monic {f} {n} {c} {rows} {r} pos e m = record {
   below = m .inverse .below;
-  some = inverse-some (m .inverse);
+  some = inverse-some pos (m .inverse);
   law = λ G H A kept holds k named.
       subst (λ j. Scaled (setting A) j (O (setting A) .ops .mul (sc (setting A) (constant A r)) (six A c 0 rows))) (sym (named-one k (named ∙ e)))
       (monic-law (record { kept = kept; holds = holds }) A (m .n) (m .size) r (m .inverse .law));
 }
 
-pub factors-norm : {f : OpenedField} {n c : ℕ} {rows : List ℕ} {r : ℕ} → n ≢ 1 → ForNorm (f .field .p) (getD (f .field .g) 0 0) (getD (f .field .h) 0 0) c rows r → Factors f n c rows r
-factors-norm {f} {n} {c} {rows} {r} e m = record {
+pub factors-norm : {f : OpenedField} {n c : ℕ} {rows : List ℕ} {r : ℕ} → 0 < f .field .p → n ≢ 1 → ForNorm (f .field .p) (getD (f .field .g) 0 0) (getD (f .field .h) 0 0) c rows r → Factors f n c rows r
+factors-norm {f} {n} {c} {rows} {r} pos e m = record {
   below = m .inverse .below;
-  some = inverse-some (m .inverse);
+  some = inverse-some pos (m .inverse);
   law = λ G H A kept holds k named.
       subst (λ j. Scaled (setting A) j (O (setting A) .ops .mul (sc (setting A) (constant A r)) (six A c 0 rows))) (sym (named-two k (λ q. e (sym named ∙ q))))
       (norm-law (record { kept = kept; holds = holds }) A (m .v) (m .is-norm) (m .w) (m .root) r (m .inverse .law));
 }
+
+pub p-pos : {f : OpenedField} {n c : ℕ} {rows : List ℕ} → FactorAsks f n c rows → 0 < f .field .p
+p-pos {f} t = let l : 5 ≤ f .field .p = t .kept .accepted .low in omega arith

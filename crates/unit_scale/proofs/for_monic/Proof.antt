@@ -5,6 +5,8 @@ use mathlib.Core.List.{List, [], _∷_, _++_}
 use native.Mathlib.Omega.{arith}
 use native.Mathlib.Numerals.{add-one}
 use lib.ListN.{length, length-set, getD, set, replicate, take, drop}
+use Rattle.num_power.specs.Powers.{Inverse}
+use Rattle.unit_scale.proofs.Numbers.{modulus-of, top-not-zero}
 use borrow.Author.Needs.{needs}
 use Rattle.unit_scale.proofs.for_monic.Statement.{statement}
 use Rattle.unit_scale.proofs.for_monic.Tie as tie
@@ -30,22 +32,37 @@ size-requires : tie.Need-size-requires
 size-requires c κs = search needs
 
 sub-wide : tie.Need-sub-wide
-sub-wide c = let o = c .before .pre .some _ (c .size .ensures) in omega arith
+sub-wide c = let o = c .before .before .before .pre .some _ (c .size .ensures) in omega arith
 
 mul-wide : tie.Need-mul-wide
 mul-wide c = search needs
 
 shared-slice-read-wide : tie.Need-shared-slice-read-wide
-shared-slice-read-wide c = let o = c .before .pre .some _ (c .size .ensures) in let u = c .size .ensures .fits in omega arith
+shared-slice-read-wide c = let s = c .before .before .before .before in let o = s .pre .some _ (c .before .size .ensures) in let u = c .before .size .ensures .fits in let l = s .pre .inside in omega arith
 
 wide-requires : tie.Need-wide-requires
 wide-requires c κs = search needs
 
 inverse-requires : tie.Need-inverse-requires
-inverse-requires c κs = search needs
+inverse-requires c κs = 
+    let s = c .before .before .before .before .before in
+    let z = c .before .before .size .ensures in
+    let o = s .pre .some _ z in
+    record {
+      modulus = modulus-of (s .pre .modulus);
+      prime = s .pre .modulus .prime;
+      pos = top-not-zero (s .args .c) (s .args .rows .now) (s .pre .inside) z o (c .wide .ensures);
+      below = subst (λ v. v < s .args .p) (sym (c .wide .ensures)) (s .pre .each _);
+    }
 
 returns : tie.Need-returns
-returns c = search needs
+returns c = 
+    let s = c .before .before .before .before .before .before in
+    record {
+      n = c .before .before .before .size .result;
+      size = c .before .before .before .size .ensures;
+      inverse = subst (λ v. Inverse (s .args .p) v (c .inverse .result)) (c .before .wide .ensures) (c .inverse .ensures);
+    }
 
 pub for-monic-spec : {M : Type 1} → statement M
 for-monic-spec =

@@ -4,6 +4,8 @@ use mathlib.Core.List.{List, [], _∷_, _++_}
 use native.Mathlib.Omega.{arith}
 use native.Mathlib.Numerals.{add-one}
 use lib.ListN.{length, length-set, getD, set, replicate, take, drop}
+use Rattle.unit_scale.proofs.Numbers.{modulus-of}
+use Rattle.unit_scale.proofs.Scales.{norm-at}
 use borrow.Author.Needs.{needs}
 use Rattle.unit_scale.proofs.for_norm.Statement.{statement}
 use Rattle.unit_scale.proofs.for_norm.Tie as tie
@@ -42,16 +44,42 @@ wide-requires-3 : tie.Need-wide-requires-3
 wide-requires-3 c κs = search needs
 
 norm-requires : tie.Need-norm-requires
-norm-requires c κs = search needs
+norm-requires c κs = 
+    let s = c .before .before .before .before .before .before .before in
+    record {
+      three = s .pre .three;
+      modulus = s .pre .modulus;
+      g-below = s .pre .g-below;
+      h-below = s .pre .h-below;
+      a-below = subst (λ v. v < s .args .p) (sym (c .before .before .before .before .wide .ensures)) (s .pre .each _);
+      b-below = subst (λ v. v < s .args .p) (sym (c .before .before .wide2 .ensures)) (s .pre .each _);
+      c-below = subst (λ v. v < s .args .p) (sym (c .wide3 .ensures)) (s .pre .each _);
+    }
 
 cube-root-requires : tie.Need-cube-root-requires
 cube-root-requires c κs = search needs
 
 inverse-requires : tie.Need-inverse-requires
-inverse-requires c κs = search needs
+inverse-requires c κs = 
+    let at2 = c .before .before in
+    let s = at2 .before .before .before .before .before .before .before in
+    record {
+      modulus = modulus-of (s .pre .modulus);
+      prime = s .pre .modulus .prime;
+      pos = s .pre .some _ _ (norm-at (at2 .before .before .before .before .wide .ensures) (at2 .before .before .wide2 .ensures) (at2 .wide3 .ensures) (c .before .norm .ensures)) (c .cube-root .ensures);
+      below = c .cube-root .ensures .below;
+    }
 
 returns : tie.Need-returns
-returns c = search needs
+returns c = 
+    let at3 = c .before .before .before in
+    record {
+      v = c .before .before .norm .result;
+      is-norm = norm-at (at3 .before .before .before .before .wide .ensures) (at3 .before .before .wide2 .ensures) (at3 .wide3 .ensures) (c .before .before .norm .ensures);
+      w = c .before .cube-root .result;
+      root = c .before .cube-root .ensures;
+      inverse = c .inverse .ensures;
+    }
 
 pub for-norm-spec : {M : Type 1} → statement M
 for-norm-spec =

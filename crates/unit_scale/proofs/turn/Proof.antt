@@ -4,6 +4,8 @@ use mathlib.Core.List.{List, [], _∷_, _++_}
 use native.Mathlib.Omega.{arith}
 use native.Mathlib.Numerals.{add-one}
 use lib.ListN.{length, length-set, getD, set, replicate, take, drop}
+use Rattle.unit_finish.proofs.Stored.{storable}
+use Rattle.unit_scale.proofs.Turning.{turns, twice-scaled}
 use borrow.Author.Needs.{needs}
 use Rattle.unit_scale.proofs.turn.Statement.{statement}
 use Rattle.unit_scale.proofs.turn.Tie as tie
@@ -41,7 +43,7 @@ part-scale-end : tie.Need-part-scale-end
 part-scale-end c = search needs
 
 scale-requires : tie.Need-scale-requires
-scale-requires c κs = search needs
+scale-requires c κs = let s = c .before .before .before .before .before .before in record { modulus = storable (s .pre .kept .accepted); below = c .before .before .factor .ensures .below }
 
 mul-scale-2 : tie.Need-mul-scale-2
 mul-scale-2 c = search needs
@@ -56,13 +58,19 @@ part-scale-end-2 : tie.Need-part-scale-end-2
 part-scale-end-2 c = search needs
 
 scale-requires-2 : tie.Need-scale-requires-2
-scale-requires-2 c κs = search needs
+scale-requires-2 c κs = let s = c .before .before .before .before .before .before .before .before .before .before in record { modulus = storable (s .pre .kept .accepted); below = c .before .before .before .before .before .inverse .ensures .below }
 
 same-length : tie.Need-same-length
 same-length c = search needs
 
 returns : tie.Need-returns
-returns c = search needs
+returns c = 
+    let at6 = c .before .before .before .before .before .before in
+    let at8 = at6 .before .before in
+    let s = at8 .before .before .before .before .before in
+    let k = s .args .c + s .args .c + s .args .c in
+    turns (s .args .f) (s .args .convention) (s .args .c) _ _ (s .args .rows .now) _ (at8 .before .factor .ensures) (at8 .inverse .ensures .law)
+    (twice-scaled (s .args .f .field .p) _ _ (s .args .c) (s .args .rows .now) _ _ (k - 0) (k + k - k) (omega arith) (omega arith) (s .pre .holds .whole) (at6 .scale .ensures) (c .before .before .scale2 .ensures))
 
 pub turn-spec : {M : Type 1} → statement M
 turn-spec =
