@@ -10,6 +10,7 @@ use Rattle.field_open.specs.Refusal.{Accepted}
 use Rattle.field_open.proofs.Door.{door-unique}
 use Rattle.math_chain.proofs.Walk.{closing-unique}
 use Rattle.math_chain.proofs.Exists.{order-exists}
+use Rattle.math_chain.proofs.Scaling.{number-unique}
 use Rattle.basis_record.specs.Record.{setting}
 use Rattle.unit_finish.specs.Rows.{Holds}
 use Rattle.unit_finish.proofs.Rows.{rows-unique}
@@ -51,24 +52,24 @@ module _ {p : ℕ} {G H : List ℕ} (A : Accepted p G H) where
       let (B, k) = f A B₀ st in
       o A B₀ st _ _ B (k .some) l (k .chain) (k .closed)
 
-  module _ (n : ℕ) (rows scratch : List ℕ) where
-    goes-unique : (m m′ : UnitAnswer) (r r′ s s′ : List ℕ) → Goes p G H n rows scratch m r s → Goes p G H n rows scratch m′ r′ s′ → Same m m′ r r′ s s′
+  module _ (i n : ℕ) (rows scratch : List ℕ) where
+    goes-unique : (m m′ : UnitAnswer) (r r′ s s′ : List ℕ) → Goes i p G H n rows scratch m r s → Goes i p G H n rows scratch m′ r′ s′ → Same m m′ r r′ s s′
     goes-unique m m′ r r′ s s′ (bad a x) (bad b y) = refused-unique x y
-    goes-unique m m′ r r′ s s′ (bad a x) (spent c t o y) = absurd (a c t)
-    goes-unique m m′ r r′ s s′ (bad a x) (narrow c l d t u f k y) = absurd (a c t)
-    goes-unique m m′ r r′ s s′ (bad a x) (made c l d t u f k y) = absurd (a c t)
-    goes-unique m m′ r r′ s s′ (spent c t o x) (bad b y) = absurd (b c t)
-    goes-unique m m′ r r′ s s′ (spent c t o x) (spent c′ t′ o′ y) = refused-unique x y
-    goes-unique m m′ r r′ s s′ (spent c t o x) (narrow c′ l d t′ u f k y) = absurd (not-both u f o)
-    goes-unique m m′ r r′ s s′ (spent c t o x) (made c′ l d t′ u f k y) = absurd (not-both u f o)
-    goes-unique m m′ r r′ s s′ (narrow c l d t u f k x) (bad b y) = absurd (b c t)
-    goes-unique m m′ r r′ s s′ (narrow c l d t u f k x) (spent c′ t′ o y) = absurd (not-both u f o)
-    goes-unique m m′ r r′ s s′ (narrow c l d t u f k x) (narrow c′ l′ d′ t′ u′ f′ k′ y) = refused-unique x y
-    goes-unique m m′ r r′ s s′ (narrow c l d t u f k x) (made c′ l′ d′ t′ u′ f′ k′ y) = let (a, b) = finds-unique f f′ in let e : c ≡ c′ = six-unique (t .six) (t′ .six) in absurd (omega arith)
-    goes-unique m m′ r r′ s s′ (made c l d t u f k x) (bad b y) = absurd (b c t)
-    goes-unique m m′ r r′ s s′ (made c l d t u f k x) (spent c′ t′ o y) = absurd (not-both u f o)
-    goes-unique m m′ r r′ s s′ (made c l d t u f k x) (narrow c′ l′ d′ t′ u′ f′ k′ y) = let (a, b) = finds-unique f f′ in let e : c ≡ c′ = six-unique (t .six) (t′ .six) in absurd (omega arith)
-    goes-unique m m′ r r′ s s′ (made c l d t u f k x) (made c′ l′ d′ t′ u′ f′ k′ y) =
+    goes-unique m m′ r r′ s s′ (bad a x) (spent way c t o y) = absurd (a way c t)
+    goes-unique m m′ r r′ s s′ (bad a x) (narrow way c l d t u f k y) = absurd (a way c t)
+    goes-unique m m′ r r′ s s′ (bad a x) (made way c l d t u f k y) = absurd (a way c t)
+    goes-unique m m′ r r′ s s′ (spent way c t o x) (bad b y) = absurd (b way c t)
+    goes-unique m m′ r r′ s s′ (spent way c t o x) (spent way′ c′ t′ o′ y) = refused-unique x y
+    goes-unique m m′ r r′ s s′ (spent way c t o x) (narrow way′ c′ l d t′ u f k y) = absurd (not-both u f o)
+    goes-unique m m′ r r′ s s′ (spent way c t o x) (made way′ c′ l d t′ u f k y) = absurd (not-both u f o)
+    goes-unique m m′ r r′ s s′ (narrow way c l d t u f k x) (bad b y) = absurd (b way c t)
+    goes-unique m m′ r r′ s s′ (narrow way c l d t u f k x) (spent way′ c′ t′ o y) = absurd (not-both u f o)
+    goes-unique m m′ r r′ s s′ (narrow way c l d t u f k x) (narrow way′ c′ l′ d′ t′ u′ f′ k′ y) = refused-unique x y
+    goes-unique m m′ r r′ s s′ (narrow way c l d t u f k x) (made way′ c′ l′ d′ t′ u′ f′ k′ y) = let (a, b) = finds-unique f f′ in let e : c ≡ c′ = six-unique (t .six) (t′ .six) in absurd (omega arith)
+    goes-unique m m′ r r′ s s′ (made way c l d t u f k x) (bad b y) = absurd (b way c t)
+    goes-unique m m′ r r′ s s′ (made way c l d t u f k x) (spent way′ c′ t′ o y) = absurd (not-both u f o)
+    goes-unique m m′ r r′ s s′ (made way c l d t u f k x) (narrow way′ c′ l′ d′ t′ u′ f′ k′ y) = let (a, b) = finds-unique f f′ in let e : c ≡ c′ = six-unique (t .six) (t′ .six) in absurd (omega arith)
+    goes-unique m m′ r r′ s s′ (made way c l d t u f k x) (made way′ c′ l′ d′ t′ u′ f′ k′ y) =
         let (a, b) = finds-unique f f′ in
         let e : c ≡ c′ = six-unique (t .six) (t′ .six) in
         let v : m .regulator .0 + m .regulator .0 ≡ d = x .regulator in
@@ -77,9 +78,9 @@ module _ {p : ℕ} {G H : List ℕ} (A : Accepted p G H) where
           number = x .number ∙ sym (y .number);
           period = x .period ∙ a ∙ sym (y .period);
           regulator = omega arith;
-          rows-same = rows-unique A c r r′ (x .rows-hold) (subst (λ q. Holds p G H l′ d′ q r′) (sym e) (y .rows-hold));
+          rows-same = rows-unique A c r r′ (x .rows-hold) (subst (λ q. Holds way p G H l′ d′ q r′) (sym e) (subst (λ u. Holds u p G H l′ d′ c′ r′) (number-unique way′ way (t′ .named ∙ sym (t .named))) (y .rows-hold)));
           scratch-same = x .scratch-blank ∙ sym (y .scratch-blank);
         }
 
-pub makes-unique : (p : ℕ) (G H : List ℕ) (n : ℕ) (rows scratch : List ℕ) (m m′ : UnitAnswer) (r r′ s s′ : List ℕ) → Makes p G H n rows scratch m r s → Makes p G H n rows scratch m′ r′ s′ → Same m m′ r r′ s s′
-makes-unique p G H n rows scratch m m′ r r′ s s′ = door-unique (λ k. refused-unique) (λ A. goes-unique A n rows scratch m m′ r r′ s s′)
+pub makes-unique : (i p : ℕ) (G H : List ℕ) (n : ℕ) (rows scratch : List ℕ) (m m′ : UnitAnswer) (r r′ s s′ : List ℕ) → Makes i p G H n rows scratch m r s → Makes i p G H n rows scratch m′ r′ s′ → Same m m′ r r′ s s′
+makes-unique i p G H n rows scratch m m′ r r′ s s′ = door-unique (λ k. refused-unique) (λ A. goes-unique A i n rows scratch m m′ r r′ s s′)

@@ -1,2 +1,3 @@
 pub mod Unit
 pub mod Fit
+pub mod Scaled

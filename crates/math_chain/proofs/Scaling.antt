@@ -1,6 +1,6 @@
 -- One scaling under each convention, over both at once. A convention weighs an element, by E0 or by the norm, and the weight of s v is s or s³
 -- times that of v: both send the constants other than 0 to such constants, one to one.
---   named-one named-two  a convention by its number
+--   named-one named-two number-unique   a convention by its number
 --   weigh weigh-sc       the weight, and that of s v
 --   times times-inj      s or s³, for a constant s; one to one
 --   scaled-out scaled-in   scaled is: the weight leads with 1
@@ -32,6 +32,12 @@ use Rattle.math_chain.specs.Convention.{Convention, e0-monic, norm-one, 
 pub named-one : (k : Convention) → number k ≡ 1 → k ≡ e0-monic
 named-one e0-monic e = refl
 named-one norm-one e = absurd (omega (arith, e))
+
+pub number-unique : (k k′ : Convention) → number k ≡ number k′ → k ≡ k′
+number-unique e0-monic e0-monic e = refl
+number-unique e0-monic norm-one e = absurd (omega (arith, e))
+number-unique norm-one e0-monic e = absurd (omega (arith, e))
+number-unique norm-one norm-one e = refl
 
 pub named-two : (k : Convention) → number k ≢ 1 → k ≡ norm-one
 named-two e0-monic f = absurd (f refl)

@@ -1,4 +1,5 @@
 -- A unit scaled by a convention, its six rows in place.
+--   no_convention  NoConvention   whether the number n names no convention
 --   constant A s              the number s as a polynomial
 --   Turned k p G H c rows rows′   the rows hold a unit and its inverse, as they did, now scaled by the convention k: E′ is a constant s other
 --                             than 0 times E, and F′ the inverse of E′
@@ -7,7 +8,7 @@
 -- In proofs/: Turned (`turned-unique`: the rows, the field and the convention settle what comes out; `turned-unit`: it is a unit of positive
 -- degree; `turned-holds`: what closes the chain under one convention is turned into what does under the other; `turned-back`: there and back).
 use mathlib.Core.Path.{_≡_}
-use mathlib.Core.Logic.{_≢_}
+use mathlib.Core.Bool.{Bool, true, false}
 use mathlib.Core.List.{List}
 use Prim.Native.Nat.{ℕ, _+_, _*_, _<_, _≤_}
 use lib.ListN.{length, getD}
@@ -23,6 +24,10 @@ use Rattle.field_series.specs.Keeps.{Kept}
 use Rattle.field_series.specs.declared.OpenedField.{OpenedField}
 use Rattle.base_answers.specs.Limits.{longest}
 use Rattle.unit_finish.specs.Rows.{six, HoldsUnit}
+
+abbrev pub NoConvention : ℕ → Bool → Type 0
+NoConvention n true = (k : Convention) → number k ≡ n → ⊥
+NoConvention n false = (k : Convention) × (number k ≡ n)
 
 abbrev pub constant : {p : ℕ} {G H : List ℕ} (A : Accepted p G H) → ℕ → P (setting A)
 constant {p} A s = let ρ = reading p (A .prime) in (ρ .𝓥 .const (ρ .cast s), ρ .𝓥 .const-poly (ρ .cast s))

@@ -9,7 +9,20 @@ use poly_long::size;
 ghost use Prim.Native.Nat.{_*_, _%_};
 ghost use mathlib.Core.Path.{_≡_};
 ghost use Rattle.unit_scale.specs.AtZero.{ThreeAsks, NormAsks, NormIs, ForMonicAsks, ForMonic, ForNormAsks, ForNorm};
-ghost use Rattle.unit_scale.specs.Scale.{FactorAsks, Factors, TurnAsks, Turns};
+ghost use Rattle.unit_scale.specs.Scale.{NoConvention, FactorAsks, Factors, TurnAsks, Turns};
+
+// Does the number name no convention?
+pub fn no_convention(n: u32) -> bool
+    ensures { λ r. ⌜ NoConvention n r ⌝ }
+{
+    if n == 1 {
+        return false;
+    }
+    if n == 2 {
+        return false;
+    }
+    true
+}
 
 // a b c
 fn product(p: u64, a: u64, b: u64, c: u64) -> u64

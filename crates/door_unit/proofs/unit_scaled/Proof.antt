@@ -1,4 +1,4 @@
--- `unit` meets its contract, case by case: proofs/Answering.antt.
+-- `unit_scaled` meets its contract, case by case: proofs/Answering.antt.
 use Prim.Native.Nat.{_-_}
 use mathlib.Core.Path.{_≡_, _∙_, ap, subst}
 use native.Mathlib.Omega.{arith}
@@ -9,8 +9,8 @@ use Rattle.field_open.specs.Padding.{unpad}
 use Rattle.basis_field.proofs.Known.{known-of}
 use Rattle.door_unit.specs.Fit.{Rule, Unfit}
 use Rattle.door_unit.proofs.Answering.{makes-refused, makes-bad, Ready, walked-at, makes-spent, makes-narrow, make-in, makes-made}
-use Rattle.door_unit.proofs.unit.Statement.{statement}
-use Rattle.door_unit.proofs.unit.Tie as tie
+use Rattle.door_unit.proofs.unit_scaled.Statement.{statement}
+use Rattle.door_unit.proofs.unit_scaled.Tie as tie
 
 open-with-series-requires : tie.Need-open-with-series-requires
 open-with-series-requires c κs = search needs
@@ -30,13 +30,13 @@ refused-requires-2 c κs = search needs
 -- what the answer of `unfit` says
 module _ (u : tie.After-unfit) where
   abbrev Says : Bool → Type 0
-  Says r = let a = u .before .before .before .before .before .before .before .args in Unfit (length (a .rows .now)) (length (a .scratch .now)) (a .budget) r
+  Says r = let a = u .before .before .before .before .before .before .before .args in Unfit (a .convention) (length (a .rows .now)) (length (a .scratch .now)) (a .budget) r
 
   says : {r : Bool} → u .unfit .result ≡ r → Says r
   says e = subst Says e (u .unfit .ensures)
 
   ready : u .unfit .result ≡ false → let a = u .before .before .before .before .before .before .before .args in
-      Ready (a .p) (unpad (a .g .now)) (unpad (a .h .now)) (a .budget) (a .rows .now) (a .scratch .now) (u .before .before .open-with-series .result)
+      Ready (a .convention) (a .p) (unpad (a .g .now)) (unpad (a .h .now)) (a .budget) (a .rows .now) (a .scratch .now) (u .before .before .open-with-series .result)
   ready e = record { opens = u .before .before .open-with-series .ensures; zero = u .before .if1 .left; rule = says e }
 
 returns-2 : tie.Need-returns-2
@@ -69,19 +69,19 @@ returns-4 c =
     makes-narrow (ready (v .before) (v .if2 .left)) (o .before .order-basis .ensures) _ (o .walk-in-field .ensures) (c .before .before .if3 .left)
     (omega (arith, c .before .if4 .taken)) (c .refused4 .ensures)
 
-make-requires : tie.Need-make-requires
-make-requires c κs =
+make-scaled-requires : tie.Need-make-scaled-requires
+make-scaled-requires c κs =
     let o = c .before .before .before .before in
     let v = o .before .before .before in
     make-in (ready (v .before) (v .if2 .left)) (o .before .order-basis .ensures) _ (o .walk-in-field .ensures) (c .before .before .before .if3 .left) (omega (arith, c .before .before .if4 .left))
 
 same-length : tie.Need-same-length
-same-length c = c .before .before .before .before .make .ensures .size
+same-length c = c .before .before .before .before .make-scaled .ensures .size
 
 same-length-2 : tie.Need-same-length-2
 same-length-2 c =
     let a = c .before .before .before .before .before .before .before .before .before .before .before .before .before .before .before .before .before .before .before .before .args in
-    ap length (c .before .before .before .before .make .ensures .blank) ∙ length-replicate (length (a .scratch .now)) 0
+    ap length (c .before .before .before .before .make-scaled .ensures .blank) ∙ length-replicate (length (a .scratch .now)) 0
 
 returns-5 : tie.Need-returns-5
 returns-5 c =
@@ -89,10 +89,10 @@ returns-5 c =
     let i = m .before .before .before in
     let o = i .before .before in
     let v = o .before .before .before in
-    makes-made (ready (v .before) (v .if2 .left)) (o .before .order-basis .ensures) _ (o .walk-in-field .ensures) (i .before .if3 .left) (omega (arith, i .if4 .left)) (m .make .ensures)
+    makes-made (ready (v .before) (v .if2 .left)) (o .before .order-basis .ensures) _ (o .walk-in-field .ensures) (i .before .if3 .left) (omega (arith, i .if4 .left)) (m .make-scaled .ensures)
 
-pub unit-spec : {M : Type 1} → statement M
-unit-spec =
+pub unit-scaled-spec : {M : Type 1} → statement M
+unit-scaled-spec =
     tie.close
     (tie.spec
     open-with-series-requires
@@ -107,7 +107,7 @@ unit-spec =
     returns-3
     refused-requires-4
     returns-4
-    make-requires
+    make-scaled-requires
     same-length
     same-length-2
     returns-5)
