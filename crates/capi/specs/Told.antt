@@ -5,7 +5,7 @@
 --   StepTells            the next record in place of the old one, and the degree of the m divided by
 --   WalkTells            the last record in place of the first one, steps and degree sum
 --   FromOrderTells       period and regulator of the walk from the order
---   UnitTells            the unit and its inverse in the lent slices, period and regulator
+--   UnitTells            the unit under the convention with the number i and its inverse in the lent slices, period and regulator
 --   OneFieldTells        whether two pairs are of one field, as 1 or 0
 -- In proofs/Once.antt: two outcomes that meet one of them are equal. `Puts`, what a walk puts in place, is in capi_walk/specs/Puts.antt.
 use mathlib.Core.Path.{_≡_}
@@ -56,9 +56,9 @@ pub record FromOrderTells (p : ℕ) (G H : List ℕ) (budget n period regulator 
   pub period-is : period ≡ o .period .0
   pub regulator-is : regulator ≡ o .regulator .0
 
-pub record UnitTells (p : ℕ) (G H : List ℕ) (budget : ℕ) (rows scratch : List ℕ) (n period regulator : ℕ) (rows′ scratch′ : List ℕ) : Type 0 where
+pub record UnitTells (i p : ℕ) (G H : List ℕ) (budget : ℕ) (rows scratch : List ℕ) (n period regulator : ℕ) (rows′ scratch′ : List ℕ) : Type 0 where
   pub m : UnitAnswer
-  pub makes : Makes p G H budget rows scratch m rows′ scratch′
+  pub makes : Makes i p G H budget rows scratch m rows′ scratch′
   pub number : n ≡ m .refusal
   pub period-is : period ≡ m .period .0
   pub regulator-is : regulator ≡ m .regulator .0

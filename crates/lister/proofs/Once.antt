@@ -38,11 +38,11 @@ made-same s {m} {m′} {rows} {rows′} e =
     ∙ ap (λ z. told (m′ .refusal) (unit-text s (m′ .period .0) (m′ .regulator .0) (trim (cut 0 1024 z)) (trim (cut 1024 1024 z)) (trim (cut 2048 1024 z)))) (e .rows-same)
 
 pub read-unique : (p : ℕ) (G H : List ℕ) (p′ : ℕ) (G′ H′ : List ℕ) (m m′ : UnitAnswer) (r s r′ s′ : List ℕ) → p ≡ p′ → G ≡ G′ → H ≡ H′
-    → Makes p G H budget blank blank m r s → Makes p′ G′ H′ budget blank blank m′ r′ s′ → made-text (line-text p G H) m r ≡ made-text (line-text p′ G′ H′) m′ r′
+    → Makes 1 p G H budget blank blank m r s → Makes 1 p′ G′ H′ budget blank blank m′ r′ s′ → made-text (line-text p G H) m r ≡ made-text (line-text p′ G′ H′) m′ r′
 read-unique p G H p′ G′ H′ m m′ r s r′ s′ a b c x y =
-    let y₁ = subst (λ z. Makes z G′ H′ budget blank blank m′ r′ s′) (sym a) y in
-    let y₂ = subst (λ z. Makes p z H′ budget blank blank m′ r′ s′) (sym b) y₁ in
-    let y₃ = subst (λ z. Makes p G z budget blank blank m′ r′ s′) (sym c) y₂ in
+    let y₁ = subst (λ z. Makes 1 z G′ H′ budget blank blank m′ r′ s′) (sym a) y in
+    let y₂ = subst (λ z. Makes 1 p z H′ budget blank blank m′ r′ s′) (sym b) y₁ in
+    let y₃ = subst (λ z. Makes 1 p G z budget blank blank m′ r′ s′) (sym c) y₂ in
     made-same (line-text p G H) (makes-unique p G H budget blank blank m m′ r r′ s s′ x y₃)
     ∙ ap (λ z. made-text (line-text z G H) m′ r′) a ∙ ap (λ z. made-text (line-text p′ z H) m′ r′) b ∙ ap (λ z. made-text (line-text p′ G′ z) m′ r′) c
 

@@ -24,7 +24,7 @@ use Rattle.lister_print.specs.Text.{made-text}
 use Rattle.lister.specs.Listing.{budget, blank, malformed, read, Told, Answer}
 
 pub told-front : {p : ℕ} {g h : List ℕ} {n k : ℕ} {m : UnitAnswer} {rows scratch d : List ℕ} {at r : ℕ} {d' : List ℕ}
-    → Put d at (made-text (line-text p (take n g) (take k h)) m rows) r d' → Unpadded g n → Unpadded h k → Makes p (unpad g) (unpad h) budget blank blank m rows scratch
+    → Put d at (made-text (line-text p (take n g) (take k h)) m rows) r d' → Unpadded g n → Unpadded h k → Makes 1 p (unpad g) (unpad h) budget blank blank m rows scratch
     → Told p g h d at r d'
 told-front {p} {m = m} {rows} {scratch} {d} {at} {r} {d'} w a b x =
     record { m = m; rows = rows; scratch = scratch; makes = x; put = fronts (λ G H. Put d at (made-text (line-text p G H) m rows) r d') a b w }

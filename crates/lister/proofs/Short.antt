@@ -147,7 +147,7 @@ goes-short s p G H m rows scratch b l (made c n d t u f k x) =
     let q : m .period .0 ≡ n = x .period in
     unit-made s m rows (x .number) l (record { p = p; below = b; period = omega arith; regulator = omega arith; each = x .rows-hold .each })
 
-makes-short : (s : List ℕ) (p : ℕ) (G H : List ℕ) (m : UnitAnswer) (rows scratch : List ℕ) → p < 100000 → length s ≤ 400 → Makes p G H budget blank blank m rows scratch
+makes-short : (s : List ℕ) (p : ℕ) (G H : List ℕ) (m : UnitAnswer) (rows scratch : List ℕ) → p < 100000 → length s ≤ 400 → Makes 1 p G H budget blank blank m rows scratch
     → length (made-text s m rows) ≤ room
 makes-short s p G H m rows scratch b l =
     door-out (λ k f h x. refused-made s m rows (refused-number x) (omega arith) (omega arith)) (λ A. goes-short s p G H m rows scratch b l)

@@ -40,14 +40,14 @@ blank = replicate slots 0
 pub data Lists (line : List ℕ) : List ℕ → Type 0 where
   malformed : ((p : ℕ) (G H : List ℕ) → Reads line p G H → ⊥) → Lists line (refused-text 12)
   read : (p : ℕ) (G H : List ℕ) (m : UnitAnswer) (rows scratch : List ℕ) → Reads line p G H
-      → Makes p (unpad G) (unpad H) budget blank blank m rows scratch → Lists line (made-text (line-text p (unpad G) (unpad H)) m rows)
+      → Makes 1 p (unpad G) (unpad H) budget blank blank m rows scratch → Lists line (made-text (line-text p (unpad G) (unpad H)) m rows)
 
 -- the answer to a line that reads as p, G, H
 pub record Told (p : ℕ) (G H d : List ℕ) (at r : ℕ) (d' : List ℕ) : Type 0 where
   pub m : UnitAnswer
   pub rows : List ℕ
   pub scratch : List ℕ
-  pub makes : Makes p (unpad G) (unpad H) budget blank blank m rows scratch
+  pub makes : Makes 1 p (unpad G) (unpad H) budget blank blank m rows scratch
   pub put : Put d at (made-text (line-text p (unpad G) (unpad H)) m rows) r d'
 
 pub record Answer (line d : List ℕ) (at r : ℕ) (d' : List ℕ) : Type 0 where

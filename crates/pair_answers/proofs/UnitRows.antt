@@ -11,6 +11,7 @@ use lib.ListN.{length, getD}
 use Rattle.math_rows.specs.Made.{reading}
 use Rattle.field_open.specs.Refusal.{Accepted}
 use Rattle.field_open.proofs.Accept.{with-prime}
+use Rattle.math_chain.specs.Convention.{Convention}
 use Rattle.math_chain.specs.Unit.{UnitOf}
 use Rattle.math_chain.proofs.Exists.{order-exists}
 use Rattle.basis_record.specs.Record.{setting}
@@ -55,16 +56,16 @@ module _ {p : ℕ} {G H G′ H′ : List ℕ} where
 
   -- ---- the unit, and the chain that gives it
   module _ (A₀ : Accepted p G H) (w : Way p G H G′ H′) where
-    pub holds-over : {l d c : ℕ} {r r′ : List ℕ} → Over w c r r′ → Holds p G H l d c r → Holds p G′ H′ l d c r′
-    holds-over {l} {d} {c} {r} {r′} o h = record {
+    pub holds-over : {k : Convention} {l d c : ℕ} {r r′ : List ℕ} → Over w c r r′ → Holds k p G H l d c r → Holds k p G′ H′ l d c r′
+    holds-over {k} {l} {d} {c} {r} {r′} o h = record {
       whole = o .size;
       each = o .below;
       unit = λ A′ B₀′ st′.
           let pr = A′ .prime in
           let A = with-prime A₀ pr in
           let (B₀, st) = order-exists (setting A) in
-          subst (λ E. UnitOf (setting A′) B₀′ l d E (six A′ c (c + c + c) r′)) (tri-over A A′ pr c 0 r r′ w (o .rows .0))
-          (subst (λ F. UnitOf (setting A′) B₀′ l d (map A A′ pr w .to (six A c 0 r)) F) (tri-over A A′ pr c (c + c + c) r r′ w (o .rows .1))
+          subst (λ E. UnitOf (setting A′) k B₀′ l d E (six A′ c (c + c + c) r′)) (tri-over A A′ pr c 0 r r′ w (o .rows .0))
+          (subst (λ F. UnitOf (setting A′) k B₀′ l d (map A A′ pr w .to (six A c 0 r)) F) (tri-over A A′ pr c (c + c + c) r r′ w (o .rows .1))
           (theory.unit-over (reading p pr .𝓥) (map A A′ pr w) B₀ B₀′ st st′ (h .unit A B₀ st)));
     }
 

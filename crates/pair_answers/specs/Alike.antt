@@ -23,6 +23,7 @@ use Rattle.door_period.specs.declared.PeriodAnswer.{PeriodAnswer}
 use Rattle.door_period.specs.Order.{FromOrder}
 use Rattle.door_unit.specs.declared.UnitAnswer.{UnitAnswer}
 use Rattle.door_unit.specs.Unit.{Makes}
+use Rattle.math_chain.specs.Convention.{Convention}
 use Rattle.unit_finish.specs.Rows.{Holds}
 use Rattle.pair_laws.specs.OneField.{OneField}
 use Rattle.pair_agree.specs.Answer.{Coefficients}
@@ -62,16 +63,16 @@ module _ (p : ℕ) (G H G′ H′ : List ℕ) where
     -- "Prove that such pairs have the same period and regulator"
     pub told : (n : ℕ) (v w : PeriodAnswer) → FromOrder p G H n v → FromOrder p G′ H′ n w → v ≡ w
     -- "and say how the rows of the unit carry over: E1 and E2 change places on a swap and take constant factors, E0 stays"
-    pub made : (n : ℕ) (x y x′ y′ : List ℕ) → length x ≡ length x′ → length y ≡ length y′ → (v w : UnitAnswer) (r r′ s s′ : List ℕ)
-        → Makes p G H n x y v r s → Makes p G′ H′ n x′ y′ w r′ s′ → MadeSame v w r r′
+    pub made : (i n : ℕ) (x y x′ y′ : List ℕ) → length x ≡ length x′ → length y ≡ length y′ → (v w : UnitAnswer) (r r′ s s′ : List ℕ)
+        → Makes i p G H n x y v r s → Makes i p G′ H′ n x′ y′ w r′ s′ → MadeSame v w r r′
     -- the records of the two chains carry over too, from the order on
     pub order : (v w : OrderAnswer) → Orders p G H v → Orders p G′ H′ w → OrderSame v w
     pub step : {B B′ : List ℕ} → Counterpart B B′ → (v w : StepAnswer) → Answers p G H B v → Answers p G′ H′ B′ w → StepSame v w
     pub walk : {B B′ : List ℕ} → Counterpart B B′ → (n : ℕ) (v w : WalkAnswer) → Walks p G H n B v → Walks p G′ H′ n B′ w → WalkSame v w
-    -- `transfer` makes of the unit's rows the rows of the other pair's unit, those that `unit` gives for it
-    pub holds : {l d c : ℕ} {r r₁ : List ℕ} → Holds p G H l d c r → Transfers p G H G′ H′ r 0 r₁ → Holds p G′ H′ l d c r₁
-    pub transferred : (n : ℕ) (x y x′ y′ : List ℕ) → length x ≡ length x′ → length y ≡ length y′ → (v w : UnitAnswer) (r r′ s s′ : List ℕ)
-        → Makes p G H n x y v r s → Makes p G′ H′ n x′ y′ w r′ s′ → v .refusal ≡ 0
+    -- `transfer` makes of the unit's rows the rows of the other pair's unit, those that `unit` gives for it, under each convention
+    pub holds : {k : Convention} {l d c : ℕ} {r r₁ : List ℕ} → Holds k p G H l d c r → Transfers p G H G′ H′ r 0 r₁ → Holds k p G′ H′ l d c r₁
+    pub transferred : (i n : ℕ) (x y x′ y′ : List ℕ) → length x ≡ length x′ → length y ≡ length y′ → (v w : UnitAnswer) (r r′ s s′ : List ℕ)
+        → Makes i p G H n x y v r s → Makes i p G′ H′ n x′ y′ w r′ s′ → v .refusal ≡ 0
         → (k : ℕ) (r₁ : List ℕ) → Transfers p G H G′ H′ r k r₁ → (k ≡ 0) × (r₁ ≡ r′)
 
 -- "Two pairs over the same p are of one field when they agree after both are made monic, in either order"
