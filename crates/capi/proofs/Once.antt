@@ -63,7 +63,7 @@ from-order-tells-unique t u =
 
 pub unit-tells-unique : {i p k : ℕ} {G H a b : List ℕ} {n n′ l l′ r r′ : ℕ} {c c′ d d′ : List ℕ} → UnitTells i p G H k a b n l r c d → UnitTells i p G H k a b n′ l′ r′ c′ d′ → (n ≡ n′) × (l ≡ l′) × (r ≡ r′) × (c ≡ c′) × (d ≡ d′)
 unit-tells-unique t u =
-    let e = makes-unique _ _ _ _ _ _ (t .m) (u .m) _ _ _ _ (t .makes) (u .makes) in (
+    let e = makes-unique _ _ _ _ _ _ _ (t .m) (u .m) _ _ _ _ (t .makes) (u .makes) in (
       t .number ∙ e .number ∙ sym (u .number),
       t .period-is ∙ e .period ∙ sym (u .period-is),
       t .regulator-is ∙ e .regulator ∙ sym (u .regulator-is),

@@ -11,6 +11,7 @@ ghost use Rattle.book_place.specs.Place.{AskSays};
 ghost use Rattle.book_begin.specs.Begin.{BeginSays};
 ghost use Rattle.book_rows.specs.Rows.{RowsSays};
 ghost use Rattle.book_parts.specs.Parts.{PrimeSays, PeriodSays, ListSays};
+ghost use Rattle.door_rescale.specs.Rescale.{Rescales};
 ghost use Rattle.door_transfer.specs.Transfer.{Transfers};
 ghost use Rattle.capi.specs.Told.{OrderTells, StepTells, WalkTells, FromOrderTells, UnitTells, OneFieldTells};
 ghost use Rattle.capi.specs.Books.{CheckSays, WriteSays, AddSays, AttestSays};
@@ -131,7 +132,7 @@ pub extern "C" fn zaminuk_unit(
     period: &mut u64,
     regulator: &mut u64,
 ) -> u32
-    ensures { λ n. ⌜ UnitTells p (unpad (now (g .entry))) (unpad (now (h .entry))) budget (now (rows .entry)) (now (scratch .entry)) n (now (period .exit)) (now (regulator .exit)) (now (rows .exit)) (now (scratch .exit)) ⌝ }
+    ensures { λ n. ⌜ UnitTells 1 p (unpad (now (g .entry))) (unpad (now (h .entry))) budget (now (rows .entry)) (now (scratch .entry)) n (now (period .exit)) (now (regulator .exit)) (now (rows .exit)) (now (scratch .exit)) ⌝ }
 {
     let o = door_unit::unit(p, g, h, budget, rows, scratch);
     let t = o.period;
@@ -139,6 +140,37 @@ pub extern "C" fn zaminuk_unit(
     *period = t.0;
     *regulator = r.0;
     o.refusal
+}
+
+// The same under a convention: 1, E0 monic; 2, norm 1.
+#[no_mangle]
+pub extern "C" fn zaminuk_unit_scaled(
+    p: u64,
+    g: &[u64],
+    h: &[u64],
+    budget: u64,
+    convention: u32,
+    rows: &mut [u16],
+    scratch: &mut [u16],
+    period: &mut u64,
+    regulator: &mut u64,
+) -> u32
+    ensures { λ n. ⌜ UnitTells convention p (unpad (now (g .entry))) (unpad (now (h .entry))) budget (now (rows .entry)) (now (scratch .entry)) n (now (period .exit)) (now (regulator .exit)) (now (rows .exit)) (now (scratch .exit)) ⌝ }
+{
+    let o = door_unit::unit_scaled(p, g, h, budget, convention, rows, scratch);
+    let t = o.period;
+    let r = o.regulator;
+    *period = t.0;
+    *regulator = r.0;
+    o.refusal
+}
+
+// The rows of a unit and its inverse, carried over in place from one convention to another.
+#[no_mangle]
+pub extern "C" fn zaminuk_rescale(p: u64, g: &[u64], h: &[u64], from: u32, to: u32, rows: &mut [u16]) -> u32
+    ensures { λ n. ⌜ Rescales p (unpad (now (g .entry))) (unpad (now (h .entry))) from to (now (rows .entry)) n (now (rows .exit)) ⌝ }
+{
+    door_rescale::rescale(p, g, h, from, to, rows)
 }
 
 // Whether two pairs over one p are of one field: 1 or 0, and 0 beside a refusal of the first pair or of the second.

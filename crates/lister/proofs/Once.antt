@@ -43,7 +43,7 @@ read-unique p G H p′ G′ H′ m m′ r s r′ s′ a b c x y =
     let y₁ = subst (λ z. Makes 1 z G′ H′ budget blank blank m′ r′ s′) (sym a) y in
     let y₂ = subst (λ z. Makes 1 p z H′ budget blank blank m′ r′ s′) (sym b) y₁ in
     let y₃ = subst (λ z. Makes 1 p G z budget blank blank m′ r′ s′) (sym c) y₂ in
-    made-same (line-text p G H) (makes-unique p G H budget blank blank m m′ r r′ s s′ x y₃)
+    made-same (line-text p G H) (makes-unique 1 p G H budget blank blank m m′ r r′ s s′ x y₃)
     ∙ ap (λ z. made-text (line-text z G H) m′ r′) a ∙ ap (λ z. made-text (line-text p′ z H) m′ r′) b ∙ ap (λ z. made-text (line-text p′ G′ z) m′ r′) c
 
 pub lists-unique : {line t t′ : List ℕ} → Lists line t → Lists line t′ → t ≡ t′

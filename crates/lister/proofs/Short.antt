@@ -137,13 +137,13 @@ unit-made s m rows e l f =
     let h = unit-short s (m .period .0) (m .regulator .0) E0 E1 E2 l (omega arith) (omega arith) r in
     subst (λ t. length t ≤ room) (sym (made-unit s m rows e)) (omega arith)
 
-goes-short : (s : List ℕ) (p : ℕ) (G H : List ℕ) (m : UnitAnswer) (rows scratch : List ℕ) → p < 100000 → length s ≤ 400 → Goes p G H budget blank blank m rows scratch → length (made-text s m rows) ≤ room
+goes-short : (s : List ℕ) (p : ℕ) (G H : List ℕ) (m : UnitAnswer) (rows scratch : List ℕ) → p < 100000 → length s ≤ 400 → Goes 1 p G H budget blank blank m rows scratch → length (made-text s m rows) ≤ room
 goes-short s p G H m rows scratch b l (bad a x) = refused-made s m rows (refused-number x) (omega arith) (omega arith)
-goes-short s p G H m rows scratch b l (spent c t o x) = refused-made s m rows (refused-number x) (omega arith) (omega arith)
-goes-short s p G H m rows scratch b l (narrow c n d t u f k x) = refused-made s m rows (refused-number x) (omega arith) (omega arith)
-goes-short s p G H m rows scratch b l (made c n d t u f k x) =
+goes-short s p G H m rows scratch b l (spent v c t o x) = refused-made s m rows (refused-number x) (omega arith) (omega arith)
+goes-short s p G H m rows scratch b l (narrow v c n d t u f k x) = refused-made s m rows (refused-number x) (omega arith) (omega arith)
+goes-short s p G H m rows scratch b l (made v c n d t u f k x) =
     let w : 6144 ≡ 6 * c = sym (length-replicate {A = ℕ} 6144 0) ∙ t .six .whole in
-    let v : m .regulator .0 + m .regulator .0 ≡ d = x .regulator in
+    let g : m .regulator .0 + m .regulator .0 ≡ d = x .regulator in
     let q : m .period .0 ≡ n = x .period in
     unit-made s m rows (x .number) l (record { p = p; below = b; period = omega arith; regulator = omega arith; each = x .rows-hold .each })
 
