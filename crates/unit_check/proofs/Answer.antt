@@ -34,7 +34,7 @@ use Rattle.unit_finish.proofs.Stored.{storable}
 use Rattle.unit_check.specs.Check.{IsUnitAsks, IsUnitGives}
 use Rattle.unit_check.specs.Code.{Below, Longer, ProductAsks, ProductGives, IsInverseGives}
 use Rattle.unit_check.proofs.Positive.{positive-longer, longer-positive}
-use Rattle.unit_check.proofs.Lists.{size-length}
+use Rattle.unit_check.proofs.Lists.{to-longer, of-longer, size-length}
 
 module _ (f : OpenedField) (c : ℕ) (rows g h gh : List ℕ) (eg : g ≡ f .field .g) (eh : h ≡ f .field .h) (egh : gh ≡ f .field .gh) where
   -- the rows of an opened field stand for G, H and G H
@@ -100,14 +100,17 @@ module _ (f : OpenedField) (c : ℕ) (rows : List ℕ) (i : IsUnitAsks f c rows)
             let ρ = reading (f .field .p) (A .prime) in
             let (a, sa) = sized x in
             let (b, sb) = sized y in
-            let (u, t) = m a b sa sb in
+            let (u, t) = of-longer sa sb m in
             longer-positive (setting A) (six A c 0 rows) (six A c (c + c + c) rows) (w G H A k .yes! v) (size-length ρ x (cut-below 0 c rows each) sa)
             (size-length ρ y (cut-below (c + c + c) c rows each) sb) u t;
       })
-      (λ u a b sa sb.
+      (λ u.
           let A = k .accepted in
           let ρ = reading (f .field .p) (A .prime) in
           let z = u .unit A in
-          positive-longer (setting A) (six A c 0 rows) (six A c (c + c + c) rows) (z .inverse) (size-length ρ x (cut-below 0 c rows each) sa)
-          (size-length ρ y (cut-below (c + c + c) c rows each) sb) (z .has) (z .positive))
+          let (a, sa) = sized x in
+          let (b, sb) = sized y in
+          let (v, t) = positive-longer (setting A) (six A c 0 rows) (six A c (c + c + c) rows) (z .inverse) (size-length ρ x (cut-below 0 c rows each) sa)
+          (size-length ρ y (cut-below (c + c + c) c rows each) sb) (z .has) (z .positive) in
+          to-longer sa sb v t)
       l′

@@ -1,15 +1,18 @@
 -- Lists of numbers below p as polynomials.
 --   below-end      all numbers are passed, and past the end stands 0
+--   to-longer, of-longer   what `Longer` says of sizes
 --   size-length    the length without the zeros at the end is the polynomial's
 --   constant-is, is-constant   a list is k and zeros after it exactly where it stands for the constant k
 --   constant-at    so where nothing stands from place 1 on, and k at place 0
 use mathlib.Core.Path.{_≡_, sym, ap, _∙_, subst}
 use mathlib.Core.Logic.{_≢_}
 use mathlib.Core.List.{List, [], _∷_}
-use Prim.Native.Nat.{ℕ, zero, suc, _+_, _<_, _≤_}
+use Prim.Native.Nat.{ℕ, zero, suc, _-_, _<_, _≤_}
 use native.Mathlib.Omega.{arith}
 use native.Mathlib.Decide.{decLt}
 use lib.ListN.{length, getD, List·getD-eq-default}
+use Rattle.base_lists.specs.Coefficients.{trim}
+use Rattle.base_lists.proofs.Trims.{trim-length}
 use Rattle.math_valued.specs.Degree.{Lt}
 use Rattle.math_valued.proofs.Degree.{above}
 use Rattle.math_rows.specs.Reading.{Reading}
@@ -18,7 +21,7 @@ use Rattle.math_rows.proofs.Rows.{psum-ext, row-upto, size-lt, size-lead}
 use Rattle.math_rows.proofs.Unique.{cast-inj, psum-unique}
 use Rattle.unit_inverse.proofs.Inverting.{row-one}
 use Rattle.unit_finish.proofs.Stored.{list-top}
-use Rattle.unit_check.specs.Code.{Below, Constant}
+use Rattle.unit_check.specs.Code.{Below, Constant, Longer}
 use Rattle.unit_check.proofs.Positive.{Length}
 
 past : (l : List ℕ) (i : ℕ) → length l ≤ i → getD l i 0 ≡ 0
@@ -26,6 +29,14 @@ past l i h = List·getD-eq-default l 0 {n = i} h
 
 pub below-end : (p : ℕ) (l : List ℕ) (i : ℕ) → 0 < p → ((k : ℕ) → k < i → getD l k 0 < p) → length l ≤ i → Below p l
 below-end p l i z h u k = elim (decLt k i) [ yes v ↦ h k v | no v ↦ let e : getD l k 0 ≡ 0 = past l k (omega arith) in omega arith ]
+
+-- ---- lengths
+module _ {x y : List ℕ} {a b : ℕ} (sx : Size x a) (sy : Size y b) where
+  pub to-longer : b < a → 1 < a → Longer x y
+  to-longer u v = let ex : length (trim x) ≡ a = trim-length x a sx in let ey : length (trim y) ≡ b = trim-length y b sy in (omega arith, omega arith)
+
+  pub of-longer : Longer x y → (b < a) × (1 < a)
+  of-longer (u, v) = let ex : length (trim x) ≡ a = trim-length x a sx in let ey : length (trim y) ≡ b = trim-length y b sy in (omega arith, omega arith)
 
 -- ---- a list of one number
 one-below : (p k : ℕ) → k < p → (i : ℕ) → getD (k ∷ []) i 0 < p
@@ -38,7 +49,7 @@ constant-at k l n s u e (suc i) = s .above (suc i) (omega arith)
 
 -- two numbers or more
 pub constant-not : (k : ℕ) (l : List ℕ) (n : ℕ) → Size l n → 1 < n → Constant k l → ⊥
-constant-not k l n s u h = s .top (omega arith) (h _ ∙ past (k ∷ []) _ (omega arith))
+constant-not k l n s u h = s .top (omega arith) (h (n - 1) ∙ past (k ∷ []) (n - 1) (omega arith))
 
 module _ {p : ℕ} (ρ : Reading p) where
   open Reading ρ using (𝓥, cast)

@@ -12,13 +12,14 @@ use Prim.Native.Nat.{ℕ, _+_, _*_, _<_, _≤_}
 use lib.ListN.{length, getD}
 use Rattle.base_answers.specs.Decides.{Decides}
 use Rattle.base_answers.specs.Limits.{longest}
+use Rattle.base_lists.specs.Coefficients.{trim}
 use Rattle.math_ring.specs.Ring.{Ops}
 use Rattle.math_triple.specs.Tri.{mulT}
 use Rattle.math_triple.specs.Order.{triops}
 use Rattle.math_fp.specs.Fp.{Prime}
 use Rattle.math_rows.specs.Reading.{Reading}
 use Rattle.math_rows.specs.Made.{reading}
-use Rattle.math_rows.specs.Row.{Size, row}
+use Rattle.math_rows.specs.Row.{row}
 use Rattle.math_ideals.specs.Element.{O}
 use Rattle.field_open.specs.Refusal.{Accepted}
 use Rattle.field_series.specs.Keeps.{Kept}
@@ -35,7 +36,7 @@ abbrev pub Constant : ℕ → List ℕ → Type 0
 Constant k l = (i : ℕ) → getD l i 0 ≡ getD (k ∷ []) i 0
 
 abbrev pub Longer : List ℕ → List ℕ → Type 0
-Longer x y = (a b : ℕ) → Size x a → Size y b → (b < a) × (1 < a)
+Longer x y = (length (trim y) < length (trim x)) × (1 < length (trim x))
 
 pub record CoordinateAsks (p c : ℕ) (x y z w u m n v : List ℕ) (k : ℕ) : Type 0 where
   pub modulus : Storable p

@@ -29,7 +29,7 @@ wide-requires : tie.Need-wide-requires Inv-loop μ-loop
 wide-requires c κs = search needs
 
 returns : tie.Need-returns Inv-loop μ-loop
-returns c = answer-no (λ h. let e = h (c .before .before .before .loop .i) in let v = c .before .wide .ensures in omega (arith, e, v))
+returns c = answer-no (λ h. let e = h (c .before .before .before .before .loop .i) in let v = c .before .wide .ensures in omega (arith, e, v))
 
 add-i : tie.Need-add-i Inv-loop μ-loop
 add-i c = search needs
@@ -38,10 +38,10 @@ loop-less : tie.Need-loop-less Inv-loop μ-loop
 loop-less c = omega arith
 
 loop-again : tie.Need-loop-again Inv-loop μ-loop
-loop-again c = let v = c .before .wide .ensures in (omega arith, below-more _ _ (c .before .before .before .loop .inv .1) (omega (arith, v)))
+loop-again c = let v = c .before .wide .ensures in (omega arith, below-more _ _ (c .before .before .before .before .loop .inv .1) (omega (arith, v)))
 
 returns-2 : tie.Need-returns-2 Inv-loop μ-loop
-returns-2 c = answer-yes (below-end _ _ (c .before .loop .i) (c .before .before .before .pre) (c .before .loop .inv .1) (omega arith))
+returns-2 c = answer-yes (below-end _ (c .before .before .before .args .rows .now) (c .before .loop .i) (c .before .before .before .pre) (c .before .loop .inv .1) (omega arith))
 
 pub below-spec : {M : Type 1} → statement M
 below-spec = tie.close (tie.spec Inv-loop μ-loop loop-holds mul-wide shared-slice-read-wide wide-requires returns add-i loop-less loop-again returns-2)
