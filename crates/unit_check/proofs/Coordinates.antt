@@ -2,7 +2,7 @@
 --   back                              an array after its front was lent and given back
 --   back-length, back-front           it is as long, and the front is what was given back
 --   pair-asks, times-asks, sum-asks   what the products ask
---   pair-end, sum-room, sum-end, sum-some   there is room in the arrays
+--   pair-end, times-end, sum-room, sum-end, sum-some   there is room in the arrays
 --   coordinate-gives                  the answer
 use mathlib.Core.Path.{_≡_, sym, ap, ap₂, _∙_, subst}
 use mathlib.Core.Bool.{Bool}
@@ -54,13 +54,19 @@ module _ {p c : ℕ} {x y z w u m n v : List ℕ} {k : ℕ} (t : CoordinateAsks 
   pub sum-room : (l : List ℕ) → length l ≡ 8224 → c + c + 32 ≤ length l
   sum-room l e = let o = most in omega arith
 
-  pub pair-end : (l q : List ℕ) → length l ≡ 8192 → length q ≡ length (between 0 (c + c) l) → c + c ≤ length (back (c + c) l q)
-  pair-end l q e s = let o = pair-room l e in let h : length (back (c + c) l q) ≡ length l = back-length (c + c) l q o s in omega arith
+  end : (l q : List ℕ) → length l ≡ 8192 → length q ≡ length (between 0 (c + c) l) → c + c ≤ length (back (c + c) l q)
+  end l q e s = let o = pair-room l e in let h : length (back (c + c) l q) ≡ length l = back-length (c + c) l q o s in omega arith
 
-  pub sum-end : (l q : List ℕ) → length l ≡ 8224 → length q ≡ length (between 0 (c + c + 32) l) → c + c + 32 ≤ length (back (c + c + 32) l q)
-  sum-end l q e s = let o = sum-room l e in let h : length (back (c + c + 32) l q) ≡ length l = back-length (c + c + 32) l q o s in omega arith
+  pub pair-end : (l q : List ℕ) → length l ≡ 8192 → Mixed p x y z w (between 0 (c + c) l) q → c + c ≤ length (back (c + c) l q)
+  pair-end l q e s = end l q e (s .size)
 
-  pub sum-some : (l q : List ℕ) → length l ≡ 8224 → length q ≡ length (between 0 (c + c + 32) l) → 0 < length (between 0 (c + c + 32) (back (c + c + 32) l q))
+  pub times-end : (l q : List ℕ) → length l ≡ 8192 → Times p m n (between 0 (c + c) l) q → c + c ≤ length (back (c + c) l q)
+  times-end l q e s = end l q e (s .size)
+
+  pub sum-end : {a b : List ℕ} (l q : List ℕ) → length l ≡ 8224 → Mixed p u a v b (between 0 (c + c + 32) l) q → c + c + 32 ≤ length (back (c + c + 32) l q)
+  sum-end l q e s = let o = sum-room l e in let h : length (back (c + c + 32) l q) ≡ length l = back-length (c + c + 32) l q o (s .size) in omega arith
+
+  pub sum-some : {a b : List ℕ} (l q : List ℕ) → length l ≡ 8224 → Mixed p u a v b (between 0 (c + c + 32) l) q → 0 < length (between 0 (c + c + 32) (back (c + c + 32) l q))
   sum-some l q e s = let h : length (between 0 (c + c + 32) (back (c + c + 32) l q)) ≡ c + c + 32 = front-length (c + c + 32) (back (c + c + 32) l q) (sum-end l q e s) in omega arith
 
   -- ---- what is asked

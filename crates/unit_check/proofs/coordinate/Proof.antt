@@ -1,6 +1,7 @@
 -- `unit_check::coordinate` meets its contract.
 use mathlib.Core.Path.{refl}
-use Rattle.unit_check.proofs.Coordinates.{times-asks, pair-end, sum-room, sum-asks, sum-end, sum-some, coordinate-gives}
+use lib.ListN.{replicate}
+use Rattle.unit_check.proofs.Coordinates.{times-asks, pair-end, times-end, sum-room, sum-asks, sum-end, sum-some, coordinate-gives}
 use borrow.Author.Needs.{needs}
 use Rattle.unit_check.proofs.coordinate.Statement.{statement}
 use Rattle.unit_check.proofs.coordinate.Tie as tie
@@ -56,7 +57,7 @@ part-mix-start : tie.Need-part-mix-start
 part-mix-start c = search needs
 
 part-mix-end : tie.Need-part-mix-end
-part-mix-end c = pair-end (c .before .before .before .before .before .before .before .before .before .before .before .before .before .before .before .pre) _ _ refl (c .before .before .before .before .before .mix .ensures .size)
+part-mix-end c = pair-end (c .before .before .before .before .before .before .before .before .before .before .before .before .before .before .before .pre) _ _ refl (c .before .before .before .before .before .mix .ensures)
 
 mul-mix-2 : tie.Need-mul-mix-2
 mul-mix-2 c = search needs
@@ -68,7 +69,7 @@ part-mix-start-2 : tie.Need-part-mix-start-2
 part-mix-start-2 c = search needs
 
 part-mix-end-2 : tie.Need-part-mix-end-2
-part-mix-end-2 c = pair-end (c .before .before .before .before .before .before .before .before .before .before .before .before .before .before .before .before .before .pre) _ _ refl (c .before .before .before .before .times .ensures .size)
+part-mix-end-2 c = times-end (c .before .before .before .before .before .before .before .before .before .before .before .before .before .before .before .before .before .pre) _ _ refl (c .before .before .before .before .times .ensures)
 
 mul-d : tie.Need-mul-d
 mul-d c = search needs
@@ -80,7 +81,7 @@ part-d-start : tie.Need-part-d-start
 part-d-start c = search needs
 
 part-d-end : tie.Need-part-d-end
-part-d-end c = sum-room (c .before .before .before .before .before .before .before .before .before .before .before .before .before .before .before .before .before .before .pre) _ refl
+part-d-end c = sum-room (c .before .before .before .before .before .before .before .before .before .before .before .before .before .before .before .before .before .before .pre) (replicate 8224 0) refl
 
 mix-requires-2 : tie.Need-mix-requires-2
 mix-requires-2 c κs = sum-asks (c .before .before .before .before .before .before .before .before .before .before .before .before .before .before .before .before .before .before .before .pre) _ refl
@@ -95,10 +96,10 @@ part-constant-start : tie.Need-part-constant-start
 part-constant-start c = search needs
 
 part-constant-end : tie.Need-part-constant-end
-part-constant-end c = sum-end (c .before .before .before .before .before .before .before .before .before .before .before .before .before .before .before .before .before .before .before .before .before .before .pre) _ _ refl (c .before .before .mix2 .ensures .size)
+part-constant-end c = sum-end (c .before .before .before .before .before .before .before .before .before .before .before .before .before .before .before .before .before .before .before .before .before .before .pre) _ _ refl (c .before .before .mix2 .ensures)
 
 constant-requires : tie.Need-constant-requires
-constant-requires c κs = sum-some (c .before .before .before .before .before .before .before .before .before .before .before .before .before .before .before .before .before .before .before .before .before .before .before .pre) _ _ refl (c .before .before .before .mix2 .ensures .size)
+constant-requires c κs = sum-some (c .before .before .before .before .before .before .before .before .before .before .before .before .before .before .before .before .before .before .before .before .before .before .before .pre) _ _ refl (c .before .before .before .mix2 .ensures)
 
 returns : tie.Need-returns
 returns c =
