@@ -5,7 +5,7 @@
 use mathlib.Core.Path.{_≡_, sym, ap, ap₂, _∙_, subst}
 use mathlib.Core.Bool.{Bool, true, false}
 use mathlib.Core.List.{List}
-use Prim.Native.Nat.{ℕ, _+_, _*_, _-_, _<_, _≤_}
+use Prim.Native.Nat.{ℕ, _+_, _*_, _-_, _≤_}
 use native.Mathlib.Omega.{arith}
 use lib.ListN.{length}
 use Rattle.base_answers.specs.Decides.{Decides}
@@ -14,11 +14,10 @@ use Rattle.base_lists.specs.Pieces.{cut, between}
 use Rattle.base_lists.proofs.Pieces.{between-cut}
 use Rattle.base_lists.proofs.Trims.{sized}
 use Rattle.math_triple.specs.Tri.{mulT}
-use Rattle.math_fp.specs.Fp.{Prime}
 use Rattle.math_valued.proofs.Polynomial.{P-path}
 use Rattle.math_rows.specs.Made.{reading}
-use Rattle.math_rows.specs.Row.{Size, row}
-use Rattle.math_ideals.specs.Element.{O, val}
+use Rattle.math_rows.specs.Row.{row}
+use Rattle.math_ideals.specs.Element.{val}
 use Rattle.math_ideals.proofs.Sizes.{O-path}
 use Rattle.field_open.specs.Refusal.{Accepted}
 use Rattle.field_open.proofs.Accept.{with-prime}
@@ -28,7 +27,7 @@ use Rattle.basis_record.specs.Record.{setting}
 use Rattle.basis_field.proofs.Keeps as keeps
 use Rattle.basis_lattice.proofs.Members.{carried}
 use Rattle.unit_inverse.specs.Inverse.{element}
-use Rattle.unit_finish.specs.Rows.{six, HoldsUnit}
+use Rattle.unit_finish.specs.Rows.{six}
 use Rattle.unit_finish.proofs.Rows.{cut-below}
 use Rattle.unit_finish.proofs.Stored.{storable}
 use Rattle.unit_check.specs.Check.{IsUnitAsks, IsUnitGives}
@@ -73,7 +72,7 @@ module _ (f : OpenedField) (c : ℕ) (rows g h gh : List ℕ) (eg : g ≡ f .fie
       (w (A .prime))
 
 -- ---- the three tests
-module _ (f : OpenedField) (c : ℕ) (rows : List ℕ) (i : IsUnitAsks f c rows) where
+module _ {f : OpenedField} {c : ℕ} {rows : List ℕ} (i : IsUnitAsks f c rows) where
   pub unit-small : {r : Bool} → Decides r (Below (f .field .p) rows) → r ≡ false → IsUnitGives f c rows false
   unit-small d e G H k = answer-no (λ u. d .no! e (u .each))
 
@@ -105,12 +104,12 @@ module _ (f : OpenedField) (c : ℕ) (rows : List ℕ) (i : IsUnitAsks f c rows)
             (size-length ρ y (cut-below (c + c + c) c rows each) sb) u t;
       })
       (λ u.
-          let A = k .accepted in
-          let ρ = reading (f .field .p) (A .prime) in
-          let z = u .unit A in
-          let (a, sa) = sized x in
-          let (b, sb) = sized y in
-          let (v, t) = positive-longer (setting A) (six A c 0 rows) (six A c (c + c + c) rows) (z .inverse) (size-length ρ x (cut-below 0 c rows each) sa)
-          (size-length ρ y (cut-below (c + c + c) c rows each) sb) (z .has) (z .positive) in
-          to-longer sa sb v t)
+      let A = k .accepted in
+      let ρ = reading (f .field .p) (A .prime) in
+      let z = u .unit A in
+      let (a, sa) = sized x in
+      let (b, sb) = sized y in
+      let (v, t) = positive-longer (setting A) (six A c 0 rows) (six A c (c + c + c) rows) (z .inverse) (size-length ρ x (cut-below 0 c rows each) sa)
+      (size-length ρ y (cut-below (c + c + c) c rows each) sb) (z .has) (z .positive) in
+      to-longer sa sb v t)
       l′

@@ -4,8 +4,7 @@
 --   size-length    the length without the zeros at the end is the polynomial's
 --   constant-is, is-constant   a list is k and zeros after it exactly where it stands for the constant k
 --   constant-at    so where nothing stands from place 1 on, and k at place 0
-use mathlib.Core.Path.{_≡_, sym, ap, _∙_, subst}
-use mathlib.Core.Logic.{_≢_}
+use mathlib.Core.Path.{_≡_, sym, ap, _∙_}
 use mathlib.Core.List.{List, [], _∷_}
 use Prim.Native.Nat.{ℕ, zero, suc, _-_, _<_, _≤_}
 use native.Mathlib.Omega.{arith}

@@ -3,7 +3,7 @@
 --   positive-longer   of a unit of positive degree
 --   longer-positive   and back
 use mathlib.Core.Path.{_≡_, sym, ap}
-use Prim.Native.Nat.{ℕ, suc, _+_, _-_, _<_, _≤_}
+use Prim.Native.Nat.{ℕ, suc, _-_, _<_, _≤_}
 use native.Mathlib.Omega.{arith}
 use native.Mathlib.Decide.{decLt}
 use Rattle.math_valued.specs.Val.{Valued}

@@ -2,7 +2,7 @@
 --   first-asks, second-asks, third-asks   what the coordinates ask
 --   product-first, product-second         the answer where the first or the second coordinate is wrong
 --   product-third                         and where the third decides
-use mathlib.Core.Path.{_≡_, sym, ap, ap₂, _∙_, subst}
+use mathlib.Core.Path.{_≡_, sym, ap, ap₂, _∙_}
 use mathlib.Core.Bool.{Bool, true, false}
 use mathlib.Core.List.{List, [], _∷_}
 use Prim.Native.Nat.{ℕ, _+_, _*_, _-_, _<_, _≤_}
@@ -87,7 +87,7 @@ module _ {p : ℕ} (ρ : Reading p) (g h gh e0 e1 e2 f0 f1 f2 : List ℕ) (gh-is
   three x y z = tri-path (sym first-is ∙ x ∙ const-one) (sym second-is ∙ y ∙ const-none) (sym third-is ∙ z ∙ const-none)
 
 -- ---- over the parts of the slice
-module _ (p c : ℕ) (g h gh rows : List ℕ) (t : ProductAsks p c g h gh rows) where
+module _ {p c : ℕ} {g h gh rows : List ℕ} (t : ProductAsks p c g h gh rows) where
   abbrev e0 : List ℕ
   e0 = between 0 c rows
 

@@ -13,7 +13,6 @@ use lib.ListN.{length, getD}
 use Rattle.base_answers.specs.Decides.{Decides}
 use Rattle.base_answers.specs.Limits.{longest}
 use Rattle.base_lists.specs.Coefficients.{trim}
-use Rattle.math_ring.specs.Ring.{Ops}
 use Rattle.math_triple.specs.Tri.{mulT}
 use Rattle.math_triple.specs.Order.{triops}
 use Rattle.math_fp.specs.Fp.{Prime}

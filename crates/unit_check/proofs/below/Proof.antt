@@ -1,5 +1,4 @@
 -- `unit_check::below` meets its contract: the invariant is that the numbers passed are below p.
-use mathlib.Core.Path.{_≡_}
 use Prim.Native.Nat.{ℕ, _-_, _≤_, _<_}
 use lib.ListN.{length, getD}
 use borrow.Author.Count.{below-more}

@@ -5,9 +5,6 @@ use Rattle.unit_check.proofs.Lists.{constant-at, constant-not}
 use borrow.Author.Needs.{needs}
 use Rattle.unit_check.proofs.constant.Statement.{statement}
 use Rattle.unit_check.proofs.constant.Tie as tie
-use Rattle.unit_check.proofs.constant.Reads as reads
-use Rattle.unit_check.proofs.constant.Lts as lts
-use Rattle.poly_long.proofs.size.Reads as size-reads
 
 size-requires : tie.Need-size-requires
 size-requires c κs = search needs

@@ -1,15 +1,10 @@
 -- `unit_check::coordinate` meets its contract.
 use mathlib.Core.Path.{refl}
 use lib.ListN.{replicate}
-use Rattle.unit_check.proofs.Coordinates.{times-asks, pair-end, times-end, sum-room, sum-asks, sum-end, sum-some, coordinate-gives}
+use Rattle.unit_check.proofs.Coordinates.{pair-asks, times-asks, pair-end, times-end, sum-room, sum-asks, sum-end, sum-some, coordinate-gives}
 use borrow.Author.Needs.{needs}
 use Rattle.unit_check.proofs.coordinate.Statement.{statement}
 use Rattle.unit_check.proofs.coordinate.Tie as tie
-use Rattle.unit_check.proofs.coordinate.Reads as reads
-use Rattle.unit_check.proofs.coordinate.Lts as lts
-use Rattle.poly_mix.proofs.mix.Reads as mix-reads
-use Rattle.poly_products.proofs.times.Reads as times-reads
-use Rattle.unit_check.proofs.constant.Reads as constant-reads
 
 add-j : tie.Need-add-j
 add-j c = search needs
@@ -30,7 +25,7 @@ part-a-end : tie.Need-part-a-end
 part-a-end c = search needs
 
 mix-requires : tie.Need-mix-requires
-mix-requires c κs = search needs
+mix-requires c κs = pair-asks (c .before .before .before .before .before .before .before .before .before .pre) _ refl
 
 mul-b : tie.Need-mul-b
 mul-b c = search needs
@@ -45,7 +40,9 @@ part-b-end : tie.Need-part-b-end
 part-b-end c = search needs
 
 times-requires : tie.Need-times-requires
-times-requires c κs = times-asks (c .before .before .before .before .before .before .before .before .before .before .before .before .pre) _ refl
+times-requires c κs =
+    let at12 = c .before .before .before .before .before .before .before .before .before .before .before .before in
+    times-asks (at12 .pre) _ refl
 
 mul-mix : tie.Need-mul-mix
 mul-mix c = search needs
@@ -57,7 +54,10 @@ part-mix-start : tie.Need-part-mix-start
 part-mix-start c = search needs
 
 part-mix-end : tie.Need-part-mix-end
-part-mix-end c = pair-end (c .before .before .before .before .before .before .before .before .before .before .before .before .before .before .before .pre) _ _ refl (c .before .before .before .before .before .mix .ensures)
+part-mix-end c =
+    let at5 = c .before .before .before .before .before in
+    let at15 = at5 .before .before .before .before .before .before .before .before .before .before in
+    pair-end (at15 .pre) _ _ refl (at5 .mix .ensures)
 
 mul-mix-2 : tie.Need-mul-mix-2
 mul-mix-2 c = search needs
@@ -69,7 +69,10 @@ part-mix-start-2 : tie.Need-part-mix-start-2
 part-mix-start-2 c = search needs
 
 part-mix-end-2 : tie.Need-part-mix-end-2
-part-mix-end-2 c = times-end (c .before .before .before .before .before .before .before .before .before .before .before .before .before .before .before .before .before .pre) _ _ refl (c .before .before .before .before .times .ensures)
+part-mix-end-2 c =
+    let at4 = c .before .before .before .before in
+    let at17 = at4 .before .before .before .before .before .before .before .before .before .before .before .before .before in
+    times-end (at17 .pre) _ _ refl (at4 .times .ensures)
 
 mul-d : tie.Need-mul-d
 mul-d c = search needs
@@ -81,10 +84,14 @@ part-d-start : tie.Need-part-d-start
 part-d-start c = search needs
 
 part-d-end : tie.Need-part-d-end
-part-d-end c = sum-room (c .before .before .before .before .before .before .before .before .before .before .before .before .before .before .before .before .before .before .pre) (replicate 8224 0) refl
+part-d-end c =
+    let at18 = c .before .before .before .before .before .before .before .before .before .before .before .before .before .before .before .before .before .before in
+    sum-room (at18 .pre) (replicate 8224 0) refl
 
 mix-requires-2 : tie.Need-mix-requires-2
-mix-requires-2 c κs = sum-asks (c .before .before .before .before .before .before .before .before .before .before .before .before .before .before .before .before .before .before .before .pre) _ refl
+mix-requires-2 c κs =
+    let at19 = c .before .before .before .before .before .before .before .before .before .before .before .before .before .before .before .before .before .before .before in
+    sum-asks (at19 .pre) _ refl
 
 mul-constant : tie.Need-mul-constant
 mul-constant c = search needs
@@ -96,14 +103,24 @@ part-constant-start : tie.Need-part-constant-start
 part-constant-start c = search needs
 
 part-constant-end : tie.Need-part-constant-end
-part-constant-end c = sum-end (c .before .before .before .before .before .before .before .before .before .before .before .before .before .before .before .before .before .before .before .before .before .before .pre) _ _ refl (c .before .before .mix2 .ensures)
+part-constant-end c =
+    let at2 = c .before .before in
+    let at22 = at2 .before .before .before .before .before .before .before .before .before .before .before .before .before .before .before .before .before .before .before .before in
+    sum-end (at22 .pre) _ _ refl (at2 .mix2 .ensures)
 
 constant-requires : tie.Need-constant-requires
-constant-requires c κs = sum-some (c .before .before .before .before .before .before .before .before .before .before .before .before .before .before .before .before .before .before .before .before .before .before .before .pre) _ _ refl (c .before .before .before .mix2 .ensures)
+constant-requires c κs =
+    let at3 = c .before .before .before in
+    let at23 = at3 .before .before .before .before .before .before .before .before .before .before .before .before .before .before .before .before .before .before .before .before in
+    sum-some (at23 .pre) _ _ refl (at3 .mix2 .ensures)
 
 returns : tie.Need-returns
 returns c =
-    coordinate-gives (c .before .before .before .before .before .before .before .before .before .before .before .before .before .before .before .before .before .before .before .before .before .before .before .before .pre) _ _ _ _ _ _ _ refl refl refl (c .before .before .before .before .before .before .before .before .before .before .before .before .before .before .mix .ensures) (c .before .before .before .before .before .before .before .before .before .before .before .times .ensures) (c .before .before .before .before .mix2 .ensures) (c .constant .ensures)
+    let at4 = c .before .before .before .before in
+    let at11 = at4 .before .before .before .before .before .before .before in
+    let at14 = at11 .before .before .before in
+    let at24 = at14 .before .before .before .before .before .before .before .before .before .before in
+    coordinate-gives (at24 .pre) _ _ _ _ _ _ _ refl refl refl (at14 .mix .ensures) (at11 .times .ensures) (at4 .mix2 .ensures) (c .constant .ensures)
 
 pub coordinate-spec : {M : Type 1} → statement M
 coordinate-spec =

@@ -4,19 +4,21 @@ use Rattle.unit_check.proofs.Answer.{product-in, inverse-gives}
 use borrow.Author.Needs.{needs}
 use Rattle.unit_check.proofs.is_inverse.Statement.{statement}
 use Rattle.unit_check.proofs.is_inverse.Tie as tie
-use Rattle.unit_check.proofs.is_inverse.Reads as reads
-use Rattle.unit_check.proofs.is_inverse.Lts as lts
-use Rattle.poly_long.proofs.to_stored.Reads as to-stored-reads
-use Rattle.unit_check.proofs.product_is_one.Reads as product-is-one-reads
 
 to-stored-requires : tie.Need-to-stored-requires
-to-stored-requires c κs = stored-g (c .before .before .before .before .before .before .pre .known .kept)
+to-stored-requires c κs =
+    let at6 = c .before .before .before .before .before .before in
+    stored-g (at6 .pre .known .kept)
 
 to-stored-requires-2 : tie.Need-to-stored-requires-2
-to-stored-requires-2 c κs = stored-h (c .before .before .before .before .before .before .before .before .pre .known .kept)
+to-stored-requires-2 c κs =
+    let at8 = c .before .before .before .before .before .before .before .before in
+    stored-h (at8 .pre .known .kept)
 
 to-stored-requires-3 : tie.Need-to-stored-requires-3
-to-stored-requires-3 c κs = stored-gh (c .before .before .before .before .before .before .before .before .before .before .pre .known .kept)
+to-stored-requires-3 c κs =
+    let at10 = c .before .before .before .before .before .before .before .before .before .before in
+    stored-gh (at10 .pre .known .kept)
 
 slice-aggregate-product-is-one : tie.Need-slice-aggregate-product-is-one
 slice-aggregate-product-is-one c = search needs
@@ -29,15 +31,21 @@ slice-aggregate-product-is-one-3 c = search needs
 
 product-is-one-requires : tie.Need-product-is-one-requires
 product-is-one-requires c κs =
-    let s = c .before .before .before .before .before .before .before .before .before .before .before .before .before .before in
-    let a = s .args in
-    product-in (a .f) (a .c) (a .rows .now) _ _ _ (c .before .before .before .before .before .before .before .to-stored .ensures) (c .before .before .before .before .before .to-stored2 .ensures) (c .before .before .before .to-stored3 .ensures) (s .pre)
+    let at3 = c .before .before .before in
+    let at5 = at3 .before .before in
+    let at7 = at5 .before .before in
+    let at14 = at7 .before .before .before .before .before .before .before in
+    let a = at14 .args in
+    product-in (a .f) (a .c) (a .rows .now) _ _ _ (at7 .to-stored .ensures) (at5 .to-stored2 .ensures) (at3 .to-stored3 .ensures) (at14 .pre)
 
 returns : tie.Need-returns
 returns c =
-    let s = c .before .before .before .before .before .before .before .before .before .before .before .before .before .before .before in
-    let a = s .args in
-    inverse-gives (a .f) (a .c) (a .rows .now) _ _ _ (c .before .before .before .before .before .before .before .before .to-stored .ensures) (c .before .before .before .before .before .before .to-stored2 .ensures) (c .before .before .before .before .to-stored3 .ensures) _ (c .product-is-one .ensures)
+    let at4 = c .before .before .before .before in
+    let at6 = at4 .before .before in
+    let at8 = at6 .before .before in
+    let at15 = at8 .before .before .before .before .before .before .before in
+    let a = at15 .args in
+    inverse-gives (a .f) (a .c) (a .rows .now) _ _ _ (at8 .to-stored .ensures) (at6 .to-stored2 .ensures) (at4 .to-stored3 .ensures) _ (c .product-is-one .ensures)
 
 pub is-inverse-spec : {M : Type 1} → statement M
 is-inverse-spec =

@@ -4,29 +4,22 @@ use Rattle.unit_check.proofs.Answer.{unit-small, unit-inverse, unit-lon
 use borrow.Author.Needs.{needs}
 use Rattle.unit_check.proofs.is_unit.Statement.{statement}
 use Rattle.unit_check.proofs.is_unit.Tie as tie
-use Rattle.unit_check.proofs.is_unit.Reads as reads
-use Rattle.unit_check.proofs.is_unit.Lts as lts
-use Rattle.unit_check.proofs.below.Reads as below-reads
-use Rattle.unit_check.proofs.is_inverse.Reads as is-inverse-reads
-use Rattle.unit_check.proofs.longer.Reads as longer-reads
 
 below-requires : tie.Need-below-requires
 below-requires c κs = search needs
 
 returns : tie.Need-returns
 returns c =
-    let s = c .before .before .before .before in
-    let a = s .args in
-    unit-small (a .f) (a .c) (a .rows .now) (s .pre) (c .before .below .ensures) (not-true _ (c .if1 .taken))
+    let at4 = c .before .before .before .before in
+    unit-small (at4 .pre) (c .before .below .ensures) (not-true _ (c .if1 .taken))
 
 is-inverse-requires : tie.Need-is-inverse-requires
 is-inverse-requires c κs = search needs
 
 returns-2 : tie.Need-returns-2
 returns-2 c =
-    let s = c .before .before .before .before .before .before in
-    let a = s .args in
-    unit-inverse (a .f) (a .c) (a .rows .now) (s .pre) (c .before .is-inverse .ensures) (not-true _ (c .if2 .taken))
+    let at6 = c .before .before .before .before .before .before in
+    unit-inverse (at6 .pre) (c .before .is-inverse .ensures) (not-true _ (c .if2 .taken))
 
 add-c3 : tie.Need-add-c3
 add-c3 c = search needs
@@ -66,9 +59,12 @@ longer-requires c κs = search needs
 
 returns-3 : tie.Need-returns-3
 returns-3 c =
-    let s = c .before .before .before .before .before .before .before .before .before in
-    let a = s .args in
-    unit-longer (a .f) (a .c) (a .rows .now) (s .pre) (c .before .before .before .before .before .before .below .ensures) (not-false _ (c .before .before .before .before .before .if1 .left)) (c .before .before .before .before .is-inverse .ensures) (not-false _ (c .before .before .before .if2 .left)) (c .longer .ensures)
+    let at3 = c .before .before .before in
+    let at4 = at3 .before in
+    let at5 = at4 .before in
+    let at6 = at5 .before in
+    let at9 = at6 .before .before .before in
+    unit-longer (at9 .pre) (at6 .below .ensures) (not-false _ (at5 .if1 .left)) (at4 .is-inverse .ensures) (not-false _ (at3 .if2 .left)) (c .longer .ensures)
 
 pub is-unit-spec : {M : Type 1} → statement M
 is-unit-spec =

@@ -5,9 +5,6 @@ use Rattle.unit_check.proofs.Lists.{to-longer, of-longer}
 use borrow.Author.Needs.{needs}
 use Rattle.unit_check.proofs.longer.Statement.{statement}
 use Rattle.unit_check.proofs.longer.Tie as tie
-use Rattle.unit_check.proofs.longer.Reads as reads
-use Rattle.unit_check.proofs.longer.Lts as lts
-use Rattle.poly_long.proofs.size.Reads as size-reads
 
 size-requires : tie.Need-size-requires
 size-requires c κs = search needs

@@ -4,9 +4,6 @@ use Rattle.unit_check.proofs.Product.{first-asks, second-asks, third-as
 use borrow.Author.Needs.{needs}
 use Rattle.unit_check.proofs.product_is_one.Statement.{statement}
 use Rattle.unit_check.proofs.product_is_one.Tie as tie
-use Rattle.unit_check.proofs.product_is_one.Reads as reads
-use Rattle.unit_check.proofs.product_is_one.Lts as lts
-use Rattle.unit_check.proofs.coordinate.Reads as coordinate-reads
 
 add-c2 : tie.Need-add-c2
 add-c2 c = search needs
@@ -100,45 +97,43 @@ slice-aggregate-coordinate c = search needs
 
 coordinate-requires : tie.Need-coordinate-requires
 coordinate-requires c κs =
-    let s = c .before .before .before .before .before .before .before .before .before .before .before in
-    let a = s .args in
-    first-asks (a .p) (a .c) (a .g .now) (a .h .now) (a .gh .now) (a .rows .now) (s .pre)
+    let at11 = c .before .before .before .before .before .before .before .before .before .before .before in
+    first-asks (at11 .pre)
 
 returns : tie.Need-returns
 returns c =
-    let s = c .before .before .before .before .before .before .before .before .before .before .before .before .before in
-    let a = s .args in
-    product-first (a .p) (a .c) (a .g .now) (a .h .now) (a .gh .now) (a .rows .now) (s .pre) (c .before .coordinate .ensures) (not-true _ (c .if1 .taken))
+    let at13 = c .before .before .before .before .before .before .before .before .before .before .before .before .before in
+    product-first (at13 .pre) (c .before .coordinate .ensures) (not-true _ (c .if1 .taken))
 
 slice-aggregate-coordinate-2 : tie.Need-slice-aggregate-coordinate-2
 slice-aggregate-coordinate-2 c = search needs
 
 coordinate-requires-2 : tie.Need-coordinate-requires-2
 coordinate-requires-2 c κs =
-    let s = c .before .before .before .before .before .before .before .before .before .before .before .before .before .before in
-    let a = s .args in
-    second-asks (a .p) (a .c) (a .g .now) (a .h .now) (a .gh .now) (a .rows .now) (s .pre)
+    let at14 = c .before .before .before .before .before .before .before .before .before .before .before .before .before .before in
+    second-asks (at14 .pre)
 
 returns-2 : tie.Need-returns-2
 returns-2 c =
-    let s = c .before .before .before .before .before .before .before .before .before .before .before .before .before .before .before .before in
-    let a = s .args in
-    product-second (a .p) (a .c) (a .g .now) (a .h .now) (a .gh .now) (a .rows .now) (s .pre) (c .before .coordinate2 .ensures) (not-true _ (c .if2 .taken))
+    let at16 = c .before .before .before .before .before .before .before .before .before .before .before .before .before .before .before .before in
+    product-second (at16 .pre) (c .before .coordinate2 .ensures) (not-true _ (c .if2 .taken))
 
 slice-aggregate-coordinate-3 : tie.Need-slice-aggregate-coordinate-3
 slice-aggregate-coordinate-3 c = search needs
 
 coordinate-requires-3 : tie.Need-coordinate-requires-3
 coordinate-requires-3 c κs =
-    let s = c .before .before .before .before .before .before .before .before .before .before .before .before .before .before .before .before .before in
-    let a = s .args in
-    third-asks (a .p) (a .c) (a .g .now) (a .h .now) (a .gh .now) (a .rows .now) (s .pre)
+    let at17 = c .before .before .before .before .before .before .before .before .before .before .before .before .before .before .before .before .before in
+    third-asks (at17 .pre)
 
 returns-3 : tie.Need-returns-3
 returns-3 c =
-    let s = c .before .before .before .before .before .before .before .before .before .before .before .before .before .before .before .before .before .before in
-    let a = s .args in
-    product-third (a .p) (a .c) (a .g .now) (a .h .now) (a .gh .now) (a .rows .now) (s .pre) (c .before .before .before .before .before .before .coordinate .ensures) (not-false _ (c .before .before .before .before .before .if1 .left)) (c .before .before .before .coordinate2 .ensures) (not-false _ (c .before .before .if2 .left)) (c .coordinate3 .ensures)
+    let at2 = c .before .before in
+    let at3 = at2 .before in
+    let at5 = at3 .before .before in
+    let at6 = at5 .before in
+    let at18 = at6 .before .before .before .before .before .before .before .before .before .before .before .before in
+    product-third (at18 .pre) (at6 .coordinate .ensures) (not-false _ (at5 .if1 .left)) (at3 .coordinate2 .ensures) (not-false _ (at2 .if2 .left)) (c .coordinate3 .ensures)
 
 pub product-is-one-spec : {M : Type 1} → statement M
 product-is-one-spec =
