@@ -1,0 +1,115 @@
+-- From the opened field to the answer.
+--   product-in        what `product_is_one` asks
+--   inverse-gives     its answer, in the order of the field
+--   unit-small, unit-inverse, unit-longer   the answer of `is_unit`, where the first, the second, the third test decides
+use mathlib.Core.Path.{_≡_, sym, ap, ap₂, _∙_, subst}
+use mathlib.Core.Bool.{Bool, true, false}
+use mathlib.Core.List.{List}
+use Prim.Native.Nat.{ℕ, _+_, _*_, _-_, _≤_}
+use native.Mathlib.Omega.{arith}
+use lib.ListN.{length}
+use Rattle.base_answers.specs.Decides.{Decides}
+use Rattle.base_answers.proofs.Tests.{answer-no}
+use Rattle.base_lists.specs.Pieces.{cut, between}
+use Rattle.base_lists.proofs.Pieces.{between-cut}
+use Rattle.base_lists.proofs.Trims.{sized}
+use Rattle.math_triple.specs.Tri.{mulT}
+use Rattle.math_valued.proofs.Polynomial.{P-path}
+use Rattle.math_rows.specs.Made.{reading}
+use Rattle.math_rows.specs.Row.{row}
+use Rattle.math_ideals.specs.Element.{val}
+use Rattle.math_ideals.proofs.Sizes.{O-path}
+use Rattle.field_open.specs.Refusal.{Accepted}
+use Rattle.field_open.proofs.Accept.{with-prime}
+use Rattle.field_series.specs.Keeps.{Kept}
+use Rattle.field_series.specs.declared.OpenedField.{OpenedField}
+use Rattle.basis_record.specs.Record.{setting}
+use Rattle.basis_field.proofs.Keeps as keeps
+use Rattle.basis_lattice.proofs.Members.{carried}
+use Rattle.unit_inverse.specs.Inverse.{element}
+use Rattle.unit_finish.specs.Rows.{six}
+use Rattle.unit_finish.proofs.Rows.{cut-below}
+use Rattle.unit_finish.proofs.Stored.{storable}
+use Rattle.unit_check.specs.Check.{IsUnitAsks, IsUnitGives}
+use Rattle.unit_check.specs.Code.{Below, Longer, ProductAsks, ProductGives, IsInverseGives}
+use Rattle.unit_check.proofs.Positive.{positive-longer, longer-positive}
+use Rattle.unit_check.proofs.Lists.{to-longer, of-longer, size-length}
+
+module _ (f : OpenedField) (c : ℕ) (rows g h gh : List ℕ) (eg : g ≡ f .field .g) (eh : h ≡ f .field .h) (egh : gh ≡ f .field .gh) where
+  -- the rows of an opened field stand for G, H and G H
+  module _ {G H : List ℕ} (A : Accepted (f .field .p) G H) (k : Kept f G H) where
+    g-is : row (reading (f .field .p) (A .prime)) g ≡ row (reading (f .field .p) (A .prime)) G
+    g-is = ap (row (reading (f .field .p) (A .prime))) eg ∙ keeps.holds-of k A .g-is
+
+    h-is : row (reading (f .field .p) (A .prime)) h ≡ row (reading (f .field .p) (A .prime)) H
+    h-is = ap (row (reading (f .field .p) (A .prime))) eh ∙ keeps.holds-of k A .h-is
+
+    gh-is : let ρ = reading (f .field .p) (A .prime) in row ρ gh ≡ ρ .𝓥 .L .ops .mul (row ρ g) (row ρ h)
+    gh-is = let ρ = reading (f .field .p) (A .prime) in ap (row ρ) egh ∙ keeps.holds-of k A .gh-is ∙ sym (ap₂ (ρ .𝓥 .L .ops .mul) g-is h-is)
+
+  pub product-in : IsUnitAsks f c rows → ProductAsks (f .field .p) c g h gh rows
+  product-in i = record {
+    modulus = storable (i .known .kept .accepted);
+    most = i .most;
+    whole = i .whole;
+    g-most = (let o : length g ≡ 32 = ap length eg ∙ keeps.g-row (i .known .kept) .size in omega arith);
+    h-most = (let o : length h ≡ 32 = ap length eh ∙ keeps.h-row (i .known .kept) .size in omega arith);
+    gh-most = (let o : length gh ≡ 32 = ap length egh ∙ keeps.gh-row (i .known .kept) .size in omega arith);
+    gh-is = λ pr. gh-is (with-prime (i .known .kept .accepted) pr) (i .known .kept);
+  }
+
+  pub inverse-gives : (r : Bool) → ProductGives (f .field .p) c g h rows r → IsInverseGives f c rows r
+  inverse-gives r w G H A k =
+      let S = setting A in
+      let ρ = reading (f .field .p) (A .prime) in
+      let o = ρ .𝓥 .L .ops in
+      let E = element ρ 0 c rows in
+      let F = element ρ (c + c + c) c rows in
+      let same : mulT o (row ρ g) (row ρ h) E F ≡ mulT o (row ρ G) (row ρ H) E F = ap₂ (λ x y. mulT o x y E F) (g-is A k) (h-is A k) in
+      carried
+      (λ e. O-path S (P-path (S .𝓥) (ap (λ v. v .a) (sym same ∙ e))) (P-path (S .𝓥) (ap (λ v. v .b) (sym same ∙ e))) (P-path (S .𝓥) (ap (λ v. v .c) (sym same ∙ e))))
+      (λ e. same ∙ ap (val S) e)
+      (w (A .prime))
+
+-- ---- the three tests
+module _ {f : OpenedField} {c : ℕ} {rows : List ℕ} (i : IsUnitAsks f c rows) where
+  pub unit-small : {r : Bool} → Decides r (Below (f .field .p) rows) → r ≡ false → IsUnitGives f c rows false
+  unit-small d e G H k = answer-no (λ u. d .no! e (u .each))
+
+  pub unit-inverse : {r : Bool} → IsInverseGives f c rows r → r ≡ false → IsUnitGives f c rows false
+  unit-inverse d e G H k = answer-no (λ u. d G H (k .accepted) k .no! e (u .unit (k .accepted) .inverse))
+
+  part : (a b : ℕ) → b ≡ a + c → b ≤ 6 * c → between a b rows ≡ cut a c rows
+  part a b e u = between-cut a b rows (omega arith) (let w : length rows ≡ 6 * c = i .whole in omega arith) ∙ ap (λ k. cut a k rows) (let o : b - a ≡ c = omega arith in o)
+
+  pub unit-longer : {r s q : Bool} → Decides r (Below (f .field .p) rows) → r ≡ true → IsInverseGives f c rows s → s ≡ true
+      → Decides q (Longer (between 0 c rows) (between (c + c + c) (c + c + c + c) rows)) → IsUnitGives f c rows q
+  unit-longer {q = q} d e w v l G H k =
+      let each : Below (f .field .p) rows = d .yes! e in
+      let x : List ℕ = cut 0 c rows in
+      let y : List ℕ = cut (c + c + c) c rows in
+      let l′ : Decides q (Longer x y) =
+      subst (λ z. Decides q (Longer z y)) (part 0 c (omega arith) (omega arith))
+      (subst (λ z. Decides q (Longer (between 0 c rows) z)) (part (c + c + c) (c + c + c + c) (omega arith) (omega arith)) l) in
+      carried
+      (λ m. record {
+        whole = i .whole;
+        each = each;
+        unit = λ A.
+            let ρ = reading (f .field .p) (A .prime) in
+            let (a, sa) = sized x in
+            let (b, sb) = sized y in
+            let (u, t) = of-longer sa sb m in
+            longer-positive (setting A) (six A c 0 rows) (six A c (c + c + c) rows) (w G H A k .yes! v) (size-length ρ x (cut-below 0 c rows each) sa)
+            (size-length ρ y (cut-below (c + c + c) c rows each) sb) u t;
+      })
+      (λ u.
+      let A = k .accepted in
+      let ρ = reading (f .field .p) (A .prime) in
+      let z = u .unit A in
+      let (a, sa) = sized x in
+      let (b, sb) = sized y in
+      let (v, t) = positive-longer (setting A) (six A c 0 rows) (six A c (c + c + c) rows) (z .inverse) (size-length ρ x (cut-below 0 c rows each) sa)
+      (size-length ρ y (cut-below (c + c + c) c rows each) sb) (z .has) (z .positive) in
+      to-longer sa sb v t)
+      l′
