@@ -1,5 +1,5 @@
-/* The whole way in C: a field's order, walk, period, regulator and unit; its body; a book begun, added to, checked and attested; and the
-   parts of a body read back. Every buffer has a pattern before and behind it, which is looked at in the end.
+/* The whole way in C: a field's order, walk, period, regulator and unit, by both conventions; its body; a book begun, added to, checked and
+   attested; and the parts of a body read back. Every buffer has a pattern before and behind it, which is looked at in the end.
 
        cc -I include examples/whole_way.c target/staticlib/libcapi.a && ./a.out
 
@@ -118,6 +118,28 @@ static void shelve(field x) {
     if (said.at[ZAMINUK_SAID_NUMBER] == ZAMINUK_OK) length = (size_t)said.at[ZAMINUK_SAID_RESULT];
 }
 
+static void unit_rows(void) {
+    row("  E0", rows.at, 5);
+    row("  E1", rows.at + LENGTH, 5);
+    row("  E2", rows.at + 2 * LENGTH, 5);
+    row("  F1", rows.at + 4 * LENGTH, 5);
+}
+
+/* The unit scaled so that its norm is 1, and turned: E0 is monic then. Turned once more it is refused, since it is of norm 1 no longer. */
+static void of_norm_one(field x) {
+    zaminuk_period period;
+    zaminuk_regulator regulator;
+    uint32_t no = zaminuk_unit_scaled(x.p, x.g, x.gn, x.h, x.hn, 1000, ZAMINUK_NORM_ONE, rows.at, 6 * LENGTH, scratch.at, 6 * LENGTH,
+                                      &period, &regulator);
+    printf("unit of norm one: refusal %u period %u regulator %u\n", (unsigned)no, (unsigned)period.steps, (unsigned)regulator.half_degrees);
+    unit_rows();
+    no = zaminuk_rescale(x.p, x.g, x.gn, x.h, x.hn, ZAMINUK_NORM_ONE, ZAMINUK_E0_MONIC, rows.at, 6 * LENGTH);
+    printf("turned: refusal %u\n", (unsigned)no);
+    unit_rows();
+    no = zaminuk_rescale(x.p, x.g, x.gn, x.h, x.hn, ZAMINUK_NORM_ONE, ZAMINUK_E0_MONIC, rows.at, 6 * LENGTH);
+    printf("turned once more: refusal %u\n", (unsigned)no);
+}
+
 /* An entry of the book: its place, its parts, and whether it is attested. */
 static void show(size_t i) {
     size_t start, size, k, j, n;
@@ -162,6 +184,10 @@ static void nothing(field x) {
     printf(" %u", (unsigned)no);
     no = zaminuk_transfer(x.p, x.g, x.gn, x.h, x.hn, x.g, x.gn, x.h, x.hn, NULL, 0);
     printf(" %u bodies %u\n", (unsigned)no, (unsigned)zaminuk_book_bodies(NULL, 0));
+    no = zaminuk_unit_scaled(x.p, x.g, x.gn, x.h, x.hn, 1000, ZAMINUK_NORM_ONE, NULL, 0, NULL, 0, &period, &regulator);
+    printf("  of norm one: %u", (unsigned)no);
+    no = zaminuk_rescale(x.p, x.g, x.gn, x.h, x.hn, ZAMINUK_NORM_ONE, ZAMINUK_E0_MONIC, NULL, 0);
+    printf(" turned: %u\n", (unsigned)no);
     zaminuk_book_begin(NULL, 0, said.at);
     told("  begun");
     zaminuk_book_check(NULL, 0, said.at);
@@ -188,6 +214,7 @@ int main(void) {
     shelve(second);
     walk(first);
     shelve(first);
+    of_norm_one(first);
     again_in_other_words(first, other);
     zaminuk_book_check(book.at, length, said.at);
     told("checked");

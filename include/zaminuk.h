@@ -14,8 +14,8 @@
    body that zaminuk_book_add adds may not lie in the slice of the book, also not behind the book. Inputs may be the same or overlap. With
    length 0 a pointer is not followed and may be NULL; a pointer that has no length is never NULL. Nothing else is asked of the caller.
    Stack. No call allocates. What it needs of the stack, by the frames in the machine code of this version: zaminuk_book_attest 176 KiB;
-   zaminuk_book_write_rows 100 KiB; zaminuk_book_check, .._ask, .._add and zaminuk_body_.. 34 KiB; zaminuk_unit 18 KiB;
-   zaminuk_refusal 2 KiB; all others 14 KiB.
+   zaminuk_book_write_rows 100 KiB; zaminuk_rescale 64 KiB; zaminuk_book_check, .._ask, .._add and zaminuk_body_.. 34 KiB; zaminuk_unit and
+   zaminuk_unit_scaled 18 KiB; zaminuk_refusal 2 KiB; all others 14 KiB.
    Threads. Nothing is kept between calls and nothing is shared, so calls may run at the same time as long as none writes what another has.
    Platform. The library is x86-64 code for Linux (System V calling convention), and needs only memcpy and memset of the C library.
 
@@ -30,9 +30,9 @@ extern "C" {
 #endif
 
 #define ZAMINUK_VERSION_MAJOR 1
-#define ZAMINUK_VERSION_MINOR 1
+#define ZAMINUK_VERSION_MINOR 2
 #define ZAMINUK_VERSION_PATCH 0
-#define ZAMINUK_VERSION "1.1.0"
+#define ZAMINUK_VERSION "1.2.0"
 
 /* The limits. */
 #define ZAMINUK_P_MIN 5             /* p is a prime from here .. */
@@ -65,8 +65,15 @@ enum zaminuk_number {
     ZAMINUK_NO_ROOM = 11,           /* too little room */
     ZAMINUK_NO_LINE = 12,           /* of the lister alone: text line malformed */
     ZAMINUK_MALFORMED = 13,         /* book or body malformed, with a reason */
-    ZAMINUK_OUT_OF_RULE = 14,       /* lent lengths or budget out of their rule, no such entry or list, pairs not of one field */
+    ZAMINUK_OUT_OF_RULE = 14,       /* lent lengths or budget out of their rule, no such entry, list or convention, pairs not of one field,
+                                       rows that are not a unit of positive degree so scaled with its inverse */
     ZAMINUK_KNOWN = 15              /* field already in the book: an entry is of one field with the body */
+};
+
+/* The conventions: how a unit is scaled. Under each a unit of positive degree has exactly one scaling. */
+enum zaminuk_convention {
+    ZAMINUK_E0_MONIC = 1,           /* E0 is monic */
+    ZAMINUK_NORM_ONE = 2            /* the norm is 1 */
 };
 
 /* The reasons of refusal 13. */
@@ -122,11 +129,23 @@ uint32_t zaminuk_walk(uint64_t p, const uint64_t *g, size_t gn, const uint64_t *
 uint32_t zaminuk_from_order(uint64_t p, const uint64_t *g, size_t gn, const uint64_t *h, size_t hn, uint64_t budget,
                             zaminuk_period *period, zaminuk_regulator *regulator);
 
-/* The fundamental unit, the smallest of positive degree with E0 monic, and its inverse: E0, E1, E2, F0, F1, F2 into rows, c = rn/6
-   coefficients each, zeros above a row's degree; scratch has the same length and holds zeros afterwards. 14 where rn is not 6c with c at
-   most 4,096, sn is not rn, or the budget is over 1,000,000; then 10; then 11 where c is not above twice the regulator. */
+/* The fundamental unit, the smallest of positive degree with E0 monic (convention 1), and its inverse: E0, E1, E2, F0, F1, F2 into rows,
+   c = rn/6 coefficients each, zeros above a row's degree; scratch has the same length and holds zeros afterwards. 14 where rn is not 6c with
+   c at most 4,096, sn is not rn, or the budget is over 1,000,000; then 10; then 11 where c is not above twice the regulator. */
 uint32_t zaminuk_unit(uint64_t p, const uint64_t *g, size_t gn, const uint64_t *h, size_t hn, uint64_t budget,
                       uint16_t *rows, size_t rn, uint16_t *scratch, size_t sn, zaminuk_period *period, zaminuk_regulator *regulator);
+
+/* The same unit scaled by the named convention; with ZAMINUK_E0_MONIC it is zaminuk_unit. 14 also for a convention but these two. */
+uint32_t zaminuk_unit_scaled(uint64_t p, const uint64_t *g, size_t gn, const uint64_t *h, size_t hn, uint64_t budget, uint32_t convention,
+                             uint16_t *rows, size_t rn, uint16_t *scratch, size_t sn, zaminuk_period *period,
+                             zaminuk_regulator *regulator);
+
+/* The rows of a unit of positive degree, fundamental or not, and of its inverse, as zaminuk_unit writes them, scaled by the convention
+   `from`, become those of the same unit scaled by `to`, in place: E times a constant, F over it. There and back gives the same rows; where
+   from is to, nothing changes. 14 for a convention but these two, where rn is not 6c with c at most 4,096, and where the rows are not such a
+   unit with its inverse, any number of p or more included. The time grows with the square of the rows' length. */
+uint32_t zaminuk_rescale(uint64_t p, const uint64_t *g, size_t gn, const uint64_t *h, size_t hn, uint32_t from, uint32_t to,
+                         uint16_t *rows, size_t rn);
 
 /* Whether the pairs G, H and G2, H2 over one p are of one field, that is, agree after all lists are made monic, in either order: same is
    1 or 0. Refusals 1 to 8 of the first pair, then of the second; same is 0 then. */
@@ -134,8 +153,8 @@ uint32_t zaminuk_one_field(uint64_t p, const uint64_t *g, size_t gn, const uint6
                            const uint64_t *g2, size_t g2n, const uint64_t *h2, size_t h2n, uint64_t *same);
 
 /* The rows of a unit and its inverse for G, H, as zaminuk_unit writes them, become those for G2, H2, a pair of the same field, in place:
-   E0 and F0 stay, the others take constant factors, and change places where the pair is exchanged. Refusals 1 to 8 of the first pair,
-   then of the second, then 14 where the pairs are not of one field or rn is not 6c with c at most 4,096. */
+   E0 and F0 stay, the others take constant factors, and change places where the pair is exchanged; so the convention stays too. Refusals
+   1 to 8 of the first pair, then of the second, then 14 where the pairs are not of one field or rn is not 6c with c at most 4,096. */
 uint32_t zaminuk_transfer(uint64_t p, const uint64_t *g, size_t gn, const uint64_t *h, size_t hn,
                           const uint64_t *g2, size_t g2n, const uint64_t *h2, size_t h2n, uint16_t *rows, size_t rn);
 
@@ -150,8 +169,9 @@ void zaminuk_book_write(uint64_t p, const uint64_t *g, size_t gn, const uint64_t
                         const uint64_t *e0, size_t n0, const uint64_t *e1, size_t n1, const uint64_t *e2, size_t n2,
                         uint8_t *out, size_t n, uint64_t said[ZAMINUK_SAID]);
 
-/* The same from the rows that zaminuk_unit writes: E0, E1, E2 are the first three of the six, without the zeros at their end. Refusals 1 to
-   8; 14 where rn is not 6c with c at most 4,096; then as zaminuk_book_write. */
+/* The same from the rows that zaminuk_unit writes: E0, E1, E2 are the first three of the six, without the zeros at their end. A book keeps
+   convention 1: rows of another are turned before. Refusals 1 to 8; 14 where rn is not 6c with c at most 4,096; then as
+   zaminuk_book_write. */
 void zaminuk_book_write_rows(uint64_t p, const uint64_t *g, size_t gn, const uint64_t *h, size_t hn, zaminuk_period period,
                              const uint16_t *rows, size_t rn, uint8_t *out, size_t n, uint64_t said[ZAMINUK_SAID]);
 

@@ -8,6 +8,8 @@ A field is p, G, H: a prime and two lists of coefficients, lowest power first, w
 >>> u = x.unit()
 >>> u.E
 ([4, 0, 1, 0, 1], [0, 4, 0, 1], [2, 0, 1])
+>>> x.unit(convention=NORM_ONE).E               # the same unit, scaled so that its norm is 1
+([1, 0, 4, 0, 4], [0, 1, 0, 4], [3, 0, 4])
 >>> Field(6, [0, 1, 0, 1], [1])
 Traceback (most recent call last):
     ...
@@ -30,7 +32,7 @@ import struct
 import subprocess
 from collections import namedtuple
 
-__all__ = ["Refused", "Field", "Walk", "Unit", "Book", "Body", "refusal"]
+__all__ = ["Refused", "Field", "Walk", "Unit", "Book", "Body", "refusal", "E0_MONIC", "NORM_ONE"]
 
 REFUSALS = {
     1: "p < 5, p > 65,535 or p not prime",
@@ -45,10 +47,14 @@ REFUSALS = {
     10: "no closing within the budget",
     11: "too little room",
     13: "book or body malformed",
-    14: "lent lengths or budget out of their rule, no such entry or list, or pairs that are not of one field",
+    14: "lent lengths or budget out of their rule, no such entry, list or convention, pairs not of one field, or rows not a unit so scaled",
     15: "field already in the book",
 }
 REASONS = {1: "mark", 2: "contents", 3: "body rule", 4: "field refused", 5: "twice"}
+
+# The conventions: how a unit is scaled.
+E0_MONIC = 1
+NORM_ONE = 2
 
 RECORD = 119
 BUDGET = 1000000
@@ -85,7 +91,7 @@ class Refused(Exception):
 # As in serve.c, whose table has the same order.
 ENTRIES = (
     "refusal series order check step walk from_order unit one_field transfer book_check book_bodies book_ask book_attest book_write "
-    "book_add body_prime body_period body_list book_begin book_write_rows"
+    "book_add body_prime body_period body_list book_begin book_write_rows unit_scaled rescale"
 ).split()
 
 
@@ -201,7 +207,32 @@ class Walk(namedtuple("Walk", "rows steps sum")):
 
 
 class Unit(namedtuple("Unit", "period regulator E F")):
-    """The fundamental unit E = (E0, E1, E2) and its inverse F = (F0, F1, F2), lists of coefficients without zeros at their end."""
+    """The fundamental unit E = (E0, E1, E2) and its inverse F = (F0, F1, F2), lists of coefficients without zeros at their end.
+
+    Beside the four `convention` says how it is scaled: E0_MONIC unless it is said otherwise. It is no part of the tuple, so units with the
+    same numbers are equal.
+
+    >>> u = Field(5, [0, 1, 0, 1], [1]).unit()
+    >>> u.convention, len(u), Unit(*u) == u, Unit(*u, convention=NORM_ONE).convention
+    (1, 4, True, 2)
+    """
+
+    convention = E0_MONIC
+
+    def __new__(cls, period, regulator, E, F, convention=E0_MONIC):
+        self = super().__new__(cls, period, regulator, E, F)
+        self.convention = convention
+        return self
+
+    def _replace(self, **parts):
+        return Unit(*super()._replace(**parts), convention=self.convention)
+
+
+def _convention(number):
+    """A convention's number. The library takes it in 32 bits, so that any other is refused here."""
+    if number not in (E0_MONIC, NORM_ONE):
+        raise Refused(14)
+    return number
 
 
 def _pair(G, H):
@@ -310,22 +341,52 @@ class Field:
         _answer(_call("from_order", *self._field(), budget, period, regulator))
         return _numbers(period, "Q")[0], _numbers(regulator, "Q")[0]
 
-    def unit(self, budget=BUDGET):
-        """The fundamental unit and its inverse: a Unit. A walk for its degree comes first, so there is room; 11 where 4,096 is too little.
+    def unit(self, budget=BUDGET, convention=E0_MONIC):
+        """The fundamental unit and its inverse: a Unit, scaled by the convention; 14 for one but E0_MONIC and NORM_ONE. A walk for its degree
+        comes first, so there is room; 11 where 4,096 is too little.
 
         >>> Field(5, [4, 0, 0, 1], [1]).unit()
         Unit(period=1, regulator=1, E=([0, 0, 1], [0, 1], [1]), F=([0, 1], [4], []))
+        >>> Field(5, [0, 1, 0, 1], [1]).unit(convention=NORM_ONE)
+        Unit(period=2, regulator=2, E=([1, 0, 4, 0, 4], [0, 1, 0, 4], [3, 0, 4]), F=([1], [0, 3], [2]))
         """
+        k = _convention(convention)
         c = min(2 * self.period_and_regulator(budget)[1] + 1, LONGEST)
         rows, scratch, period, regulator = bytearray(12 * c), bytearray(12 * c), bytearray(8), bytearray(8)
-        _answer(_call("unit", *self._field(), budget, rows, 6 * c, scratch, 6 * c, period, regulator))
-        return self._unit(_numbers(period, "Q")[0], _numbers(regulator, "Q")[0], rows, c)
+        _answer(_call("unit_scaled", *self._field(), budget, k, rows, 6 * c, scratch, 6 * c, period, regulator))
+        return self._unit(_numbers(period, "Q")[0], _numbers(regulator, "Q")[0], rows, c, k)
 
     @staticmethod
-    def _unit(period, regulator, rows, c):
+    def _unit(period, regulator, rows, c, convention):
         all = _numbers(rows, "H")
         lists = [_trim(all[k * c : (k + 1) * c]) for k in range(6)]
-        return Unit(period, regulator, tuple(lists[:3]), tuple(lists[3:]))
+        return Unit(period, regulator, tuple(lists[:3]), tuple(lists[3:]), convention)
+
+    @staticmethod
+    def _rows(unit):
+        """The six rows of a unit, and the coefficients of each."""
+        lists = [*unit.E, *unit.F]
+        c = max(map(len, lists))
+        return bytearray(b"".join(_shorts(l + [0] * (c - len(l))) for l in lists)), c
+
+    def rescale(self, unit, from_, to):
+        """A unit of positive degree that is scaled by one convention, fundamental or not, scaled by another. 14 for a convention but E0_MONIC
+        and NORM_ONE, and where it is not such a unit with its inverse.
+
+        >>> x = Field(5, [0, 1, 0, 1], [1])
+        >>> u = x.rescale(x.unit(), E0_MONIC, NORM_ONE)
+        >>> u == x.unit(convention=NORM_ONE), u.convention, x.rescale(u, NORM_ONE, E0_MONIC) == x.unit()
+        (True, 2, True)
+        >>> try:
+        ...     x.rescale(u, E0_MONIC, NORM_ONE)
+        ... except Refused as e:
+        ...     e.number
+        14
+        """
+        a, b = _convention(from_), _convention(to)
+        rows, c = self._rows(unit)
+        _answer(_call("rescale", *self._field(), a, b, rows, 6 * c))
+        return self._unit(unit.period, unit.regulator, rows, c, b)
 
     def same(self, G, H):
         """Whether p, G, H is the same field: the pairs agree after all lists are made monic, in either order.
@@ -339,16 +400,15 @@ class Field:
         return _numbers(told, "Q") == [1]
 
     def transfer(self, unit, G, H):
-        """The unit for another pair of the same field.
+        """The unit for another pair of the same field, scaled by the same convention.
 
-        >>> x = Field(5, [0, 1, 0, 1], [1])
-        >>> x.transfer(x.unit(), [1], [0, 2, 0, 2]) == Field(5, [1], [0, 2, 0, 2]).unit()
-        True
+        >>> x, y = Field(5, [0, 1, 0, 1], [1]), Field(5, [1], [0, 2, 0, 2])
+        >>> [x.transfer(x.unit(convention=k), y.G, y.H) == y.unit(convention=k) for k in (E0_MONIC, NORM_ONE)]
+        [True, True]
         """
-        c = 2 * unit.regulator + 1
-        rows = bytearray(b"".join(_shorts(l + [0] * (c - len(l))) for l in unit.E + unit.F))
+        rows, c = self._rows(unit)
         _answer(_call("transfer", *self._field(), *_pair(G, H), rows, 6 * c))
-        return self._unit(unit.period, unit.regulator, rows, c)
+        return self._unit(unit.period, unit.regulator, rows, c, unit.convention)
 
 
 # ---- books
@@ -367,8 +427,15 @@ class Body(bytes):
 
     @classmethod
     def of(cls, field, unit=None):
-        """The body of a field and its unit, which is made where none is given."""
+        """The body of a field and its unit, which is made where none is given. A book keeps units with E0 monic: one of norm 1 is turned.
+
+        >>> x = Field(5, [0, 1, 0, 1], [1])
+        >>> Body.of(x, x.unit(convention=NORM_ONE)) == Body.of(x)
+        True
+        """
         unit = unit or field.unit()
+        if unit.convention != E0_MONIC:
+            unit = field.rescale(unit, unit.convention, E0_MONIC)
         return cls.write(field.p, field.G, field.H, unit.period, *unit.E)
 
     @classmethod
@@ -412,7 +479,7 @@ class Book(bytes):
     >>> book.body(1)
     Traceback (most recent call last):
         ...
-    zaminuk.Refused: 14: lent lengths or budget out of their rule, no such entry or list, or pairs that are not of one field
+    zaminuk.Refused: 14: lent lengths or budget out of their rule, no such entry, list or convention, pairs not of one field, or rows not a unit so scaled
     """
 
     @classmethod

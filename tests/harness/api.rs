@@ -14,6 +14,8 @@ mod c {
         pub fn zaminuk_unit(p: u64, g: *const u64, gn: usize, h: *const u64, hn: usize, budget: u64, rows: *mut u16, rn: usize, scratch: *mut u16, sn: usize, period: *mut u64, regulator: *mut u64) -> u32;
         pub fn zaminuk_one_field(p: u64, g: *const u64, gn: usize, h: *const u64, hn: usize, g2: *const u64, g2n: usize, h2: *const u64, h2n: usize, same: *mut u64) -> u32;
         pub fn zaminuk_transfer(p: u64, g: *const u64, gn: usize, h: *const u64, hn: usize, g2: *const u64, g2n: usize, h2: *const u64, h2n: usize, rows: *mut u16, rn: usize) -> u32;
+        pub fn zaminuk_unit_scaled(p: u64, g: *const u64, gn: usize, h: *const u64, hn: usize, budget: u64, convention: u32, rows: *mut u16, rn: usize, scratch: *mut u16, sn: usize, period: *mut u64, regulator: *mut u64) -> u32;
+        pub fn zaminuk_rescale(p: u64, g: *const u64, gn: usize, h: *const u64, hn: usize, from: u32, to: u32, rows: *mut u16, rn: usize) -> u32;
         pub fn zaminuk_book_check(book: *const u8, n: usize, said: *mut u64);
         pub fn zaminuk_book_bodies(book: *const u8, n: usize) -> usize;
         pub fn zaminuk_book_ask(book: *const u8, n: usize, i: usize, start: *mut usize, size: *mut usize, said: *mut u64);
@@ -105,12 +107,27 @@ impl Field {
         (n, l, r)
     }
 
-    /// The unit and its inverse: refusal, period, regulator.
+    /// The unit, E0 monic, and its inverse: refusal, period, regulator.
     #[rustfmt::skip]
     pub fn unit(&self, budget: u64, rows: &mut [u16], scratch: &mut [u16]) -> (u32, u64, u64) {
         let (mut l, mut r) = (u64::MAX, u64::MAX);
         let n = unsafe { c::zaminuk_unit(self.p, self.g.as_ptr(), self.g.len(), self.h.as_ptr(), self.h.len(), budget, rows.as_mut_ptr(), rows.len(), scratch.as_mut_ptr(), scratch.len(), &mut l, &mut r) };
         (n, l, r)
+    }
+
+    /// The unit scaled by a convention, 1 for E0 monic and 2 for norm 1, and its inverse: refusal, period, regulator.
+    #[rustfmt::skip]
+    pub fn unit_scaled(&self, budget: u64, convention: u32, rows: &mut [u16], scratch: &mut [u16]) -> (u32, u64, u64) {
+        let (mut l, mut r) = (u64::MAX, u64::MAX);
+        let n = unsafe { c::zaminuk_unit_scaled(self.p, self.g.as_ptr(), self.g.len(), self.h.as_ptr(), self.h.len(), budget, convention, rows.as_mut_ptr(), rows.len(), scratch.as_mut_ptr(), scratch.len(), &mut l, &mut r) };
+        (n, l, r)
+    }
+
+    /// The six rows of a unit of positive degree scaled by one convention, and of its inverse, turned in place into those by another; 0 or
+    /// the refusal.
+    #[rustfmt::skip]
+    pub fn rescale(&self, from: u32, to: u32, rows: &mut [u16]) -> u32 {
+        unsafe { c::zaminuk_rescale(self.p, self.g.as_ptr(), self.g.len(), self.h.as_ptr(), self.h.len(), from, to, rows.as_mut_ptr(), rows.len()) }
     }
 
     /// Whether this pair and another over the same p are of one field: refusal, 1 for yes.

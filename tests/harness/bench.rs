@@ -1,5 +1,5 @@
-// Measures what a customer waits for: steps of the walk, an opening, the unit, series, a full book. Baselines are walkers of the same job that
-// take p, G, H and a budget and print "N steps/s"; each is run beside ours, in one run.
+// Measures what a customer waits for: steps of the walk, an opening, the unit and its rescaling, series, a full book. Baselines are walkers of
+// the same job that take p, G, H and a budget and print "N steps/s"; each is run beside ours, in one run.
 use crate::api::{self, Field};
 use crate::plain::Numbers;
 use crate::vectors::list;
@@ -97,6 +97,8 @@ fn units() {
     let (t, told) = least(|| x.unit(1000000, &mut rows, &mut scratch));
     let (w, _) = least(|| x.from_order(1000000));
     println!("unit p=17 degrees 1 4, c=4096: {:.1} ms, its walk {:.1} ms (refusal {}, period {}, regulator {})", 1000.0 * t, 1000.0 * w, told.0, told.1, told.2);
+    let (t, told) = least(|| (x.rescale(1, 2, &mut rows), x.rescale(2, 1, &mut rows)));
+    println!("its rows turned from convention 1 to 2 and back: {:.1} ms (refusals {} and {})", 1000.0 * t, told.0, told.1);
 }
 
 /// A book of as many small bodies as 65,536 bytes hold.

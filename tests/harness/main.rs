@@ -4,7 +4,9 @@
 mod api;
 mod bench;
 mod books;
+mod conventions;
 mod doors;
+mod elements;
 mod lister;
 mod padded;
 mod pairs;
@@ -59,6 +61,7 @@ fn main() {
     jobs.push(Box::new(|| shelves::random(3, 3000)));
     jobs.push(Box::new(|| shelves::begun(4, 300)));
     jobs.push(Box::new(|| padded::random(5, 1000)));
+    jobs.push(Box::new(|| conventions::random(6, 1000)));
     // It waits more than it works, so it goes first.
     jobs.insert(0, Box::new(doors::all));
     let (passed, failed) = side_by_side(jobs);

@@ -1,5 +1,6 @@
 // Lists with zeros above their degree: every call about a field tells and writes what it does for the lists without them.
 use crate::api::{Field, Record, Said};
+use crate::conventions::some_convention;
 use crate::pairs::{some_field, some_other};
 use crate::plain::{overlong, padded_field, refusal, some_input, unpad, Numbers};
 use crate::shelves::lists_of;
@@ -41,7 +42,7 @@ fn record(l: &mut [u16]) -> &mut Record {
     l.try_into().expect("119 numbers")
 }
 
-/// What the calls take beside their lists: a basis, a budget, lengths for r and w, six rows with a period, room for a body.
+/// What the calls take beside their lists: a basis, a budget, lengths for r and w, six rows with a period, two conventions, room for a body.
 struct Given {
     rows: Vec<u16>,
     budget: u64,
@@ -49,6 +50,8 @@ struct Given {
     w: usize,
     unit: Vec<u16>,
     period: u64,
+    from: u32,
+    to: u32,
     room: usize,
 }
 
@@ -65,7 +68,8 @@ fn given(n: &mut Numbers, x: &Field) -> Given {
     if n.below(8) == 0 {
         unit.push(0);
     }
-    Given { rows, budget, r: k, w: k + usize::from(n.below(8) == 0), unit, period, room: n.below(500) as usize }
+    let (from, to) = (some_convention(n), some_convention(n));
+    Given { rows, budget, r: k, w: k + usize::from(n.below(8) == 0), unit, period, from, to, room: n.below(500) as usize }
 }
 
 /// Every call that takes the lists of a field; y is the second pair of those that take two.
@@ -90,6 +94,11 @@ fn told(x: &Field, y: &Field, t: &Given) -> Vec<Told> {
             let (rows, scratch) = l.split_at_mut(c);
             three(x.unit(t.budget, rows, scratch))
         }),
+        tried("unit_scaled", &pattern(2 * c), |l| {
+            let (rows, scratch) = l.split_at_mut(c);
+            three(x.unit_scaled(t.budget, t.to, rows, scratch))
+        }),
+        tried("rescale", &t.unit, |l| one(x.rescale(t.from, t.to, l))),
         tried("one_field", &nothing, |_| two(x.one_field(&y.g, &y.h))),
         tried("transfer", &t.unit, |l| one(x.transfer(&y.g, &y.h, l))),
         tried("write", &room, |l| five(x.write(t.period, &lists, l))),

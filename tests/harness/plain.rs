@@ -20,7 +20,7 @@ fn is_prime(p: u64) -> bool {
     p >= 2 && (2..p).take_while(|d| d * d <= p).all(|d| p % d != 0)
 }
 
-fn trim(mut a: Vec<u64>) -> Vec<u64> {
+pub fn trim(mut a: Vec<u64>) -> Vec<u64> {
     while a.last() == Some(&0) {
         a.pop();
     }
@@ -116,7 +116,7 @@ fn first_refusal(p: u64, g: &[u64], h: &[u64], good: fn(u64, &[u64]) -> bool) ->
 }
 
 pub fn product(p: u64, a: &[u64], b: &[u64]) -> Vec<u64> {
-    let mut c = vec![0; a.len() + b.len() - 1];
+    let mut c = vec![0; (a.len() + b.len()).saturating_sub(1)];
     for (i, x) in a.iter().enumerate() {
         for (j, y) in b.iter().enumerate() {
             c[i + j] = (c[i + j] + x * y) % p;

@@ -188,3 +188,13 @@ pub unsafe fn zaminuk_book_begin(out: *mut u8, n: usize, said: *mut u64) {
 pub unsafe fn zaminuk_book_write_rows(p: u64, g: *const u64, gn: usize, h: *const u64, hn: usize, period: u64, rows: *const u16, rn: usize, out: *mut u8, n: usize, said: *mut u64) {
     call(20, &mut [Number(p), lent(g, gn), count(gn), lent(h, hn), count(hn), Number(period), lent(rows, rn), count(rn), given(out, n), count(n), given(said, 5)]);
 }
+
+#[rustfmt::skip]
+pub unsafe fn zaminuk_unit_scaled(p: u64, g: *const u64, gn: usize, h: *const u64, hn: usize, budget: u64, convention: u32, rows: *mut u16, rn: usize, scratch: *mut u16, sn: usize, period: *mut u64, regulator: *mut u64) -> u32 {
+    call(21, &mut [Number(p), lent(g, gn), count(gn), lent(h, hn), count(hn), Number(budget), Number(convention.into()), given(rows, rn), count(rn), given(scratch, sn), count(sn), given(period, 1), given(regulator, 1)]) as u32
+}
+
+#[rustfmt::skip]
+pub unsafe fn zaminuk_rescale(p: u64, g: *const u64, gn: usize, h: *const u64, hn: usize, from: u32, to: u32, rows: *mut u16, rn: usize) -> u32 {
+    call(22, &mut [Number(p), lent(g, gn), count(gn), lent(h, hn), count(hn), Number(from.into()), Number(to.into()), given(rows, rn), count(rn)]) as u32
+}

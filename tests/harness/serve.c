@@ -11,21 +11,21 @@ typedef unsigned long word;
 long read(int from, void *to, word n);
 long write(int to, const void *from, word n);
 
-/* Every parameter of an entry is a 64-bit number or a pointer. By the calling convention of x86-64 Linux the caller lays out such
-   arguments one by one and clears them away, so an entry with fewer parameters never sees the others. A result of 32 bits, or none,
-   leaves the rest of the word undefined. */
+/* Every parameter of an entry is a number of 64 or 32 bits or a pointer. By the calling convention of x86-64 Linux the caller lays out such
+   arguments one by one, a word each, and clears them away, so an entry with fewer parameters never sees the others, and one with a
+   parameter of 32 bits sees the low half of its word. A result of 32 bits, or none, leaves the rest of the word undefined. */
 typedef word entry(word, word, word, word, word, word, word, word, word, word, word, word, word, word, word, word);
 entry zaminuk_refusal, zaminuk_series, zaminuk_order, zaminuk_check, zaminuk_step, zaminuk_walk, zaminuk_from_order, zaminuk_unit,
     zaminuk_one_field, zaminuk_transfer, zaminuk_book_check, zaminuk_book_bodies, zaminuk_book_ask, zaminuk_book_attest,
     zaminuk_book_write, zaminuk_book_add, zaminuk_body_prime, zaminuk_body_period, zaminuk_body_list, zaminuk_book_begin,
-    zaminuk_book_write_rows;
+    zaminuk_book_write_rows, zaminuk_unit_scaled, zaminuk_rescale;
 
 /* Places of this table are names: new entries come last. */
 static entry *const entries[] = {
     zaminuk_refusal, zaminuk_series, zaminuk_order, zaminuk_check, zaminuk_step, zaminuk_walk, zaminuk_from_order, zaminuk_unit,
     zaminuk_one_field, zaminuk_transfer, zaminuk_book_check, zaminuk_book_bodies, zaminuk_book_ask, zaminuk_book_attest,
     zaminuk_book_write, zaminuk_book_add, zaminuk_body_prime, zaminuk_body_period, zaminuk_body_list, zaminuk_book_begin,
-    zaminuk_book_write_rows,
+    zaminuk_book_write_rows, zaminuk_unit_scaled, zaminuk_rescale,
 };
 
 enum { ENTRIES = sizeof entries / sizeof *entries, MOST = 16, ROOM = 1 << 21 };

@@ -1,7 +1,8 @@
 // An independent implementation of the book, written for obvious correctness, and random books and bodies, damaged ones among them.
 use crate::api::{self, Field, Said};
+use crate::elements::{norm, six_lists};
 use crate::pairs::{order_of, some_field};
-use crate::plain::{body_refusal, padded, padded_field, product, refusal, unpad, Numbers};
+use crate::plain::{body_refusal, padded, padded_field, refusal, unpad, Numbers};
 use crate::vectors::{ensure, Tally, Verdict};
 use std::collections::BTreeMap;
 
@@ -157,23 +158,10 @@ fn written(x: &Field, period: u64, e: &[Vec<u64>], d: &[u8]) -> (Said, Vec<u8>) 
     (said, after)
 }
 
-/// The sum of products of polynomials, each with a factor.
-fn sum(p: u64, terms: &[(u64, &[&[u64]])]) -> Vec<u64> {
-    let mut all = Vec::new();
-    for (k, factors) in terms {
-        let one = factors.iter().fold(vec![*k % p], |a, b| product(p, &a, b));
-        all.resize(one.len().max(all.len()), 0);
-        all.iter_mut().zip(one).for_each(|(x, y)| *x = (*x + y) % p);
-    }
-    all
-}
-
-/// A³ + B³GH² + C³G²H − 3ABCGH is a constant that is not 0.
+/// The norm of E is a constant that is not 0.
 fn attested(v: &Value) -> bool {
-    let l: Vec<&[u64]> = v.lists.iter().map(|l| &l[..]).collect();
-    let (g, h, a, b, c) = (l[0], l[1], l[2], l[3], l[4]);
-    let norm = sum(v.p, &[(1, &[a, a, a]), (1, &[b, b, b, g, h, h]), (1, &[c, c, c, g, g, h]), (v.p - 3 % v.p, &[a, b, c, g, h])]);
-    norm[0] != 0 && norm[1..].iter().all(|&x| x == 0)
+    let e = [2, 3, 4].map(|k| v.lists[k].clone());
+    norm(&v.field(), &e).len() == 1
 }
 
 /// A body of a field. Some have zeros behind G or H, as no body may.
@@ -279,14 +267,7 @@ pub fn random(seed: u64, count: usize) -> (usize, usize) {
 
 /// The first three of six rows as lists, without the zeros at their end.
 pub fn lists_of(rows: &[u16]) -> Vec<Vec<u64>> {
-    let c = rows.len() / 6;
-    (0..3)
-        .map(|k| {
-            let mut l: Vec<u64> = rows[k * c..(k + 1) * c].iter().map(|&v| u64::from(v)).collect();
-            l.truncate(l.iter().rposition(|&v| v != 0).map_or(0, |i| i + 1));
-            l
-        })
-        .collect()
+    six_lists(rows)[..3].to_vec()
 }
 
 /// The body from the rows of a unit is the body from its lists, and other lengths of rows are refused.

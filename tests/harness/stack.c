@@ -45,6 +45,7 @@ int main(void) {
     zaminuk_period period;
     zaminuk_regulator regulator;
     size_t n, start, size, length;
+    uint32_t turned;
     MEASURE("zaminuk_refusal", 2, zaminuk_refusal(65519, g8, 9, h8, 9));
     MEASURE("zaminuk_series", 14, zaminuk_series(83, g, 8, h, 2, r, 64, w, 64));
     MEASURE("zaminuk_order", 14, zaminuk_order(83, g, 8, h, 2, basis));
@@ -52,7 +53,13 @@ int main(void) {
     MEASURE("zaminuk_step", 14, zaminuk_step(83, g, 8, h, 2, basis, &number));
     MEASURE("zaminuk_walk", 14, zaminuk_walk(83, g, 8, h, 2, 20, basis, &number, &other));
     MEASURE("zaminuk_from_order", 14, zaminuk_from_order(83, g, 8, h, 2, 20, &period, &regulator));
+    MEASURE("zaminuk_unit_scaled", 18,
+            zaminuk_unit_scaled(5, a, 4, one, 1, 20, ZAMINUK_NORM_ONE, rows, ROOM, scratch, ROOM, &period, &regulator));
     MEASURE("zaminuk_unit", 18, zaminuk_unit(5, a, 4, one, 1, 20, rows, ROOM, scratch, ROOM, &period, &regulator));
+    /* There and back, so that each time it is a unit so scaled. */
+    MEASURE("zaminuk_rescale", 64, (turned = zaminuk_rescale(5, a, 4, one, 1, ZAMINUK_E0_MONIC, ZAMINUK_NORM_ONE, rows, ROOM),
+                                    turned += zaminuk_rescale(5, a, 4, one, 1, ZAMINUK_NORM_ONE, ZAMINUK_E0_MONIC, rows, ROOM)));
+    if (turned != 0) failed++;
     MEASURE("zaminuk_one_field", 14, zaminuk_one_field(5, a, 4, one, 1, one, 1, c, 4, &number));
     MEASURE("zaminuk_book_write_rows", 100, zaminuk_book_write_rows(5, a, 4, one, 1, period, rows, ROOM, body, sizeof body, said));
     n = (size_t)said[ZAMINUK_SAID_RESULT];

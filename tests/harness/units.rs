@@ -3,7 +3,7 @@ use crate::api::Field;
 use crate::vectors::{ensure, field, list, narrow, number, pattern, Verdict};
 
 /// A pattern other than that of the rows, so that neither slice passes for the other.
-fn scratched(n: usize) -> Vec<u16> {
+pub fn scratched(n: usize) -> Vec<u16> {
     pattern(n).iter().map(|v| !v).collect()
 }
 

@@ -1,6 +1,6 @@
 // Vector files by name. A file whose kind is not known is reported and skipped.
 use crate::api::{Field, Record};
-use crate::{books, lister, pairs, units, Job};
+use crate::{books, conventions, lister, pairs, units, Job};
 use std::fs;
 
 /// What a case says went wrong, or nothing.
@@ -276,6 +276,9 @@ fn job(path: String, kind: &str) -> Option<Job> {
         "units.txt" => units::unit_case,
         "unit-calls.txt" => units::call_case,
         "unit-lengths.txt" => units::lengths_case,
+        "unit-scaled-calls.txt" => conventions::call_case,
+        "rescales.txt" => conventions::rescale_case,
+        "e6-convention2.txt" => conventions::convention_case,
         "periods.txt" => period_case,
         "pairs.txt" => pairs::pair_case,
         "e3-transfer.txt" => pairs::transfer_case,
