@@ -1,0 +1,2 @@
+pub mod Rescale
+pub mod Test
