@@ -19,7 +19,10 @@ fn misscaled(f: OpenedField, convention: u32, c: usize, rows: &[u16]) -> bool
         return true;
     }
     let by = unit_scale::factor(f, convention, c, rows);
-    by != 1
+    if by != 1 {
+        return true;
+    }
+    false
 }
 
 // Are the conventions' numbers, the length or the rows out of their rule?

@@ -1,0 +1,4 @@
+pub mod Testing
+pub mod Answering
+pub mod Once
+pub mod Back
