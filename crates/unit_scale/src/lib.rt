@@ -61,7 +61,8 @@ fn for_norm(p: u64, g: u64, h: u64, c: usize, rows: &[u16]) -> u64
     ensures { λ r. ⌜ ForNorm p g h c (now (rows .entry)) r ⌝ }
 {
     let v = norm(p, g, h, wide(rows[0]), wide(rows[c]), wide(rows[c + c]));
-    inverse(p, cube_root(p, v))
+    let w = cube_root(p, v);
+    inverse(p, w)
 }
 
 // The constant by which the unit in the rows is to be multiplied.
