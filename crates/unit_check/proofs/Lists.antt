@@ -3,7 +3,7 @@
 --   to-longer, of-longer   what `Longer` says of sizes
 --   size-length    the length without the zeros at the end is the polynomial's
 --   constant-is, is-constant   a list is k and zeros after it exactly where it stands for the constant k
---   constant-at    so where nothing stands from place 1 on, and k at place 0
+--   constant-at, constant-not  it is where nothing stands from place 1 on, and k at place 0; else it is not
 use mathlib.Core.Path.{_≡_, sym, ap, _∙_}
 use mathlib.Core.List.{List, [], _∷_}
 use Prim.Native.Nat.{ℕ, zero, suc, _-_, _<_, _≤_}
@@ -31,11 +31,11 @@ below-end p l i z h u k = elim (decLt k i) [ yes v ↦ h k v | no v ↦ let e : 
 
 -- ---- lengths
 module _ {x y : List ℕ} {a b : ℕ} (sx : Size x a) (sy : Size y b) where
-  pub to-longer : b < a → 1 < a → Longer x y
-  to-longer u v = let ex : length (trim x) ≡ a = trim-length x a sx in let ey : length (trim y) ≡ b = trim-length y b sy in (omega arith, omega arith)
+  pub to-longer : b < a → Longer x y
+  to-longer u = let ex : length (trim x) ≡ a = trim-length x a sx in let ey : length (trim y) ≡ b = trim-length y b sy in omega arith
 
-  pub of-longer : Longer x y → (b < a) × (1 < a)
-  of-longer (u, v) = let ex : length (trim x) ≡ a = trim-length x a sx in let ey : length (trim y) ≡ b = trim-length y b sy in (omega arith, omega arith)
+  pub of-longer : Longer x y → b < a
+  of-longer u = let ex : length (trim x) ≡ a = trim-length x a sx in let ey : length (trim y) ≡ b = trim-length y b sy in omega arith
 
 -- ---- a list of one number
 one-below : (p k : ℕ) → k < p → (i : ℕ) → getD (k ∷ []) i 0 < p

@@ -146,14 +146,14 @@ module _ {p c : ℕ} {g h gh rows : List ℕ} (t : ProductAsks p c g h gh rows) 
   l5 : length f2 ≡ c
   l5 = long (c + c + c + c + c) (c + c + c + c + c + c) (omega arith) (omega arith)
 
-  pub first-asks : CoordinateAsks p c e1 f2 e2 f1 gh e0 f0 (1 ∷ []) 1
-  first-asks = asks l1 l5 l2 l4 (t .gh-most) l0 l3 (omega arith) (omega arith)
+  pub first-asks : {u : List ℕ} → length u ≤ 32 → CoordinateAsks p c e1 f2 e2 f1 u e0 f0 (1 ∷ []) 1
+  first-asks s = asks l1 l5 l2 l4 s l0 l3 (omega arith) (omega arith)
 
-  pub second-asks : CoordinateAsks p c e0 f1 e1 f0 (1 ∷ []) e2 f2 g 0
-  second-asks = asks l0 l4 l1 l3 (omega arith) l2 l5 (t .g-most) (omega arith)
+  pub second-asks : {v : List ℕ} → length v ≤ 32 → CoordinateAsks p c e0 f1 e1 f0 (1 ∷ []) e2 f2 v 0
+  second-asks s = asks l0 l4 l1 l3 (omega arith) l2 l5 s (omega arith)
 
-  pub third-asks : CoordinateAsks p c e0 f2 e2 f0 (1 ∷ []) e1 f1 h 0
-  third-asks = asks l0 l5 l2 l3 (omega arith) l1 l4 (t .h-most) (omega arith)
+  pub third-asks : {v : List ℕ} → length v ≤ 32 → CoordinateAsks p c e0 f2 e2 f0 (1 ∷ []) e1 f1 v 0
+  third-asks s = asks l0 l5 l2 l3 (omega arith) l1 l4 s (omega arith)
 
   -- the two elements
   module _ (pr : Prime p) where
