@@ -5,13 +5,12 @@
 use mathlib.Core.Path.{_≡_, sym, ap, ap₂, _∙_, subst}
 use mathlib.Core.Bool.{Bool, true, false}
 use mathlib.Core.List.{List}
-use Prim.Native.Nat.{ℕ, _+_, _*_, _-_, _≤_}
+use Prim.Native.Nat.{ℕ, _+_, _-_}
 use native.Mathlib.Omega.{arith}
 use lib.ListN.{length}
 use Rattle.base_answers.specs.Decides.{Decides}
 use Rattle.base_answers.proofs.Tests.{answer-no}
 use Rattle.base_lists.specs.Pieces.{cut, between}
-use Rattle.base_lists.proofs.Pieces.{between-cut}
 use Rattle.base_lists.proofs.Trims.{sized}
 use Rattle.math_triple.specs.Tri.{mulT}
 use Rattle.math_valued.proofs.Polynomial.{P-path}
@@ -34,7 +33,7 @@ use Rattle.unit_finish.proofs.Stored.{storable}
 use Rattle.unit_check.specs.Check.{IsUnitAsks, IsUnitGives}
 use Rattle.unit_check.specs.Code.{Below, Longer, ProductAsks, ProductGives, IsInverseGives}
 use Rattle.unit_check.proofs.Positive.{Length, positive-longer, longer-positive}
-use Rattle.unit_check.proofs.Lists.{to-longer, of-longer, size-length}
+use Rattle.unit_check.proofs.Lists.{row-at, to-longer, of-longer, size-length}
 
 module _ (f : OpenedField) (c : ℕ) (rows g h gh : List ℕ) (eg : g ≡ f .field .g) (eh : h ≡ f .field .h) (egh : gh ≡ f .field .gh) where
   -- the rows of an opened field stand for G, H and G H
@@ -80,9 +79,6 @@ module _ {f : OpenedField} {c : ℕ} {rows : List ℕ} (i : IsUnitAsks f c rows)
   pub unit-inverse : {r : Bool} → IsInverseGives f c rows r → r ≡ false → IsUnitGives f c rows false
   unit-inverse d e G H k = answer-no (λ u. d G H (k .accepted) k .no! e (u .unit (k .accepted) .inverse))
 
-  part : (a b : ℕ) → b ≡ a + c → b ≤ 6 * c → between a b rows ≡ cut a c rows
-  part a b e u = between-cut a b rows (omega arith) (let w : length rows ≡ 6 * c = i .whole in omega arith) ∙ ap (λ k. cut a k rows) (let o : b - a ≡ c = omega arith in o)
-
   -- the lengths of E0 and F0
   module _ (each : Below (f .field .p) rows) {G H : List ℕ} (A : Accepted (f .field .p) G H) where
     abbrev E : O (setting A) .El
@@ -109,5 +105,5 @@ module _ {f : OpenedField} {c : ℕ} {rows : List ℕ} (i : IsUnitAsks f c rows)
       carried
       (λ m. record { whole = i .whole; each = each; unit = λ A. longer-unit each A (w G H A k .yes! v) m })
       (λ u. positive-rows each (k .accepted) (u .unit (k .accepted)))
-      (subst (λ z. Decides q (Longer z (cut (c + c + c) c rows))) (part 0 c (omega arith) (omega arith))
-      (subst (λ z. Decides q (Longer (between 0 c rows) z)) (part (c + c + c) (c + c + c + c) (omega arith) (omega arith)) l))
+      (subst (λ z. Decides q (Longer z (cut (c + c + c) c rows))) (row-at c 0 c 0 rows (i .whole) (omega arith) (omega arith) (omega arith))
+      (subst (λ z. Decides q (Longer (between 0 c rows) z)) (row-at c (c + c + c) (c + c + c + c) (c + c + c) rows (i .whole) (omega arith) (omega arith) (omega arith)) l))
