@@ -5,25 +5,25 @@
 use mathlib.Core.Path.{_≡_, sym, ap, ap₂, _∙_, subst}
 use mathlib.Core.Bool.{Bool, true, false}
 use mathlib.Core.List.{List}
-use Prim.Native.Nat.{ℕ, _+_, _*_, _-_, _≤_}
+use Prim.Native.Nat.{ℕ, _+_, _-_}
 use native.Mathlib.Omega.{arith}
 use lib.ListN.{length}
 use Rattle.base_answers.specs.Decides.{Decides}
 use Rattle.base_answers.proofs.Tests.{answer-no}
 use Rattle.base_lists.specs.Pieces.{cut, between}
-use Rattle.base_lists.proofs.Pieces.{between-cut}
 use Rattle.base_lists.proofs.Trims.{sized}
 use Rattle.math_triple.specs.Tri.{mulT}
 use Rattle.math_valued.proofs.Polynomial.{P-path}
 use Rattle.math_rows.specs.Made.{reading}
 use Rattle.math_rows.specs.Row.{row}
-use Rattle.math_ideals.specs.Element.{val}
+use Rattle.math_ideals.specs.Element.{O, val}
 use Rattle.math_ideals.proofs.Sizes.{O-path}
+use Rattle.math_chain.specs.Convention.{PositiveUnit}
 use Rattle.field_open.specs.Refusal.{Accepted}
 use Rattle.field_open.proofs.Accept.{with-prime}
 use Rattle.field_series.specs.Keeps.{Kept}
 use Rattle.field_series.specs.declared.OpenedField.{OpenedField}
-use Rattle.basis_record.specs.Record.{setting}
+use Rattle.basis_record.specs.Record.{setting, polyOf}
 use Rattle.basis_field.proofs.Keeps as keeps
 use Rattle.basis_lattice.proofs.Members.{carried}
 use Rattle.unit_inverse.specs.Inverse.{element}
@@ -32,8 +32,8 @@ use Rattle.unit_finish.proofs.Rows.{cut-below}
 use Rattle.unit_finish.proofs.Stored.{storable}
 use Rattle.unit_check.specs.Check.{IsUnitAsks, IsUnitGives}
 use Rattle.unit_check.specs.Code.{Below, Longer, ProductAsks, ProductGives, IsInverseGives}
-use Rattle.unit_check.proofs.Positive.{positive-longer, longer-positive}
-use Rattle.unit_check.proofs.Lists.{to-longer, of-longer, size-length}
+use Rattle.unit_check.proofs.Positive.{Length, positive-longer, longer-positive}
+use Rattle.unit_check.proofs.Lists.{row-at, to-longer, of-longer, size-length}
 
 module _ (f : OpenedField) (c : ℕ) (rows g h gh : List ℕ) (eg : g ≡ f .field .g) (eh : h ≡ f .field .h) (egh : gh ≡ f .field .gh) where
   -- the rows of an opened field stand for G, H and G H
@@ -79,37 +79,31 @@ module _ {f : OpenedField} {c : ℕ} {rows : List ℕ} (i : IsUnitAsks f c rows)
   pub unit-inverse : {r : Bool} → IsInverseGives f c rows r → r ≡ false → IsUnitGives f c rows false
   unit-inverse d e G H k = answer-no (λ u. d G H (k .accepted) k .no! e (u .unit (k .accepted) .inverse))
 
-  part : (a b : ℕ) → b ≡ a + c → b ≤ 6 * c → between a b rows ≡ cut a c rows
-  part a b e u = between-cut a b rows (omega arith) (let w : length rows ≡ 6 * c = i .whole in omega arith) ∙ ap (λ k. cut a k rows) (let o : b - a ≡ c = omega arith in o)
+  -- the lengths of E0 and F0
+  module _ (each : Below (f .field .p) rows) {G H : List ℕ} (A : Accepted (f .field .p) G H) where
+    abbrev E : O (setting A) .El
+    E = six A c 0 rows
+
+    abbrev F : O (setting A) .El
+    F = six A c (c + c + c) rows
+
+    length-at : (at : ℕ) → Length (setting A .𝓥) (polyOf A (cut at c rows) .0) (sized (cut at c rows) .0)
+    length-at at = size-length (reading (f .field .p) (A .prime)) (cut at c rows) (cut-below at c rows each) (sized (cut at c rows) .1)
+
+    longer-unit : O (setting A) .ops .mul E F ≡ O (setting A) .ops .𝟏 → Longer (cut 0 c rows) (cut (c + c + c) c rows) → PositiveUnit (setting A) E F
+    longer-unit e m = longer-positive (setting A) E F e (length-at 0) (length-at (c + c + c)) (of-longer (sized (cut 0 c rows) .1) (sized (cut (c + c + c) c rows) .1) m)
+
+    positive-rows : PositiveUnit (setting A) E F → Longer (cut 0 c rows) (cut (c + c + c) c rows)
+    positive-rows u =
+        to-longer (sized (cut 0 c rows) .1) (sized (cut (c + c + c) c rows) .1)
+        (positive-longer (setting A) E F (u .inverse) (length-at 0) (length-at (c + c + c)) (u .has) (u .positive))
 
   pub unit-longer : {r s q : Bool} → Decides r (Below (f .field .p) rows) → r ≡ true → IsInverseGives f c rows s → s ≡ true
       → Decides q (Longer (between 0 c rows) (between (c + c + c) (c + c + c + c) rows)) → IsUnitGives f c rows q
   unit-longer {q = q} d e w v l G H k =
       let each : Below (f .field .p) rows = d .yes! e in
-      let x : List ℕ = cut 0 c rows in
-      let y : List ℕ = cut (c + c + c) c rows in
-      let l′ : Decides q (Longer x y) =
-      subst (λ z. Decides q (Longer z y)) (part 0 c (omega arith) (omega arith))
-      (subst (λ z. Decides q (Longer (between 0 c rows) z)) (part (c + c + c) (c + c + c + c) (omega arith) (omega arith)) l) in
       carried
-      (λ m. record {
-        whole = i .whole;
-        each = each;
-        unit = λ A.
-            let ρ = reading (f .field .p) (A .prime) in
-            let (a, sa) = sized x in
-            let (b, sb) = sized y in
-            let (u, t) = of-longer sa sb m in
-            longer-positive (setting A) (six A c 0 rows) (six A c (c + c + c) rows) (w G H A k .yes! v) (size-length ρ x (cut-below 0 c rows each) sa)
-            (size-length ρ y (cut-below (c + c + c) c rows each) sb) u t;
-      })
-      (λ u.
-      let A = k .accepted in
-      let ρ = reading (f .field .p) (A .prime) in
-      let z = u .unit A in
-      let (a, sa) = sized x in
-      let (b, sb) = sized y in
-      let (v, t) = positive-longer (setting A) (six A c 0 rows) (six A c (c + c + c) rows) (z .inverse) (size-length ρ x (cut-below 0 c rows each) sa)
-      (size-length ρ y (cut-below (c + c + c) c rows each) sb) (z .has) (z .positive) in
-      to-longer sa sb v t)
-      l′
+      (λ m. record { whole = i .whole; each = each; unit = λ A. longer-unit each A (w G H A k .yes! v) m })
+      (λ u. positive-rows each (k .accepted) (u .unit (k .accepted)))
+      (subst (λ z. Decides q (Longer z (cut (c + c + c) c rows))) (row-at c 0 c 0 rows (i .whole) (omega arith) (omega arith) (omega arith))
+      (subst (λ z. Decides q (Longer (between 0 c rows) z)) (row-at c (c + c + c) (c + c + c + c) (c + c + c) rows (i .whole) (omega arith) (omega arith) (omega arith)) l))

@@ -1,16 +1,19 @@
 -- Lists of numbers below p as polynomials.
 --   below-end      all numbers are passed, and past the end stands 0
+--   row-at         a row as it is lent
 --   to-longer, of-longer   what `Longer` says of sizes
 --   size-length    the length without the zeros at the end is the polynomial's
 --   constant-is, is-constant   a list is k and zeros after it exactly where it stands for the constant k
---   constant-at    so where nothing stands from place 1 on, and k at place 0
-use mathlib.Core.Path.{_≡_, sym, ap, _∙_}
+--   constant-at, constant-not  it is where nothing stands from place 1 on, and k at place 0; else it is not
+use mathlib.Core.Path.{_≡_, sym, ap, ap₂, _∙_}
 use mathlib.Core.List.{List, [], _∷_}
-use Prim.Native.Nat.{ℕ, zero, suc, _-_, _<_, _≤_}
+use Prim.Native.Nat.{ℕ, zero, suc, _+_, _*_, _-_, _<_, _≤_}
 use native.Mathlib.Omega.{arith}
 use native.Mathlib.Decide.{decLt}
 use lib.ListN.{length, getD, List·getD-eq-default}
+use Rattle.base_lists.specs.Pieces.{cut, between}
 use Rattle.base_lists.specs.Coefficients.{trim}
+use Rattle.base_lists.proofs.Pieces.{between-cut}
 use Rattle.base_lists.proofs.Trims.{trim-length}
 use Rattle.math_valued.specs.Degree.{Lt}
 use Rattle.math_valued.proofs.Degree.{above}
@@ -29,13 +32,17 @@ past l i h = List·getD-eq-default l 0 {n = i} h
 pub below-end : (p : ℕ) (l : List ℕ) (i : ℕ) → 0 < p → ((k : ℕ) → k < i → getD l k 0 < p) → length l ≤ i → Below p l
 below-end p l i z h u k = elim (decLt k i) [ yes v ↦ h k v | no v ↦ let e : getD l k 0 ≡ 0 = past l k (omega arith) in omega arith ]
 
+-- ---- a row of c numbers, of six
+pub row-at : (c a b at : ℕ) (l : List ℕ) → length l ≡ 6 * c → b ≡ a + c → b ≤ 6 * c → a ≡ at → between a b l ≡ cut at c l
+row-at c a b at l s e u f = between-cut a b l (omega arith) (omega arith) ∙ ap₂ (λ i k. cut i k l) f (let o : b - a ≡ c = omega arith in o)
+
 -- ---- lengths
 module _ {x y : List ℕ} {a b : ℕ} (sx : Size x a) (sy : Size y b) where
-  pub to-longer : b < a → 1 < a → Longer x y
-  to-longer u v = let ex : length (trim x) ≡ a = trim-length x a sx in let ey : length (trim y) ≡ b = trim-length y b sy in (omega arith, omega arith)
+  pub to-longer : b < a → Longer x y
+  to-longer u = let ex : length (trim x) ≡ a = trim-length x a sx in let ey : length (trim y) ≡ b = trim-length y b sy in omega arith
 
-  pub of-longer : Longer x y → (b < a) × (1 < a)
-  of-longer (u, v) = let ex : length (trim x) ≡ a = trim-length x a sx in let ey : length (trim y) ≡ b = trim-length y b sy in (omega arith, omega arith)
+  pub of-longer : Longer x y → b < a
+  of-longer u = let ex : length (trim x) ≡ a = trim-length x a sx in let ey : length (trim y) ≡ b = trim-length y b sy in omega arith
 
 -- ---- a list of one number
 one-below : (p k : ℕ) → k < p → (i : ℕ) → getD (k ∷ []) i 0 < p

@@ -10,7 +10,7 @@ use native.Mathlib.Omega.{arith}
 use lib.ListN.{length}
 use Rattle.base_answers.proofs.Tests.{answer-no}
 use Rattle.base_lists.specs.Pieces.{cut, between}
-use Rattle.base_lists.proofs.Pieces.{between-length, between-cut}
+use Rattle.base_lists.proofs.Pieces.{length-cut}
 use Rattle.math_ring.specs.Ring.{Ops}
 use Rattle.math_ring.proofs.Solve.{var, one, _:+_, _:*_, solve}
 use Rattle.math_triple.specs.Tri.{Tri, mulT}
@@ -24,6 +24,7 @@ use Rattle.basis_lattice.proofs.Members.{carried}
 use Rattle.unit_inverse.specs.Inverse.{element}
 use Rattle.unit_inverse.proofs.Inverting.{row-one}
 use Rattle.unit_check.specs.Code.{CoordinateAsks, coordinateOf, CoordinateGives, ProductAsks, ProductGives}
+use Rattle.unit_check.proofs.Lists.{row-at}
 
 tri-path : {A : Type 0} {x y : Tri A} → x .a ≡ y .a → x .b ≡ y .b → x .c ≡ y .c → x ≡ y
 tri-path f g h = λ i. record { a = f i; b = g i; c = h i }
@@ -106,11 +107,11 @@ module _ {p c : ℕ} {g h gh rows : List ℕ} (t : ProductAsks p c g h gh rows) 
   abbrev f2 : List ℕ
   f2 = between (c + c + c + c + c) (c + c + c + c + c + c) rows
 
-  long : (a b : ℕ) → b ≡ a + c → b ≤ 6 * c → length (between a b rows) ≡ c
-  long a b e u = between-length a b rows (omega arith) (let w : length rows ≡ 6 * c = t .whole in omega arith) ∙ (let o : b - a ≡ c = omega arith in o)
-
   part : (a b at : ℕ) → b ≡ a + c → b ≤ 6 * c → a ≡ at → between a b rows ≡ cut at c rows
-  part a b at e u f = between-cut a b rows (omega arith) (let w : length rows ≡ 6 * c = t .whole in omega arith) ∙ ap₂ (λ i k. cut i k rows) f (let o : b - a ≡ c = omega arith in o)
+  part a b at = row-at c a b at rows (t .whole)
+
+  long : (a b : ℕ) → b ≡ a + c → b ≤ 6 * c → length (between a b rows) ≡ c
+  long a b e u = ap length (part a b a e u (omega arith)) ∙ length-cut a c rows
 
   asks : {x y z w u m n v : List ℕ} {k : ℕ} → length x ≡ c → length y ≡ c → length z ≡ c → length w ≡ c → length u ≤ 32 → length m ≡ c → length n ≡ c → length v ≤ 32 → k ≤ 1
       → CoordinateAsks p c x y z w u m n v k
@@ -146,14 +147,14 @@ module _ {p c : ℕ} {g h gh rows : List ℕ} (t : ProductAsks p c g h gh rows) 
   l5 : length f2 ≡ c
   l5 = long (c + c + c + c + c) (c + c + c + c + c + c) (omega arith) (omega arith)
 
-  pub first-asks : CoordinateAsks p c e1 f2 e2 f1 gh e0 f0 (1 ∷ []) 1
-  first-asks = asks l1 l5 l2 l4 (t .gh-most) l0 l3 (omega arith) (omega arith)
+  pub first-asks : {u : List ℕ} → length u ≤ 32 → CoordinateAsks p c e1 f2 e2 f1 u e0 f0 (1 ∷ []) 1
+  first-asks s = asks l1 l5 l2 l4 s l0 l3 (omega arith) (omega arith)
 
-  pub second-asks : CoordinateAsks p c e0 f1 e1 f0 (1 ∷ []) e2 f2 g 0
-  second-asks = asks l0 l4 l1 l3 (omega arith) l2 l5 (t .g-most) (omega arith)
+  pub second-asks : {v : List ℕ} → length v ≤ 32 → CoordinateAsks p c e0 f1 e1 f0 (1 ∷ []) e2 f2 v 0
+  second-asks s = asks l0 l4 l1 l3 (omega arith) l2 l5 s (omega arith)
 
-  pub third-asks : CoordinateAsks p c e0 f2 e2 f0 (1 ∷ []) e1 f1 h 0
-  third-asks = asks l0 l5 l2 l3 (omega arith) l1 l4 (t .h-most) (omega arith)
+  pub third-asks : {v : List ℕ} → length v ≤ 32 → CoordinateAsks p c e0 f2 e2 f0 (1 ∷ []) e1 f1 v 0
+  third-asks s = asks l0 l5 l2 l3 (omega arith) l1 l4 s (omega arith)
 
   -- the two elements
   module _ (pr : Prime p) where

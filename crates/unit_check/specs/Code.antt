@@ -1,7 +1,7 @@
 -- What the parts of the test ask and answer. Polynomials are `row` of lists (crate math_rows).
 --   below            Below             all numbers are below p
 --   constant         Constant          the list is the number k and zeros after it
---   longer           Longer            without zeros at their ends x is longer than y, and longer than 1
+--   longer           Longer            x is longer than y without the zeros at their ends
 --   coordinate       CoordinateGives   u (x y + z w) + v m n is the constant k
 --   product_is_one   ProductGives      the product of the elements in the first and in the last three rows is 1
 --   is_inverse       IsInverseGives    the same in the order of the field
@@ -35,7 +35,7 @@ abbrev pub Constant : ℕ → List ℕ → Type 0
 Constant k l = (i : ℕ) → getD l i 0 ≡ getD (k ∷ []) i 0
 
 abbrev pub Longer : List ℕ → List ℕ → Type 0
-Longer x y = (length (trim y) < length (trim x)) × (1 < length (trim x))
+Longer x y = length (trim y) < length (trim x)
 
 pub record CoordinateAsks (p c : ℕ) (x y z w u m n v : List ℕ) (k : ℕ) : Type 0 where
   pub modulus : Storable p

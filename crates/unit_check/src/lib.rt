@@ -46,16 +46,13 @@ fn constant(k: u16, x: &[u16]) -> bool
     true
 }
 
-// Is x longer than y without the zeros at their ends, and no constant?
+// Is x longer than y without the zeros at their ends?
 fn longer(x: &[u16], y: &[u16]) -> bool
     ensures { λ r. ⌜ Decides r (Longer (now (x .entry)) (now (y .entry))) ⌝ }
 {
     let a = size(x);
     let b = size(y);
     if a <= b {
-        return false;
-    }
-    if a <= 1 {
         return false;
     }
     true

@@ -13,13 +13,10 @@ size-requires-2 : tie.Need-size-requires-2
 size-requires-2 c κs = search needs
 
 returns : tie.Need-returns
-returns c = answer-no (λ h. let w = of-longer (c .before .before .size .ensures) (c .before .size2 .ensures) h in omega (arith, w .0))
+returns c = answer-no (λ h. let w = of-longer (c .before .before .size .ensures) (c .before .size2 .ensures) h in omega (arith, w))
 
 returns-2 : tie.Need-returns-2
-returns-2 c = answer-no (λ h. let w = of-longer (c .before .before .before .size .ensures) (c .before .before .size2 .ensures) h in omega (arith, w .1))
-
-returns-3 : tie.Need-returns-3
-returns-3 c = answer-yes (to-longer (c .before .before .before .size .ensures) (c .before .before .size2 .ensures) (omega arith) (omega arith))
+returns-2 c = answer-yes (to-longer (c .before .before .size .ensures) (c .before .size2 .ensures) (omega arith))
 
 pub longer-spec : {M : Type 1} → statement M
-longer-spec = tie.close (tie.spec size-requires size-requires-2 returns returns-2 returns-3)
+longer-spec = tie.close (tie.spec size-requires size-requires-2 returns returns-2)

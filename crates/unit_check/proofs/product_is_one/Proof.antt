@@ -98,7 +98,7 @@ slice-aggregate-coordinate c = search needs
 coordinate-requires : tie.Need-coordinate-requires
 coordinate-requires c κs =
     let at11 = c .before .before .before .before .before .before .before .before .before .before .before in
-    first-asks (at11 .pre)
+    first-asks (at11 .pre) (search needs)
 
 returns : tie.Need-returns
 returns c =
@@ -111,7 +111,7 @@ slice-aggregate-coordinate-2 c = search needs
 coordinate-requires-2 : tie.Need-coordinate-requires-2
 coordinate-requires-2 c κs =
     let at14 = c .before .before .before .before .before .before .before .before .before .before .before .before .before .before in
-    second-asks (at14 .pre)
+    second-asks (at14 .pre) (search needs)
 
 returns-2 : tie.Need-returns-2
 returns-2 c =
@@ -124,7 +124,7 @@ slice-aggregate-coordinate-3 c = search needs
 coordinate-requires-3 : tie.Need-coordinate-requires-3
 coordinate-requires-3 c κs =
     let at17 = c .before .before .before .before .before .before .before .before .before .before .before .before .before .before .before .before .before in
-    third-asks (at17 .pre)
+    third-asks (at17 .pre) (search needs)
 
 returns-3 : tie.Need-returns-3
 returns-3 c =
