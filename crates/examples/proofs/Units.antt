@@ -9,7 +9,7 @@ use native.Mathlib.Omega.{arith}
 use native.Mathlib.Decide.{decLt}
 use lib.Dec.{T, eqb, ltb, leb, eqb→eq, ltb→lt, leb→le}
 use lib.ListN.{length, getD, replicate, List·getD-eq-default}
-use Rattle.math_triple.specs.Tri.{Tri, Nm, X, normT}
+use Rattle.math_triple.specs.Tri.{Tri, normT}
 use Rattle.math_fp.proofs.Trial.{and-l, and-r}
 use Rattle.field_open.specs.Refusal.{Accepted}
 use Rattle.field_open.proofs.Accept.{accepted-none}
@@ -30,13 +30,12 @@ use Rattle.unit_finish.specs.Rows.{six}
 use Rattle.door_unit.specs.declared.UnitAnswer.{UnitAnswer}
 use Rattle.door_unit.proofs.Once.{Same, makes-unique}
 use Rattle.examples_lists.specs.Lists.{lists, alike}
-use Rattle.math_ring.proofs.Hom.{hom-eval}
-use Rattle.examples_lists.proofs.Meaning.{poly-hom, poly-alike, el, el-alike}
+use Rattle.examples_lists.proofs.Meaning.{poly-alike, el, el-alike}
 use Rattle.examples_tests.specs.Rows.{Rows}
 use Rattle.examples_tests.specs.Tests.{every}
 use Rattle.examples_tests.specs.Walks.{total, unclosed, walks, isUnit}
 use Rattle.examples_tests.proofs.Fields.{every-at, below-sound}
-use Rattle.examples_tests.proofs.Bases.{basisL}
+use Rattle.examples_tests.proofs.Bases.{basisL, norm-is}
 use Rattle.examples_tests.proofs.Chains.{closing-of, start-of, unit-of}
 use Rattle.examples_table.specs.Lines.{Input, sixRows, unit, unit-norm, narrow}
 use Rattle.examples_table.specs.Decide.{Hints, closed, fromOrder, rowsAt, isSix, makes, decide}
@@ -129,9 +128,6 @@ module _ (k : Input) (h : Hints) where
         (record { number = refl; period = sym p; regulator = eqb→eq (e + e) (total (h .start) (h .passed)) (s 1); rows-hold = rows-hold; scratch-blank = ap (λ i. replicate i 0) (sym es) })) in
         only (number by) k n rows scratch (made l e) (sixRows c E F) (replicate (6 * c) 0) m
 
-    norm-is : (A : Accepted (k .p) (k .G) (k .H)) → norm (setting A) (six A c 0 (sixRows c E F)) ≡ polyOf A (normT (lists (k .p)) (k .G) (k .H) E)
-    norm-is A = ap (norm (setting A)) (six-E A) ∙ sym (hom-eval (polyOf A) (poly-hom (k .p) (A .prime)) (Nm X) (k .G ∷ k .H ∷ E .a ∷ E .b ∷ E .c ∷ []))
-
   pub unit-sound : (by : Convention) (c l e : ℕ) (E F : Tri (List ℕ)) → T (decide (unit by k c l e E F) h) → Holds (unit by k c l e E F)
   unit-sound by c l e E F t = made-only by c l e E F t
 
@@ -142,7 +138,7 @@ module _ (k : Input) (h : Hints) where
       let a : T (every (makes k h e0-monic c l e E (h .F))) = and-l (every (makes k h e0-monic c l e E (h .F))) _ t in
       let z : T (alike (k .p) (normT (lists (k .p)) (k .G) (k .H) E) N) = and-l (alike (k .p) (normT (lists (k .p)) (k .G) (k .H) E) N) _ (and-r (every (makes k h e0-monic c l e E (h .F))) _ t) in
       ap (λ x. norm (setting A) (six A c 0 (x .1))) (made-only e0-monic c l e E (h .F) a n u b rows scratch er es .alone o m)
-      ∙ norm-is e0-monic c l e E (h .F) a A
+      ∙ ap (norm (setting A)) (six-E e0-monic c l e E (h .F) a A) ∙ sym (norm-is A E)
       ∙ poly-alike (k .p) (A .prime) (normT (lists (k .p)) (k .G) (k .H) E) N z
 
   pub narrow-sound : (c l : ℕ) → T (decide (narrow k c l) h) → Holds (narrow k c l)

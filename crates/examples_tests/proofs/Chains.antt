@@ -15,8 +15,7 @@ use native.Mathlib.Omega.{arith}
 use lib.Dec.{T, eqb, ltb, eqb→eq, ltb→lt}
 use lib.ListN.{length, getD}
 use Rattle.math_ring.specs.Ring.{Ops}
-use Rattle.math_ring.proofs.Hom.{hom-eval}
-use Rattle.math_triple.specs.Tri.{Tri, Nm, X, normT}
+use Rattle.math_triple.specs.Tri.{Tri, normT}
 use Rattle.math_fp.proofs.Trial.{and-l, and-r}
 use Rattle.math_valued.specs.Polynomial.{polys}
 use Rattle.math_valued.proofs.Degree as d
@@ -41,7 +40,7 @@ use Rattle.examples_tests.specs.Tests.{every, last, hasTop, pure, by, go
 use Rattle.examples_tests.specs.Walks.{at, degreeL, total, unclosed, step, walks, topsL, bottomsL, isScaled, ratio, isUnitBy, isUnit}
 use Rattle.examples_tests.proofs.Fields.{every-at}
 use Rattle.examples_tests.proofs.Floors.{has-top}
-use Rattle.examples_tests.proofs.Bases.{basisL, pure-is, by-is, good-rows}
+use Rattle.examples_tests.proofs.Bases.{basisL, pure-is, by-is, norm-is, good-rows}
 use Rattle.examples_tests.proofs.Steps.{next-rows}
 
 module _ {p : ℕ} {G H : List ℕ} (A : Accepted p G H) (r w : List ℕ) where
@@ -113,10 +112,7 @@ module _ {p : ℕ} {G H : List ℕ} (A : Accepted p G H) (r w : List ℕ) where
     scaled-of e0-monic E t =
         let n : ℕ = last (E .a) in
         (n, 0, ρ .𝓥 .one≢zero, d.lead-eq (ρ .𝓥) (lead-list ρ (E .a) n (and-l (ends (E .a) (suc n)) _ t)) refl (ap (ρ .cast) (eqb→eq (getD (E .a) n 0) 1 (and-r (ends (E .a) (suc n)) _ t)) ∙ ρ .cast-one))
-    scaled-of norm-one E t =
-        sym (hom-eval (polyOf A) (poly-hom p (A .prime)) (Nm X) (G ∷ H ∷ E .a ∷ E .b ∷ E .c ∷ []))
-        ∙ poly-alike p (A .prime) (normT (lists p) G H E) (1 ∷ []) t
-        ∙ poly-hom p (A .prime) .𝟏
+    scaled-of norm-one E t = sym (norm-is A E) ∙ poly-alike p (A .prime) (normT (lists p) G H E) (1 ∷ []) t ∙ poly-hom p (A .prime) .𝟏
 
     pub unit-of : (k : Convention) (c : Rows) (cs : List Rows) → T (alike p (b .U) (1 ∷ [])) → T (walks p G H r w b (c ∷ cs)) → T (unclosed p cs) → T (alike p (c .U) (1 ∷ []))
         → (E F : Tri (List ℕ)) → T (every (isUnit p G H k b (c ∷ cs) E F)) → UnitOf (setting A) k (basisL A b) (suc (length cs)) (total b (c ∷ cs)) (el p (A .prime) E) (el p (A .prime) F)
