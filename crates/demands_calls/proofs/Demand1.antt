@@ -47,7 +47,7 @@ demand-1 = record {
   walk-fixed = λ v w h k. walks-unique _ _ _ _ _ v w h k;
   from-order-fixed = λ v w h k. from-order-unique _ _ _ _ v w h k;
   unit-fixed = λ m m′ h k.
-      let s = makes-unique _ _ _ _ _ _ m m′ _ _ _ _ h k in (
+      let s = makes-unique _ _ _ _ _ _ _ m m′ _ _ _ _ h k in (
         (λ i. record { refusal = s .number i; period = record { 0 = s .period i }; regulator = record { 0 = s .regulator i } }),
         s .rows-same,
         s .scratch-same,

@@ -25,15 +25,15 @@ use Rattle.lister.specs.Listing as lister
 use Rattle.lister.specs.declared.Going.{Going}
 use Rattle.demands_calls.specs.Numbers.{parseSays}
 
-pub unit-kept : {p n : ℕ} {G H rows scratch rows′ scratch′ : List ℕ} (m : UnitAnswer) → unit.Makes p G H n rows scratch m rows′ scratch′
+pub unit-kept : {i p n : ℕ} {G H rows scratch rows′ scratch′ : List ℕ} (m : UnitAnswer) → unit.Makes i p G H n rows scratch m rows′ scratch′
     → m .refusal ≢ 0 → (rows′ ≡ rows) × (scratch′ ≡ scratch)
-unit-kept {p} {n} {G} {H} {rows} {scratch} {rows′} {scratch′} m h f = door-out (λ k g l r. (r .rows-same, r .scratch-same)) (λ A. goes) h
+unit-kept {i} {p} {n} {G} {H} {rows} {scratch} {rows′} {scratch′} m h f = door-out (λ k g l r. (r .rows-same, r .scratch-same)) (λ A. goes) h
   where
-    goes : unit.Goes p G H n rows scratch m rows′ scratch′ → (rows′ ≡ rows) × (scratch′ ≡ scratch)
+    goes : unit.Goes i p G H n rows scratch m rows′ scratch′ → (rows′ ≡ rows) × (scratch′ ≡ scratch)
     goes (unit.bad g r) = (r .rows-same, r .scratch-same)
-    goes (unit.spent c b g r) = (r .rows-same, r .scratch-same)
-    goes (unit.narrow c l d b h g k r) = (r .rows-same, r .scratch-same)
-    goes (unit.made c l d b h g k r) = absurd (f (r .number))
+    goes (unit.spent v c b g r) = (r .rows-same, r .scratch-same)
+    goes (unit.narrow v c l d b h g k r) = (r .rows-same, r .scratch-same)
+    goes (unit.made v c l d b h g k r) = absurd (f (r .number))
 
 pub transfer-kept : {p n : ℕ} {G H G′ H′ rows rows′ : List ℕ} → transfer.Transfers p G H G′ H′ rows n rows′ → n ≢ 0 → rows′ ≡ rows
 transfer-kept {p} {n} {G} {H} {G′} {H′} {rows} {rows′} h g = doors-out (λ k f l e. e .kept) (λ t. goes) h

@@ -24,6 +24,7 @@ use Rattle.walk_chain.specs.declared.WalkAnswer.{WalkAnswer}
 use Rattle.walk_chain.specs.Walk as walks
 use Rattle.door_period.specs.declared.PeriodAnswer.{PeriodAnswer}
 use Rattle.door_period.specs.Order as told
+use Rattle.math_chain.specs.Convention.{e0-monic}
 use Rattle.door_unit.specs.declared.UnitAnswer.{UnitAnswer}
 use Rattle.door_unit.specs.Unit as made
 use Rattle.door_unit.proofs.Once.{refused-number}
@@ -170,15 +171,15 @@ told-goes o (told.spent l B f g e) = inr (inl (ap (λ (x : PeriodAnswer). x .ref
 from-order-numbered : {p n : ℕ} {G H : List ℕ} (o : PeriodAnswer) → told.FromOrder p G H n o → Numbered 8 (10 ∷ 14 ∷ []) (o .refusal)
 from-order-numbered o = door-out (λ k f l e. refused-of (omega arith) l (ap (λ (x : PeriodAnswer). x .refusal) e)) (λ A. told-goes o)
 
-unit-goes : {p n : ℕ} {G H rows scratch rows′ scratch′ : List ℕ} (m : UnitAnswer)
-    → made.Goes p G H n rows scratch m rows′ scratch′ → Numbered 8 (10 ∷ 11 ∷ 14 ∷ []) (m .refusal)
+unit-goes : {i p n : ℕ} {G H rows scratch rows′ scratch′ : List ℕ} (m : UnitAnswer)
+    → made.Goes i p G H n rows scratch m rows′ scratch′ → Numbered 8 (10 ∷ 11 ∷ 14 ∷ []) (m .refusal)
 unit-goes m (made.bad f r) = inr (inr (inr (inl (refused-number r))))
-unit-goes m (made.spent c b f r) = inr (inl (refused-number r))
-unit-goes m (made.narrow c l d b s f g r) = inr (inr (inl (refused-number r)))
-unit-goes m (made.made c l d b s f g r) = zero-of (r .number)
+unit-goes m (made.spent v c b f r) = inr (inl (refused-number r))
+unit-goes m (made.narrow v c l d b s f g r) = inr (inr (inl (refused-number r)))
+unit-goes m (made.made v c l d b s f g r) = zero-of (r .number)
 
-unit-numbered : {p n : ℕ} {G H rows scratch rows′ scratch′ : List ℕ} (m : UnitAnswer)
-    → made.Makes p G H n rows scratch m rows′ scratch′ → Numbered 8 (10 ∷ 11 ∷ 14 ∷ []) (m .refusal)
+unit-numbered : {i p n : ℕ} {G H rows scratch rows′ scratch′ : List ℕ} (m : UnitAnswer)
+    → made.Makes i p G H n rows scratch m rows′ scratch′ → Numbered 8 (10 ∷ 11 ∷ 14 ∷ []) (m .refusal)
 unit-numbered m = door-out (λ k f l r. refused-of (omega arith) l (refused-number r)) (λ A. unit-goes m)
 
 compare-numbered : {p : ℕ} {G H G′ H′ : List ℕ} (a : CompareAnswer) → compared.Compares p G H G′ H′ a → Numbered 8 [] (a .refusal)
@@ -238,18 +239,18 @@ made-not p G H m rows h z n e =
     omega (arith, d, f, g)
 
 -- what `unit` gives for a line: two blank slices of 6 · 1,024 numbers and the budget 1,000 are within their rule, so that 14 does not come
-line-unit : {p : ℕ} {G H rows scratch : List ℕ} (m : UnitAnswer) → made.Makes p G H listing.budget listing.blank listing.blank m rows scratch
+line-unit : {p : ℕ} {G H rows scratch : List ℕ} (m : UnitAnswer) → made.Makes 1 p G H listing.budget listing.blank listing.blank m rows scratch
     → Numbered 8 (10 ∷ 11 ∷ 12 ∷ []) (m .refusal)
 line-unit {p} {G} {H} {rows} {scratch} m = door-out (λ k f l r. refused-of (omega arith) l (refused-number r)) (λ A. goes)
   where
-    lent : made.Lent 1024 listing.blank listing.blank listing.budget
-    lent = record { six = record { room = omega arith; whole = length-replicate {A = ℕ} 6144 0 }; even = refl; budget = omega arith }
+    lent : made.Lent 1 e0-monic 1024 listing.blank listing.blank listing.budget
+    lent = record { named = refl; six = record { room = omega arith; whole = length-replicate {A = ℕ} 6144 0 }; even = refl; budget = omega arith }
 
-    goes : made.Goes p G H listing.budget listing.blank listing.blank m rows scratch → Numbered 8 (10 ∷ 11 ∷ 12 ∷ []) (m .refusal)
-    goes (made.bad f r) = absurd (f 1024 lent)
-    goes (made.spent c b f r) = inr (inl (refused-number r))
-    goes (made.narrow c l d b s f g r) = inr (inr (inl (refused-number r)))
-    goes (made.made c l d b s f g r) = zero-of (r .number)
+    goes : made.Goes 1 p G H listing.budget listing.blank listing.blank m rows scratch → Numbered 8 (10 ∷ 11 ∷ 12 ∷ []) (m .refusal)
+    goes (made.bad f r) = absurd (f e0-monic 1024 lent)
+    goes (made.spent v c b f r) = inr (inl (refused-number r))
+    goes (made.narrow v c l d b s f g r) = inr (inr (inl (refused-number r)))
+    goes (made.made v c l d b s f g r) = zero-of (r .number)
 
 line-numbered : {s t : List ℕ} {n : ℕ} → listing.Lists s t → Says t n → Numbered 8 (10 ∷ 11 ∷ 12 ∷ []) n
 line-numbered (listing.malformed f) (refuses n e) = inr (inr (inr (inl (refused-unique n 12 (sym e)))))

@@ -59,8 +59,8 @@ pub record Demand1 : Type 0 where
       series.Answer p G H r w r′ w′ n → n ≢ 0 →
       (r′ ≡ r) × (w′ ≡ w)
   pub unit-kept :
-      {p n : ℕ} {G H rows scratch rows′ scratch′ : List ℕ} (m : UnitAnswer) →
-      Makes p G H n rows scratch m rows′ scratch′ → m .refusal ≢ 0 →
+      {i p n : ℕ} {G H rows scratch rows′ scratch′ : List ℕ} (m : UnitAnswer) →
+      Makes i p G H n rows scratch m rows′ scratch′ → m .refusal ≢ 0 →
       (rows′ ≡ rows) × (scratch′ ≡ scratch)
   pub transfer-kept :
       {p n : ℕ} {G H G′ H′ rows rows′ : List ℕ} →
@@ -103,8 +103,8 @@ pub record Demand1 : Type 0 where
       FromOrder p G H n v → FromOrder p G H n w →
       v ≡ w
   pub unit-fixed :
-      {p n : ℕ} {G H rows scratch r s r′ s′ : List ℕ} (m m′ : UnitAnswer) →
-      Makes p G H n rows scratch m r s → Makes p G H n rows scratch m′ r′ s′ →
+      {i p n : ℕ} {G H rows scratch r s r′ s′ : List ℕ} (m m′ : UnitAnswer) →
+      Makes i p G H n rows scratch m r s → Makes i p G H n rows scratch m′ r′ s′ →
       (m ≡ m′) × (r ≡ r′) × (s ≡ s′)
   -- two pairs
   pub pairs-fixed : {p m n : ℕ} {G H G′ H′ : List ℕ} → Refusals p G H G′ H′ m → Refusals p G H G′ H′ n → m ≡ n

@@ -95,8 +95,8 @@ pub record PaddedLists : Type 1 where
       FromOrder p (unpad G) (unpad H) n v → FromOrder p (unpad G′) (unpad H′) n w →
       v ≡ w
   pub unit-same :
-      {p n : ℕ} {G H G′ H′ rows scratch r s r′ s′ : List ℕ} (m m′ : UnitAnswer) → Stand G G′ → Stand H H′ →
-      Makes p (unpad G) (unpad H) n rows scratch m r s → Makes p (unpad G′) (unpad H′) n rows scratch m′ r′ s′ →
+      {i p n : ℕ} {G H G′ H′ rows scratch r s r′ s′ : List ℕ} (m m′ : UnitAnswer) → Stand G G′ → Stand H H′ →
+      Makes i p (unpad G) (unpad H) n rows scratch m r s → Makes i p (unpad G′) (unpad H′) n rows scratch m′ r′ s′ →
       (m ≡ m′) × (r ≡ r′) × (s ≡ s′)
   -- two pairs: each list may be padded
   pub pairs-same :
