@@ -32,6 +32,7 @@ use Rattle.door_compare.specs.declared.CompareAnswer.{CompareAnswer}
 use Rattle.door_compare.specs.Answer as compared
 use Rattle.door_compare.proofs.Doors.{doors-out}
 use Rattle.door_transfer.specs.Transfer as carried
+use Rattle.door_rescale.specs.Rescale as turned
 use Rattle.book_body.specs.Body.{Body}
 use Rattle.book_body.specs.Code as code
 use Rattle.book_write.specs.Write as written
@@ -57,7 +58,7 @@ use Rattle.lister_print.specs.Text.{unit-text, made-text}
 use Rattle.lister_print.proofs.Prints.{made-unit, made-refused}
 use Rattle.lister.specs.Listing as listing
 use Rattle.demands_calls.specs.Numbers.{Numbered, Says, refuses, answers, Gives}
-use Rattle.demands_calls.specs.Numbers.{refusal, open-field, series, open-series, order, check, step, walk, from-order, unit, pairs, compare, transfer}
+use Rattle.demands_calls.specs.Numbers.{refusal, open-field, series, open-series, order, check, step, walk, from-order, unit, rescale, pairs, compare, transfer}
 use Rattle.demands_calls.specs.Numbers.{book, ask, attest, list, write, add, parse, line, end}
 use Rattle.demands_calls.specs.Numbers.{order-c, step-c, walk-c, from-order-c, unit-c, one-field-c, book-c, ask-c, attest-c, begin-c, prime-c, period-c, list-c, rows-c, write-c, add-c}
 use Rattle.base_answers.proofs.Said.{number-of}
@@ -189,6 +190,10 @@ transfer-goes : {p n : ℕ} {G H G′ H′ rows rows′ : List ℕ} → carried.
 transfer-goes (carried.unfit u e) = inr (inl (e .number))
 transfer-goes (carried.carried c l e m w) = zero-of e
 
+rescale-goes : {p i j n : ℕ} {G H rows rows′ : List ℕ} → turned.Goes p G H i j rows n rows′ → Numbered 8 (14 ∷ []) n
+rescale-goes (turned.unfit u e) = inr (inl (e .number))
+rescale-goes (turned.turned k k′ c a b s z t) = zero-of z
+
 -- ---- a line: the text of a refusal says its number, and no unit's text is one
 -- the digits stand between the word and the newline
 digits : List ℕ → List ℕ
@@ -293,6 +298,7 @@ numbered (step s h) = step-numbered s h
 numbered (walk w h) = walk-numbered w h
 numbered (from-order o h) = from-order-numbered o h
 numbered (unit m h) = unit-numbered m h
+numbered (rescale h) = door-out (λ k f l r. refused-of (omega arith) l (r .number)) (λ A. rescale-goes) h
 numbered (pairs h) = doors-out (λ k f l e. refused-of (omega arith) l e) (λ t e. zero-of e) h
 numbered (compare a h) = compare-numbered a h
 numbered (transfer h) = doors-out (λ k f l r. refused-of (omega arith) l (r .number)) (λ t. transfer-goes) h

@@ -29,6 +29,7 @@ use Rattle.door_unit.specs.Unit.{Makes}
 use Rattle.door_unit.proofs.Once.{refused-number}
 use Rattle.door_compare.specs.Answer.{Refusals, Compares}
 use Rattle.door_transfer.specs.Transfer.{Transfers}
+use Rattle.door_rescale.specs.Rescale.{Rescales}
 use Rattle.book_body.specs.Body.{Body, FieldSays, bodyOf}
 use Rattle.book_write.specs.Write.{bodyFrom, WriteTells}
 use Rattle.book_rows.specs.Rows.{RowsSays}
@@ -145,6 +146,7 @@ padded-lists = record {
   walk-same = λ {p} {n} {B = B} v w a b x y. D .walk-fixed v w x (back a b (λ g h. Walks p g h n B w) y);
   from-order-same = λ {p} {n} v w a b x y. D .from-order-fixed v w x (back a b (λ g h. FromOrder p g h n w) y);
   unit-same = λ {i} {p} {n} {rows = rows} {scratch} {r′ = r′} {s′} m m′ a b x y. D .unit-fixed m m′ x (back a b (λ g h. Makes i p g h n rows scratch m′ r′ s′) y);
+  rescale-same = λ {p} {i} {j} {n} {n′} {rows = rows} {r′ = r′} a b x y. D .rescale-fixed x (back a b (λ g h. Rescales p g h i j rows n′ r′) y);
   pairs-same = λ {p} {m} {n} {K = K} {L} {G′} {H′} a b c d x y.
       D .pairs-fixed x (back a b (λ g h. Refusals p g h (unpad K) (unpad L) n) (back c d (λ k l. Refusals p (unpad G′) (unpad H′) k l n) y));
   compare-same = λ {p} {K = K} {L} {G′} {H′} v w a b c d x y.

@@ -33,6 +33,7 @@ use Rattle.door_unit.specs.Unit.{Makes}
 use Rattle.door_compare.specs.declared.CompareAnswer.{CompareAnswer}
 use Rattle.door_compare.specs.Answer.{Refusals, Compares}
 use Rattle.door_transfer.specs.Transfer.{Transfers}
+use Rattle.door_rescale.specs.Rescale.{Rescales}
 use Rattle.book_body.specs.Body.{Body}
 use Rattle.book_body.specs.Code.{ListTells}
 use Rattle.book_write.specs.Write.{WriteTells}
@@ -66,6 +67,7 @@ pub record Demand1 : Type 0 where
       {p n : ℕ} {G H G′ H′ rows rows′ : List ℕ} →
       Transfers p G H G′ H′ rows n rows′ → n ≢ 0 →
       rows′ ≡ rows
+  pub rescale-kept : {p i j n : ℕ} {G H rows rows′ : List ℕ} → Rescales p G H i j rows n rows′ → n ≢ 0 → rows′ ≡ rows
   pub list-kept : {k : ℕ} {s d d′ : List ℕ} {x : Said} → ListTells s k d x d′ → x .number ≢ 0 → d′ ≡ d
   pub write-kept : {b : Body} {d d′ : List ℕ} {x : Said} → WriteTells b d x d′ → x .number ≢ 0 → d′ ≡ d
   pub add-kept : {n : ℕ} {d b d′ : List ℕ} {x : Said} → AddTells d n b x d′ → x .number ≢ 0 → d′ ≡ d
@@ -106,6 +108,10 @@ pub record Demand1 : Type 0 where
       {i p n : ℕ} {G H rows scratch r s r′ s′ : List ℕ} (m m′ : UnitAnswer) →
       Makes i p G H n rows scratch m r s → Makes i p G H n rows scratch m′ r′ s′ →
       (m ≡ m′) × (r ≡ r′) × (s ≡ s′)
+  pub rescale-fixed :
+      {p i j n n′ : ℕ} {G H rows r r′ : List ℕ} →
+      Rescales p G H i j rows n r → Rescales p G H i j rows n′ r′ →
+      (n ≡ n′) × (r ≡ r′)
   -- two pairs
   pub pairs-fixed : {p m n : ℕ} {G H G′ H′ : List ℕ} → Refusals p G H G′ H′ m → Refusals p G H G′ H′ n → m ≡ n
   pub compare-fixed :

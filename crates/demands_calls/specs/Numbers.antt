@@ -16,7 +16,7 @@
 --   door_compare::refusal, compare          0 to 8              text_end::finish                    0, 12
 --   door_transfer::transfer                 0 to 8, 14          book_begin::begin                   0, 11
 --   book_parts::prime, period               0, 13               book_parts::list                    0, 11, 13, 14
---   book_rows::write_rows                   0 to 8, 11, 13, 14
+--   door_rescale::rescale                   0 to 8, 14          book_rows::write_rows               0 to 8, 11, 13, 14
 -- The other functions for C and Rust (crate capi) give the numbers of the functions behind them.
 -- That every such n is one of the row's numbers is `numbered` of `demand-1`.
 use mathlib.Core.Path.{_≡_}
@@ -44,6 +44,7 @@ use Rattle.door_unit.specs.Unit.{Makes}
 use Rattle.door_compare.specs.declared.CompareAnswer.{CompareAnswer}
 use Rattle.door_compare.specs.Answer.{Refusals, Compares}
 use Rattle.door_transfer.specs.Transfer.{Transfers}
+use Rattle.door_rescale.specs.Rescale.{Rescales}
 use Rattle.book_body.specs.Body.{Body}
 use Rattle.book_body.specs.Code.{ListTells}
 use Rattle.book_write.specs.Write.{WriteTells}
@@ -91,6 +92,7 @@ pub data Gives : ℕ → List ℕ → ℕ → Type 0 where
   from-order : {p n : ℕ} {G H : List ℕ} (o : PeriodAnswer) → FromOrder p G H n o → Gives 8 (10 ∷ 14 ∷ []) (o .refusal)
   unit : {i p n : ℕ} {G H rows scratch rows′ scratch′ : List ℕ} (m : UnitAnswer)
       → Makes i p G H n rows scratch m rows′ scratch′ → Gives 8 (10 ∷ 11 ∷ 14 ∷ []) (m .refusal)
+  rescale : {p i j n : ℕ} {G H rows rows′ : List ℕ} → Rescales p G H i j rows n rows′ → Gives 8 (14 ∷ []) n
   -- ---- two pairs
   pairs : {p n : ℕ} {G H G′ H′ : List ℕ} → Refusals p G H G′ H′ n → Gives 8 [] n
   compare : {p : ℕ} {G H G′ H′ : List ℕ} (a : CompareAnswer) → Compares p G H G′ H′ a → Gives 8 [] (a .refusal)
