@@ -75,14 +75,17 @@ pub unit-is :
     Makes i p G H n rows scratch m rows′ scratch′ → m .refusal ≡ 0 →
     (k : Convention) × (number k ≡ i) × UnitRows k p G H m rows′
 unit-is i p n G H rows scratch rows′ scratch′ m h z =
-    let (k, c, l, d, e, r) = unit-made i p n G H rows scratch rows′ scratch′ m h z in
-    (k, e, record {
-      c = c;
-      long = r .rows-hold .whole;
-      unit = success-unit p G H rows′ m r;
-      period = λ A B₀ st. let u = success-unit p G H rows′ m r A B₀ st in back-first (setting A) B₀ st _ _ (u .B) (u .closing);
-      degree = λ A. let (B₀, st) = order-exists (setting A) in unit-degree (setting A) B₀ st (success-unit p G H rows′ m r A B₀ st) .0;
-    })
+    let (k, c, l, d, e, r) = unit-made i p n G H rows scratch rows′ scratch′ m h z in (
+      k,
+      e,
+      record {
+        c = c;
+        long = r .rows-hold .whole;
+        unit = success-unit p G H rows′ m r;
+        period = λ A B₀ st. let u = success-unit p G H rows′ m r A B₀ st in back-first (setting A) B₀ st _ _ (u .B) (u .closing);
+        degree = λ A. let (B₀, st) = order-exists (setting A) in unit-degree (setting A) B₀ st (success-unit p G H rows′ m r A B₀ st) .0;
+      },
+    )
 
 pub demand-2 : Demand2
 demand-2 = record {

@@ -30,13 +30,16 @@ use Rattle.demands.proofs.Cases.{walk-closed, walk-spent, told-closed, told-spe
 -- ---- what the functions answer
 unit-rows : (i p n : ℕ) (G H rows scratch rows′ scratch′ : List ℕ) (m : UnitAnswer) → Makes i p G H n rows scratch m rows′ scratch′ → m .refusal ≡ 0 → (k : Convention) × (number k ≡ i) × SmallestRows k p G H m rows′
 unit-rows i p n G H rows scratch rows′ scratch′ m h z =
-    let (k, c, l, d, e, r) = unit-made i p n G H rows scratch rows′ scratch′ m h z in
-    (k, e, record {
-      c = c;
-      long = r .rows-hold .whole;
-      smallest = λ A. let (B₀, st) = order-exists (setting A) in unit-smallest (setting A) (success-unit p G H rows′ m r A B₀ st);
-      fundamental = λ A. let (B₀, st) = order-exists (setting A) in unit-fundamental (setting A) (success-unit p G H rows′ m r A B₀ st);
-    })
+    let (k, c, l, d, e, r) = unit-made i p n G H rows scratch rows′ scratch′ m h z in (
+      k,
+      e,
+      record {
+        c = c;
+        long = r .rows-hold .whole;
+        smallest = λ A. let (B₀, st) = order-exists (setting A) in unit-smallest (setting A) (success-unit p G H rows′ m r A B₀ st);
+        fundamental = λ A. let (B₀, st) = order-exists (setting A) in unit-fundamental (setting A) (success-unit p G H rows′ m r A B₀ st);
+      },
+    )
 
 -- ---- two walks that close
 told-agree : (p n n′ : ℕ) (G H : List ℕ) (o o′ : PeriodAnswer) → walks.FromOrder p G H n o → o .refusal ≡ 0 → walks.FromOrder p G H n′ o′ → o′ .refusal ≡ 0 → o ≡ o′
