@@ -14,6 +14,7 @@ use Rattle.field_open.specs.Refusal.{Accepted}
 use Rattle.field_open.proofs.Door.{door-out}
 use Rattle.math_ideals.specs.Ideal.{Basis}
 use Rattle.math_ideals.specs.Next.{Start}
+use Rattle.math_chain.specs.Convention.{Convention, number}
 use Rattle.math_chain.specs.Unit.{UnitOf}
 use Rattle.basis_record.specs.Record.{setting}
 use Rattle.basis_field.specs.First.{IsFirst}
@@ -87,49 +88,49 @@ module _ (p n : ℕ) (G H : List ℕ) (o : PeriodAnswer) (h : walks.FromOrder p 
   told-accepted z = door-out (λ k f l e. let q = told-number e in absurd (f (sym q ∙ z))) (λ A _. A) h
 
 -- ---- the unit
-module _ (p n : ℕ) (G H rows scratch rows′ scratch′ : List ℕ) (m : UnitAnswer) (h : unit.Makes p G H n rows scratch m rows′ scratch′) where
+module _ (i p n : ℕ) (G H rows scratch rows′ scratch′ : List ℕ) (m : UnitAnswer) (h : unit.Makes i p G H n rows scratch m rows′ scratch′) where
   abbrev Done : Type 0
-  Done = (c l d : ℕ) × unit.Finds p G H l d × unit.Success p G H l d c scratch m rows′ scratch′
+  Done = (k : Convention) × (c l d : ℕ) × (number k ≡ i) × unit.Success k p G H l d c scratch m rows′ scratch′
 
   abbrev Narrow : Type 0
-  Narrow = (c l d : ℕ) × unit.Lent c rows scratch n × unit.Finds p G H l d × (c ≤ d)
+  Narrow = (k : Convention) × (c l d : ℕ) × unit.Lent i k c rows scratch n × unit.Finds p G H l d × (c ≤ d)
 
   pub unit-made : m .refusal ≡ 0 → Done
   unit-made z = door-out (λ k f l e. let q = refused-number e in absurd (f (sym q ∙ z))) (λ A. case) h
     where
-      case : unit.Goes p G H n rows scratch m rows′ scratch′ → Done
+      case : unit.Goes i p G H n rows scratch m rows′ scratch′ → Done
       case (unit.bad f r) = let k = refused-number r in absurd (omega arith)
-      case (unit.spent c b f r) = let k = refused-number r in absurd (omega arith)
-      case (unit.narrow c l d b s f g r) = let k = refused-number r in absurd (omega arith)
-      case (unit.made c l d b s f g r) = (c, l, d, f, r)
+      case (unit.spent v c b f r) = let k = refused-number r in absurd (omega arith)
+      case (unit.narrow v c l d b s f g r) = let k = refused-number r in absurd (omega arith)
+      case (unit.made v c l d b s f g r) = (v, c, l, d, b .named, r)
 
   pub unit-spent : m .refusal ≡ 10 → unit.Misses p G H n
   unit-spent z = door-out (λ k f l e. let q = refused-number e in absurd (omega arith)) (λ A. case) h
     where
-      case : unit.Goes p G H n rows scratch m rows′ scratch′ → unit.Misses p G H n
+      case : unit.Goes i p G H n rows scratch m rows′ scratch′ → unit.Misses p G H n
       case (unit.bad f r) = let k = refused-number r in absurd (omega arith)
-      case (unit.spent c b f r) = f
-      case (unit.narrow c l d b s f g r) = let k = refused-number r in absurd (omega arith)
-      case (unit.made c l d b s f g r) = let k = r .number in absurd (omega arith)
+      case (unit.spent v c b f r) = f
+      case (unit.narrow v c l d b s f g r) = let k = refused-number r in absurd (omega arith)
+      case (unit.made v c l d b s f g r) = let k = r .number in absurd (omega arith)
 
   pub unit-narrow : m .refusal ≡ 11 → Narrow
   unit-narrow z = door-out (λ k f l e. let q = refused-number e in absurd (omega arith)) (λ A. case) h
     where
-      case : unit.Goes p G H n rows scratch m rows′ scratch′ → Narrow
+      case : unit.Goes i p G H n rows scratch m rows′ scratch′ → Narrow
       case (unit.bad f r) = let k = refused-number r in absurd (omega arith)
-      case (unit.spent c b f r) = let k = refused-number r in absurd (omega arith)
-      case (unit.narrow c l d b s f g r) = (c, l, d, b, f, g)
-      case (unit.made c l d b s f g r) = let k = r .number in absurd (omega arith)
+      case (unit.spent v c b f r) = let k = refused-number r in absurd (omega arith)
+      case (unit.narrow v c l d b s f g r) = (v, c, l, d, b, f, g)
+      case (unit.made v c l d b s f g r) = let k = r .number in absurd (omega arith)
 
   pub unit-accepted : m .refusal ≡ 0 → Accepted p G H
   unit-accepted z = door-out (λ k f l e. let q = refused-number e in absurd (f (sym q ∙ z))) (λ A _. A) h
 
 -- the rows are the unit of the chain, with the period and the regulator told
 pub success-unit :
-    (p : ℕ) (G H rows : List ℕ) (m : UnitAnswer) {l d c : ℕ} {scratch scratch′ : List ℕ} →
-    unit.Success p G H l d c scratch m rows scratch′ →
+    (p : ℕ) (G H rows : List ℕ) (m : UnitAnswer) {k : Convention} {l d c : ℕ} {scratch scratch′ : List ℕ} →
+    unit.Success k p G H l d c scratch m rows scratch′ →
     (A : Accepted p G H) (B₀ : Basis (setting A)) → Start (setting A) B₀ →
-    UnitOf (setting A) B₀ (m .period .0) (m .regulator .0 + m .regulator .0) (six A c 0 rows) (six A c (c + c + c) rows)
-success-unit p G H rows m {l} {d} {c} r A B₀ st =
-    subst (λ x. UnitOf (setting A) B₀ x (m .regulator .0 + m .regulator .0) (six A c 0 rows) (six A c (c + c + c) rows)) (sym (r .period))
-    (subst (λ x. UnitOf (setting A) B₀ l x (six A c 0 rows) (six A c (c + c + c) rows)) (sym (r .regulator)) (r .rows-hold .unit A B₀ st))
+    UnitOf (setting A) k B₀ (m .period .0) (m .regulator .0 + m .regulator .0) (six A c 0 rows) (six A c (c + c + c) rows)
+success-unit p G H rows m {k} {l} {d} {c} r A B₀ st =
+    subst (λ x. UnitOf (setting A) k B₀ x (m .regulator .0 + m .regulator .0) (six A c 0 rows) (six A c (c + c + c) rows)) (sym (r .period))
+    (subst (λ x. UnitOf (setting A) k B₀ l x (six A c 0 rows) (six A c (c + c + c) rows)) (sym (r .regulator)) (r .rows-hold .unit A B₀ st))

@@ -9,6 +9,7 @@ use Rattle.math_ideals.specs.Setting.{Setting}
 use Rattle.math_ideals.specs.Ideal.{Basis}
 use Rattle.math_ideals.specs.Next.{Start}
 use Rattle.math_chain.specs.Chain.{Chain, Closing}
+use Rattle.math_chain.specs.Convention.{Convention, number}
 use Rattle.math_chain.proofs.Walk.{chain-good, open-none}
 use Rattle.math_chain.proofs.Closing.{closing-start}
 use Rattle.math_chain.proofs.Exists.{order-exists}
@@ -70,18 +71,21 @@ period-back p n G H o h z A B₀ st =
 
 -- ---- the unit
 pub unit-is :
-    (p n : ℕ) (G H rows scratch rows′ scratch′ : List ℕ) (m : UnitAnswer) →
-    Makes p G H n rows scratch m rows′ scratch′ → m .refusal ≡ 0 →
-    UnitRows p G H m rows′
-unit-is p n G H rows scratch rows′ scratch′ m h z =
-    let (c, l, d, f, r) = unit-made p n G H rows scratch rows′ scratch′ m h z in
-    record {
-      c = c;
-      long = r .rows-hold .whole;
-      unit = success-unit p G H rows′ m r;
-      period = λ A B₀ st. let u = success-unit p G H rows′ m r A B₀ st in back-first (setting A) B₀ st _ _ (u .B) (u .closing);
-      degree = λ A. let (B₀, st) = order-exists (setting A) in unit-degree (setting A) B₀ st (success-unit p G H rows′ m r A B₀ st) .0;
-    }
+    (i p n : ℕ) (G H rows scratch rows′ scratch′ : List ℕ) (m : UnitAnswer) →
+    Makes i p G H n rows scratch m rows′ scratch′ → m .refusal ≡ 0 →
+    (k : Convention) × (number k ≡ i) × UnitRows k p G H m rows′
+unit-is i p n G H rows scratch rows′ scratch′ m h z =
+    let (k, c, l, d, e, r) = unit-made i p n G H rows scratch rows′ scratch′ m h z in (
+      k,
+      e,
+      record {
+        c = c;
+        long = r .rows-hold .whole;
+        unit = success-unit p G H rows′ m r;
+        period = λ A B₀ st. let u = success-unit p G H rows′ m r A B₀ st in back-first (setting A) B₀ st _ _ (u .B) (u .closing);
+        degree = λ A. let (B₀, st) = order-exists (setting A) in unit-degree (setting A) B₀ st (success-unit p G H rows′ m r A B₀ st) .0;
+      },
+    )
 
 pub demand-2 : Demand2
 demand-2 = record {
@@ -92,7 +96,7 @@ demand-2 = record {
   walk-closing = λ w h z. walk-closed _ _ _ _ _ w h z .closes;
   walk-period = λ w f h z. closes-first f (walk-closed _ _ _ _ _ w h z .closes);
   period = λ o h z A B₀ st. period-back _ _ _ _ o h z A B₀ st;
-  unit = λ m h z. unit-is _ _ _ _ _ _ _ _ m h z;
+  unit = λ m h z. unit-is _ _ _ _ _ _ _ _ _ m h z;
   taken-up = λ t. together _ _ _ _ t;
   taken-up-period = λ f t z. closes-first f (together _ _ _ _ t .closes z);
   taken-up-agrees = λ o f t z h y. together-agrees _ _ _ _ o f t z h y;
@@ -102,15 +106,15 @@ demand-2 = record {
   step-tabled = λ s h. step-tabled _ _ _ _ s h;
   walk-tabled = λ w h. walk-tabled _ _ _ _ _ w h;
   period-tabled = λ o h. period-tabled _ _ _ _ o h;
-  unit-tabled = λ m h. unit-tabled _ _ _ _ _ _ m _ _ h;
+  unit-tabled = λ m h. unit-tabled _ _ _ _ _ _ _ m _ _ h;
   walk-zero = λ {p} {G} {H} {B} w A r h.
       walk-tabled p G H 0 B w h .no-closing .1 (A, omega arith, r, open-none (setting A) (basisOf A B));
   period-zero = λ {p} {G} {H} o A h.
       let (B₀, st) = order-exists (setting A) in
       period-tabled p G H 0 o h .no-closing .1 (A, omega arith, B₀, st, open-none (setting A) B₀);
-  unit-zero = λ {p} {c} {G} {H} {rows} {scratch} {rows′} {scratch′} m A b h.
+  unit-zero = λ {k} {i} {p} {c} {G} {H} {rows} {scratch} {rows′} {scratch′} m A b h.
       let (B₀, st) = order-exists (setting A) in
-      unit-tabled p G H 0 rows scratch m rows′ scratch′ h .no-closing .1 (A, c, b, B₀, st, open-none (setting A) B₀);
+      unit-tabled p G H i 0 rows scratch m rows′ scratch′ h .no-closing .1 (A, k, c, b, B₀, st, open-none (setting A) B₀);
   written-accepted = λ bs o. writing-accepted bs o;
   reads-back = λ bs o. (written-count bs o, reads-back bs o);
   accepted-written = λ s b a. (book-obeys s b a, book-back s b a);

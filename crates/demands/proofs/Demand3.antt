@@ -73,6 +73,6 @@ demand-3 = record {
   );
   exactly-one = λ A B₀ u. u .inverse;
   rows-one = λ m h z.
-      let u = unit-is _ _ _ _ _ _ _ _ m h z in
+      let (k, e, u) = unit-is _ _ _ _ _ _ _ _ _ m h z in
       (u .c, u .long, λ A. let (B₀, st) = order-exists (setting A) in u .unit A B₀ st .inverse);
 }

@@ -18,6 +18,7 @@ use Rattle.field_series.specs.Answer as series
 use Rattle.math_ideals.specs.Ideal.{Basis}
 use Rattle.math_ideals.specs.Next.{Start}
 use Rattle.math_chain.specs.Chain.{Closing, Open}
+use Rattle.math_chain.specs.Convention.{Convention, e0-monic}
 use Rattle.math_chain.proofs.Closing.{start-unique}
 use Rattle.math_chain.proofs.Exists.{order-exists}
 use Rattle.math_chain.proofs.Walk.{closing-unique}
@@ -295,7 +296,7 @@ module _ (p : ℕ) (G H : List ℕ) where
       let (B₀, st) = order-exists (setting A) in
       let (B, c) = f A B₀ st in
       let (E, F, u) = unit-exists (setting A) B₀ st c in
-      record { B₀ = B₀; E = E; F = F; l = _; d = _; unit = u; within = h; degree = unit-degree (setting A) B₀ st u .0 }
+      record { convention = e0-monic; B₀ = B₀; E = E; F = F; l = _; d = _; unit = u; within = h; degree = unit-degree (setting A) B₀ st u .0 }
 
   degree-settled : {n l d k : ℕ} (A : Accepted p G H) → unit.Finds p G H l d → UnitWithin A n k → k ≡ d
   degree-settled {d = d} {k} A f u =
@@ -305,11 +306,11 @@ module _ (p : ℕ) (G H : List ℕ) where
       let e = has-unique (setting A .𝓥) (u .degree) (unit-degree (setting A) (u .B₀) st (u .unit) .0) in
       omega arith
 
-  module _ (n : ℕ) (rows scratch : List ℕ) where
+  module _ (i n : ℕ) (rows scratch : List ℕ) where
     abbrev AtUnit : ℕ → Type 0
-    AtUnit = UnitTabled p G H n rows scratch
+    AtUnit = UnitTabled i p G H n rows scratch
 
-    same-c : {c c′ : ℕ} → unit.Lent c rows scratch n → unit.Lent c′ rows scratch n → c ≡ c′
+    same-c : {v v′ : Convention} {c c′ : ℕ} → unit.Lent i v c rows scratch n → unit.Lent i v′ c′ rows scratch n → c ≡ c′
     same-c x y = six-unique (x .six) (y .six)
 
     -- what closes within the budget does not stay open
@@ -329,23 +330,23 @@ module _ (p : ℕ) (G H : List ℕ) where
       only = inl hi;
     }
 
-    unit-out : Accepted p G H → ((c : ℕ) → unit.Lent c rows scratch n → ⊥) → AtUnit 14
+    unit-out : Accepted p G H → ((v : Convention) (c : ℕ) → unit.Lent i v c rows scratch n → ⊥) → AtUnit 14
     unit-out A f = record {
       field = field-passed 14 A (λ k lo hi e. omega arith);
       out-of-rule = both refl (A, f);
-      no-closing = neither (λ e. omega arith) (λ (A′, c, b, B₀, st, o). f c b);
-      no-room = neither (λ e. omega arith) (λ (A′, c, k, b, u, h). f c b);
-      passes = neither (λ e. omega arith) (λ (A′, c, k, b, u, h). f c b);
+      no-closing = neither (λ e. omega arith) (λ (A′, v, c, b, B₀, st, o). f v c b);
+      no-room = neither (λ e. omega arith) (λ (A′, v, c, k, b, u, h). f v c b);
+      passes = neither (λ e. omega arith) (λ (A′, v, c, k, b, u, h). f v c b);
       only = inr (inr (inr refl));
     }
 
-    unit-open : (c : ℕ) → Accepted p G H → unit.Lent c rows scratch n → unit.Misses p G H n → AtUnit 10
-    unit-open c A b o = record {
+    unit-open : (v : Convention) (c : ℕ) → Accepted p G H → unit.Lent i v c rows scratch n → unit.Misses p G H n → AtUnit 10
+    unit-open v c A b o = record {
       field = field-passed 10 A (λ k lo hi e. omega arith);
-      out-of-rule = neither (λ e. omega arith) (λ (A′, f). f c b);
-      no-closing = both refl (let (B₀, st) = order-exists (setting A) in (A, c, b, B₀, st, o A B₀ st));
-      no-room = neither (λ e. omega arith) (λ (A′, c′, k, b′, u, h). missed A′ u);
-      passes = neither (λ e. omega arith) (λ (A′, c′, k, b′, u, h). missed A′ u);
+      out-of-rule = neither (λ e. omega arith) (λ (A′, f). f v c b);
+      no-closing = both refl (let (B₀, st) = order-exists (setting A) in (A, v, c, b, B₀, st, o A B₀ st));
+      no-room = neither (λ e. omega arith) (λ (A′, v′, c′, k, b′, u, h). missed A′ u);
+      passes = neither (λ e. omega arith) (λ (A′, v′, c′, k, b′, u, h). missed A′ u);
       only = inr (inl refl);
     }
       where
@@ -354,33 +355,33 @@ module _ (p : ℕ) (G H : List ℕ) where
             let k = u .unit .closing in
             o A′ (u .B₀) (u .unit .start) _ _ (u .unit .B) (k .some) (u .within) (k .chain) (k .closed)
 
-    unit-narrow : {l d : ℕ} (c : ℕ) → Accepted p G H → unit.Lent c rows scratch n → l ≤ n → unit.Finds p G H l d → c ≤ d → AtUnit 11
-    unit-narrow {l} {d} c A b h f g = record {
+    unit-narrow : {l d : ℕ} (v : Convention) (c : ℕ) → Accepted p G H → unit.Lent i v c rows scratch n → l ≤ n → unit.Finds p G H l d → c ≤ d → AtUnit 11
+    unit-narrow {l} {d} v c A b h f g = record {
       field = field-passed 11 A (λ k lo hi e. omega arith);
-      out-of-rule = neither (λ e. omega arith) (λ (A′, f). f c b);
-      no-closing = neither (λ e. omega arith) (λ (A′, c′, b′, B₀, st, o). not-open h f A′ B₀ st o);
-      no-room = both refl (A, c, d, b, unit-within A h f, omega arith);
-      passes = neither (λ e. omega arith) (λ (A′, c′, k, b′, u, q).
+      out-of-rule = neither (λ e. omega arith) (λ (A′, f). f v c b);
+      no-closing = neither (λ e. omega arith) (λ (A′, v′, c′, b′, B₀, st, o). not-open h f A′ B₀ st o);
+      no-room = both refl (A, v, c, d, b, unit-within A h f, omega arith);
+      passes = neither (λ e. omega arith) (λ (A′, v′, c′, k, b′, u, q).
           let x : c ≡ c′ = same-c b b′ in let y : k ≡ d = degree-settled A′ f u in omega arith);
       only = inr (inr (inl refl));
     }
 
-    unit-passed : {l d : ℕ} (c : ℕ) → Accepted p G H → unit.Lent c rows scratch n → l ≤ n → unit.Finds p G H l d → d < c → AtUnit 0
-    unit-passed {l} {d} c A b h f g = record {
+    unit-passed : {l d : ℕ} (v : Convention) (c : ℕ) → Accepted p G H → unit.Lent i v c rows scratch n → l ≤ n → unit.Finds p G H l d → d < c → AtUnit 0
+    unit-passed {l} {d} v c A b h f g = record {
       field = field-passed 0 A (λ k lo hi e. omega arith);
-      out-of-rule = neither (λ e. omega arith) (λ (A′, f). f c b);
-      no-closing = neither (λ e. omega arith) (λ (A′, c′, b′, B₀, st, o). not-open h f A′ B₀ st o);
-      no-room = neither (λ e. omega arith) (λ (A′, c′, k, b′, u, q).
+      out-of-rule = neither (λ e. omega arith) (λ (A′, f). f v c b);
+      no-closing = neither (λ e. omega arith) (λ (A′, v′, c′, b′, B₀, st, o). not-open h f A′ B₀ st o);
+      no-room = neither (λ e. omega arith) (λ (A′, v′, c′, k, b′, u, q).
           let x : c ≡ c′ = same-c b b′ in let y : k ≡ d = degree-settled A′ f u in omega arith);
-      passes = both refl (A, c, d, b, unit-within A h f, omega arith);
+      passes = both refl (A, v, c, d, b, unit-within A h f, omega arith);
       only = inl (omega arith);
     }
 
-    pub unit-tabled : (m : UnitAnswer) (rows′ scratch′ : List ℕ) → unit.Makes p G H n rows scratch m rows′ scratch′ → AtUnit (m .refusal)
+    pub unit-tabled : (m : UnitAnswer) (rows′ scratch′ : List ℕ) → unit.Makes i p G H n rows scratch m rows′ scratch′ → AtUnit (m .refusal)
     unit-tabled m rows′ scratch′ = door-tabled AtUnit (λ k. refused-number) unit-refused case
       where
-        case : Accepted p G H → unit.Goes p G H n rows scratch m rows′ scratch′ → AtUnit (m .refusal)
+        case : Accepted p G H → unit.Goes i p G H n rows scratch m rows′ scratch′ → AtUnit (m .refusal)
         case A (unit.bad f r) = subst AtUnit (sym (refused-number r)) (unit-out A f)
-        case A (unit.spent c b o r) = subst AtUnit (sym (refused-number r)) (unit-open c A b o)
-        case A (unit.narrow c l d b h f g r) = subst AtUnit (sym (refused-number r)) (unit-narrow c A b h f g)
-        case A (unit.made c l d b h f g r) = subst AtUnit (sym (r .number)) (unit-passed c A b h f g)
+        case A (unit.spent v c b o r) = subst AtUnit (sym (refused-number r)) (unit-open v c A b o)
+        case A (unit.narrow v c l d b h f g r) = subst AtUnit (sym (refused-number r)) (unit-narrow v c A b h f g)
+        case A (unit.made v c l d b h f g r) = subst AtUnit (sym (r .number)) (unit-passed v c A b h f g)

@@ -22,6 +22,7 @@ use Rattle.math_ideals.specs.Element.{O, sc}
 use Rattle.math_ideals.specs.Ideal.{Basis}
 use Rattle.math_ideals.specs.Next.{Start}
 use Rattle.math_chain.specs.Chain.{Chain, Product}
+use Rattle.math_chain.specs.Convention.{Convention}
 use Rattle.math_chain.specs.Unit.{UnitOf}
 use Rattle.basis_record.specs.Record.{setting, basisOf, IsRecord}
 use Rattle.door_order.specs.declared.OrderAnswer.{OrderAnswer}
@@ -92,13 +93,14 @@ pub record Demand3 : Type 0 where
       Accepted p G H × IsRecord p G H B
       × ((A : Accepted p G H) (B₀ : Basis (setting A)) → Start (setting A) B₀
       → (c : Chain (setting A) B₀ s d (basisOf A B)) × After (setting A) c)
-  -- "at closing, unit times inverse is exactly 1": of every closing chain, and of the rows that `unit` leaves in the slice
+  -- "at closing, unit times inverse is exactly 1": of every closing chain, and of the rows that `unit` leaves in the slice, under each
+  -- convention
   pub exactly-one :
-      {p : ℕ} {G H : List ℕ} (A : Accepted p G H) (B₀ : Basis (setting A)) {l d : ℕ} {E F : O (setting A) .El} →
-      UnitOf (setting A) B₀ l d E F →
+      {p : ℕ} {G H : List ℕ} (A : Accepted p G H) (B₀ : Basis (setting A)) {k : Convention} {l d : ℕ} {E F : O (setting A) .El} →
+      UnitOf (setting A) k B₀ l d E F →
       O (setting A) .ops .mul E F ≡ O (setting A) .ops .𝟏
   pub rows-one :
-      {p n : ℕ} {G H rows scratch rows′ scratch′ : List ℕ} (m : UnitAnswer) →
-      Makes p G H n rows scratch m rows′ scratch′ → m .refusal ≡ 0 →
+      {i p n : ℕ} {G H rows scratch rows′ scratch′ : List ℕ} (m : UnitAnswer) →
+      Makes i p G H n rows scratch m rows′ scratch′ → m .refusal ≡ 0 →
       (c : ℕ) × (length rows′ ≡ 6 * c)
       × ((A : Accepted p G H) → O (setting A) .ops .mul (six A c 0 rows′) (six A c (c + c + c) rows′) ≡ O (setting A) .ops .𝟏)

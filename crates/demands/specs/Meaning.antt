@@ -1,8 +1,10 @@
 -- Demand 2: "Each basis handed out is the one scaled reduced basis of the ideal it stands for; the period is the first count of steps at
--- which the chain is back at the whole order, the regulator half the degree passed, the unit the product of the minima passed with E0
--- monic. A book written reads back as the same rows, and an accepted book has one writing."
+-- which the chain is back at the whole order, the regulator half the degree passed, the unit the product of the minima passed, scaled by
+-- the named convention. A book written reads back as the same rows, and an accepted book has one writing." (Request E6: "Demand 2's "E0
+-- monic" reads "scaled by the named convention"".)
 --   BackFirst B₀ l d        l is the first count of steps at which the chain from B₀ is back at the whole order, and d the degree passed
---   UnitRows p G H m rows   the rows beside the answer m hold the unit and its inverse, with m's period and regulator
+--   UnitRows k p G H m rows the rows beside the answer m hold the unit, scaled by the convention k, and its inverse, with m's period and
+--                           regulator
 --   Demand2                 the demand, a field for each clause and each function that it speaks of
 -- How to read it: each field takes an outcome that meets the contract of a public function and gives its meaning in the words of the
 -- theory; after `≡ 0` it is no refusal. `Start B` says that B is the scaled reduced basis of the whole order. When each refusal comes is
@@ -22,6 +24,7 @@ use Rattle.math_ideals.specs.Element.{ev}
 use Rattle.math_ideals.specs.Ideal.{Basis}
 use Rattle.math_ideals.specs.Next.{Next, Same, Start}
 use Rattle.math_chain.specs.Chain.{Degree, Chain}
+use Rattle.math_chain.specs.Convention.{Convention, number}
 use Rattle.math_chain.specs.Unit.{UnitOf}
 use Rattle.basis_record.specs.Record.{setting, basisOf, IsRecord}
 use Rattle.door_order.specs.declared.OrderAnswer.{OrderAnswer}
@@ -49,14 +52,14 @@ pub record BackFirst (S : Setting) (B₀ : Basis S) (l d : ℕ) : Type 0 where
   pub back : Chain S B₀ l d B₀
   pub first : (m e : ℕ) (B : Basis S) → 1 ≤ m → m < l → Chain S B₀ m e B → Start S B → ⊥
 
-pub record UnitRows (p : ℕ) (G H : List ℕ) (m : UnitAnswer) (rows : List ℕ) : Type 0 where
+pub record UnitRows (k : Convention) (p : ℕ) (G H : List ℕ) (m : UnitAnswer) (rows : List ℕ) : Type 0 where
   -- six rows of c coefficients: E from the first three, its inverse from the last three
   pub c : ℕ
   pub long : length rows ≡ 6 * c
   pub unit :
       (A : Accepted p G H) (B₀ : Basis (setting A)) →
       Start (setting A) B₀ →
-      UnitOf (setting A) B₀ (m .period .0) (m .regulator .0 + m .regulator .0) (six A c 0 rows) (six A c (c + c + c) rows)
+      UnitOf (setting A) k B₀ (m .period .0) (m .regulator .0 + m .regulator .0) (six A c 0 rows) (six A c (c + c + c) rows)
   pub period :
       (A : Accepted p G H) (B₀ : Basis (setting A)) →
       Start (setting A) B₀ →
@@ -103,10 +106,11 @@ pub record Demand2 : Type 0 where
       (A : Accepted p G H) (B₀ : Basis (setting A)) →
       Start (setting A) B₀ →
       BackFirst (setting A) B₀ (o .period .0) (o .regulator .0 + o .regulator .0)
+  -- the unit the product of the minima passed, scaled by the convention that the number i names; `unit` names 1
   pub unit :
-      {p n : ℕ} {G H rows scratch rows′ scratch′ : List ℕ} (m : UnitAnswer) →
-      Makes p G H n rows scratch m rows′ scratch′ → m .refusal ≡ 0 →
-      UnitRows p G H m rows′
+      {i p n : ℕ} {G H rows scratch rows′ scratch′ : List ℕ} (m : UnitAnswer) →
+      Makes i p G H n rows scratch m rows′ scratch′ → m .refusal ≡ 0 →
+      (k : Convention) × (number k ≡ i) × UnitRows k p G H m rows′
   -- walks taken up again, any number of them: one chain, and from the order period and twice the regulator
   pub taken-up :
       {p s d : ℕ} {G H B : List ℕ} {w : WalkAnswer} →
@@ -134,9 +138,9 @@ pub record Demand2 : Type 0 where
   pub walk-tabled : {p n : ℕ} {G H B : List ℕ} (w : WalkAnswer) → Walks p G H n B w → WalkTabled p G H n B (w .refusal)
   pub period-tabled : {p n : ℕ} {G H : List ℕ} (o : PeriodAnswer) → FromOrder p G H n o → PeriodTabled p G H n (o .refusal)
   pub unit-tabled :
-      {p n : ℕ} {G H rows scratch rows′ scratch′ : List ℕ} (m : UnitAnswer) →
-      Makes p G H n rows scratch m rows′ scratch′ →
-      UnitTabled p G H n rows scratch (m .refusal)
+      {i p n : ℕ} {G H rows scratch rows′ scratch′ : List ℕ} (m : UnitAnswer) →
+      Makes i p G H n rows scratch m rows′ scratch′ →
+      UnitTabled i p G H n rows scratch (m .refusal)
   -- "B = 0 with nothing refused before is always 10"
   pub walk-zero :
       {p : ℕ} {G H B : List ℕ} (w : WalkAnswer) →
@@ -149,9 +153,9 @@ pub record Demand2 : Type 0 where
       FromOrder p G H 0 o →
       o .refusal ≡ 10
   pub unit-zero :
-      {p c : ℕ} {G H rows scratch rows′ scratch′ : List ℕ} (m : UnitAnswer) →
-      Accepted p G H → Lent c rows scratch 0 →
-      Makes p G H 0 rows scratch m rows′ scratch′ →
+      {k : Convention} {i p c : ℕ} {G H rows scratch rows′ scratch′ : List ℕ} (m : UnitAnswer) →
+      Accepted p G H → Lent i k c rows scratch 0 →
+      Makes i p G H 0 rows scratch m rows′ scratch′ →
       m .refusal ≡ 10
   -- the book
   pub written-accepted : (bs : List Body) → Obeys bs → book.Accepted (bookBytes bs)

@@ -6,9 +6,11 @@
 --   RecordTabled p G H B x              the table of `check` and of `step`, of the rows B
 --   WalkTabled p G H n B x              the table of `walk`, from the rows B with the budget n
 --   PeriodTabled p G H n x              the table of `from_order`, with the budget n
---   UnitTabled p G H n rows scratch x   the table of `unit`, with the budget n and the two lent slices
+--   UnitTabled i p G H n rows scratch x the table of `unit` and of `unit_scaled`, with the convention's number i, the budget n and the two
+--                                       lent slices
 --   ClosesWithin B₀ n                   a count of steps from 1 to n closes; that none does is `Open B₀ n` of crate math_chain
---   UnitWithin A n k                    a walk of at most n steps from the order closes, and the unit E has degree k, that of its series
+--   UnitWithin A n k                    a walk of at most n steps from the order closes, and the unit E has degree k, that of its series: it
+--                                       is the same under each convention
 -- How to read it: x is the number of the answer, 0 for none; `Refusal p G H k` says that k is the number of the field's first fault of 1 to
 -- 8; A says that the field is accepted, and B₀ is the basis of the order. What each number asks takes in that none before it came.
 -- The fields `..-tabled` of Demand2 say it of every outcome that meets the function's contract; their proofs are in proofs/Tabled.antt.
@@ -26,6 +28,7 @@ use Rattle.math_ideals.specs.Element.{O, ev}
 use Rattle.math_ideals.specs.Ideal.{Basis}
 use Rattle.math_ideals.specs.Next.{Start}
 use Rattle.math_chain.specs.Chain.{Chain, Open}
+use Rattle.math_chain.specs.Convention.{Convention}
 use Rattle.math_chain.specs.Unit.{UnitOf}
 use Rattle.basis_record.specs.Record.{setting, basisOf, IsRecord}
 use Rattle.door_unit.specs.Unit.{Lent}
@@ -72,22 +75,23 @@ pub record PeriodTabled (p : ℕ) (G H : List ℕ) (n : ℕ) (x : ℕ) : Type 0 
   pub only : (x ≤ 8) ⊎ (x ≡ 10) ⊎ (x ≡ 14)
 
 pub record UnitWithin {p : ℕ} {G H : List ℕ} (A : Accepted p G H) (n k : ℕ) : Type 0 where
+  pub convention : Convention
   pub B₀ : Basis (setting A)
   pub E : O (setting A) .El
   pub F : O (setting A) .El
   pub l : ℕ
   pub d : ℕ
-  pub unit : UnitOf (setting A) B₀ l d E F
+  pub unit : UnitOf (setting A) convention B₀ l d E F
   pub within : l ≤ n
   pub degree : Has (setting A .𝓥) (ev (setting A) E) k
 
-pub record UnitTabled (p : ℕ) (G H : List ℕ) (n : ℕ) (rows scratch : List ℕ) (x : ℕ) : Type 0 where
+pub record UnitTabled (i p : ℕ) (G H : List ℕ) (n : ℕ) (rows scratch : List ℕ) (x : ℕ) : Type 0 where
   pub field : FieldTabled p G H x
-  -- "lent lengths or B out of their rule": there is no c for which they are within it
-  pub out-of-rule : (x ≡ 14) ↔ (Accepted p G H × ((c : ℕ) → Lent c rows scratch n → ⊥))
+  -- "lent lengths or B out of their rule", "any other convention number": there are no convention and no c for which they are within it
+  pub out-of-rule : (x ≡ 14) ↔ (Accepted p G H × ((by : Convention) (c : ℕ) → Lent i by c rows scratch n → ⊥))
   pub no-closing : (x ≡ 10)
-      ↔ ((A : Accepted p G H) × (c : ℕ) × Lent c rows scratch n × (B₀ : Basis (setting A)) × Start (setting A) B₀ × Open (setting A) B₀ n)
+      ↔ ((A : Accepted p G H) × (by : Convention) × (c : ℕ) × Lent i by c rows scratch n × (B₀ : Basis (setting A)) × Start (setting A) B₀ × Open (setting A) B₀ n)
   -- "11 for a unit is given exactly when c is less than deg E + 1"
-  pub no-room : (x ≡ 11) ↔ ((A : Accepted p G H) × (c k : ℕ) × Lent c rows scratch n × UnitWithin A n k × (c < k + 1))
-  pub passes : (x ≡ 0) ↔ ((A : Accepted p G H) × (c k : ℕ) × Lent c rows scratch n × UnitWithin A n k × (k + 1 ≤ c))
+  pub no-room : (x ≡ 11) ↔ ((A : Accepted p G H) × (by : Convention) × (c k : ℕ) × Lent i by c rows scratch n × UnitWithin A n k × (c < k + 1))
+  pub passes : (x ≡ 0) ↔ ((A : Accepted p G H) × (by : Convention) × (c k : ℕ) × Lent i by c rows scratch n × UnitWithin A n k × (k + 1 ≤ c))
   pub only : (x ≤ 8) ⊎ (x ≡ 10) ⊎ (x ≡ 11) ⊎ (x ≡ 14)

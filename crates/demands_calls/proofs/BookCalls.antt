@@ -195,7 +195,7 @@ addable t z l a (add.known h _ f j k o e q) = inr (inl e)
 addable t z l a (add.short h _ f u o e q) = inr (inr e)
 addable t z l a (add.added h _ f u g k e q) = inl (number-of e)
 
-unit-attested : {p k : ℕ} {G H rows scratch rows′ scratch′ : List ℕ} (m : UnitAnswer) → Makes p G H k rows scratch m rows′ scratch′ → m .refusal ≡ 0
+unit-attested : {p k : ℕ} {G H rows scratch rows′ scratch′ : List ℕ} (m : UnitAnswer) → Makes 1 p G H k rows scratch m rows′ scratch′ → m .refusal ≡ 0
     → (c : ℕ) → length rows′ ≡ 6 * c
     → {w w′ : List ℕ} {x : Said} → write.WriteTells (unitBody p G H m c rows′) w x w′ → x .number ≡ 0
     → {n : ℕ} {d d′ : List ℕ} {y : Said} → Bytes d → add.AddTells d n (take (x .result) w′) y d′ → y .number ≡ 0

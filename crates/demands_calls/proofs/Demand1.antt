@@ -11,6 +11,7 @@ use Rattle.door_period.proofs.Order.{from-order-unique}
 use Rattle.door_unit.proofs.Once.{makes-unique}
 use Rattle.door_compare.proofs.Once.{refusals-unique, compares-unique}
 use Rattle.door_transfer.proofs.Once.{transfers-unique}
+use Rattle.door_rescale.proofs.Once.{rescales-unique}
 use Rattle.book_body.proofs.One.{list-unique, list-kept}
 use Rattle.book_write.proofs.One.{write-unique, write-kept}
 use Rattle.book_check.proofs.One.{tells-unique, ask-unique, part-unique}
@@ -31,6 +32,7 @@ demand-1 = record {
   series-kept = series.answer-kept;
   unit-kept = kept.unit-kept;
   transfer-kept = kept.transfer-kept;
+  rescale-kept = kept.rescale-kept;
   list-kept = list-kept;
   write-kept = write-kept;
   add-kept = kept.add-kept;
@@ -47,11 +49,12 @@ demand-1 = record {
   walk-fixed = λ v w h k. walks-unique _ _ _ _ _ v w h k;
   from-order-fixed = λ v w h k. from-order-unique _ _ _ _ v w h k;
   unit-fixed = λ m m′ h k.
-      let s = makes-unique _ _ _ _ _ _ m m′ _ _ _ _ h k in (
+      let s = makes-unique _ _ _ _ _ _ _ m m′ _ _ _ _ h k in (
         (λ i. record { refusal = s .number i; period = record { 0 = s .period i }; regulator = record { 0 = s .regulator i } }),
         s .rows-same,
         s .scratch-same,
       );
+  rescale-fixed = λ h k. rescales-unique _ _ _ _ _ _ _ _ _ _ h k;
   pairs-fixed = λ h k. refusals-unique h k;
   compare-fixed = λ a b h k. compares-unique h k;
   transfer-fixed = λ h k. transfers-unique _ _ _ _ _ _ _ _ _ _ h k;

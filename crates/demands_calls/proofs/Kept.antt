@@ -1,5 +1,5 @@
 -- What a refusal leaves, by the contract's cases.
---   unit-kept transfer-kept     the rows, and the scratch
+--   unit-kept transfer-kept rescale-kept   the rows, and the scratch
 --   add-kept parse-kept         the lent slices; of a list and of a body written: list-kept (book_body), write-kept (book_write)
 --   answer-kept                 of a slice into which an answer goes: what stands before it, and its length
 --   pass-kept                   everything, where the slice is too short for an answer
@@ -17,6 +17,7 @@ use Rattle.door_unit.specs.declared.UnitAnswer.{UnitAnswer}
 use Rattle.door_unit.specs.Unit as unit
 use Rattle.door_compare.proofs.Doors.{doors-out}
 use Rattle.door_transfer.specs.Transfer as transfer
+use Rattle.door_rescale.specs.Rescale as rescale
 use Rattle.book_add.specs.Add as add
 use Rattle.text_read.specs.Tells.{ParseTells}
 use Rattle.text_read.specs.declared.Parsed.{Parsed}
@@ -25,15 +26,15 @@ use Rattle.lister.specs.Listing as lister
 use Rattle.lister.specs.declared.Going.{Going}
 use Rattle.demands_calls.specs.Numbers.{parseSays}
 
-pub unit-kept : {p n : ℕ} {G H rows scratch rows′ scratch′ : List ℕ} (m : UnitAnswer) → unit.Makes p G H n rows scratch m rows′ scratch′
+pub unit-kept : {i p n : ℕ} {G H rows scratch rows′ scratch′ : List ℕ} (m : UnitAnswer) → unit.Makes i p G H n rows scratch m rows′ scratch′
     → m .refusal ≢ 0 → (rows′ ≡ rows) × (scratch′ ≡ scratch)
-unit-kept {p} {n} {G} {H} {rows} {scratch} {rows′} {scratch′} m h f = door-out (λ k g l r. (r .rows-same, r .scratch-same)) (λ A. goes) h
+unit-kept {i} {p} {n} {G} {H} {rows} {scratch} {rows′} {scratch′} m h f = door-out (λ k g l r. (r .rows-same, r .scratch-same)) (λ A. goes) h
   where
-    goes : unit.Goes p G H n rows scratch m rows′ scratch′ → (rows′ ≡ rows) × (scratch′ ≡ scratch)
+    goes : unit.Goes i p G H n rows scratch m rows′ scratch′ → (rows′ ≡ rows) × (scratch′ ≡ scratch)
     goes (unit.bad g r) = (r .rows-same, r .scratch-same)
-    goes (unit.spent c b g r) = (r .rows-same, r .scratch-same)
-    goes (unit.narrow c l d b h g k r) = (r .rows-same, r .scratch-same)
-    goes (unit.made c l d b h g k r) = absurd (f (r .number))
+    goes (unit.spent v c b g r) = (r .rows-same, r .scratch-same)
+    goes (unit.narrow v c l d b h g k r) = (r .rows-same, r .scratch-same)
+    goes (unit.made v c l d b h g k r) = absurd (f (r .number))
 
 pub transfer-kept : {p n : ℕ} {G H G′ H′ rows rows′ : List ℕ} → transfer.Transfers p G H G′ H′ rows n rows′ → n ≢ 0 → rows′ ≡ rows
 transfer-kept {p} {n} {G} {H} {G′} {H′} {rows} {rows′} h g = doors-out (λ k f l e. e .kept) (λ t. goes) h
@@ -41,6 +42,13 @@ transfer-kept {p} {n} {G} {H} {G′} {H′} {rows} {rows′} h g = doors-out (λ
     goes : transfer.Goes p G H G′ H′ rows n rows′ → rows′ ≡ rows
     goes (transfer.unfit u e) = e .kept
     goes (transfer.carried c l k m w) = absurd (g k)
+
+pub rescale-kept : {p i j n : ℕ} {G H rows rows′ : List ℕ} → rescale.Rescales p G H i j rows n rows′ → n ≢ 0 → rows′ ≡ rows
+rescale-kept {p} {i} {j} {n} {G} {H} {rows} {rows′} h g = door-out (λ k f l e. e .kept) (λ A. goes) h
+  where
+    goes : rescale.Goes p G H i j rows n rows′ → rows′ ≡ rows
+    goes (rescale.unfit u e) = e .kept
+    goes (rescale.turned k k′ c a b s z t) = absurd (g z)
 
 -- ---- the book
 pub add-kept : {n : ℕ} {d b d′ : List ℕ} {x : Said} → add.AddTells d n b x d′ → x .number ≢ 0 → d′ ≡ d

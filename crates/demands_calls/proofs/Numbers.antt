@@ -24,6 +24,7 @@ use Rattle.walk_chain.specs.declared.WalkAnswer.{WalkAnswer}
 use Rattle.walk_chain.specs.Walk as walks
 use Rattle.door_period.specs.declared.PeriodAnswer.{PeriodAnswer}
 use Rattle.door_period.specs.Order as told
+use Rattle.math_chain.specs.Convention.{e0-monic}
 use Rattle.door_unit.specs.declared.UnitAnswer.{UnitAnswer}
 use Rattle.door_unit.specs.Unit as made
 use Rattle.door_unit.proofs.Once.{refused-number}
@@ -31,6 +32,7 @@ use Rattle.door_compare.specs.declared.CompareAnswer.{CompareAnswer}
 use Rattle.door_compare.specs.Answer as compared
 use Rattle.door_compare.proofs.Doors.{doors-out}
 use Rattle.door_transfer.specs.Transfer as carried
+use Rattle.door_rescale.specs.Rescale as turned
 use Rattle.book_body.specs.Body.{Body}
 use Rattle.book_body.specs.Code as code
 use Rattle.book_write.specs.Write as written
@@ -56,7 +58,7 @@ use Rattle.lister_print.specs.Text.{unit-text, made-text}
 use Rattle.lister_print.proofs.Prints.{made-unit, made-refused}
 use Rattle.lister.specs.Listing as listing
 use Rattle.demands_calls.specs.Numbers.{Numbered, Says, refuses, answers, Gives}
-use Rattle.demands_calls.specs.Numbers.{refusal, open-field, series, open-series, order, check, step, walk, from-order, unit, pairs, compare, transfer}
+use Rattle.demands_calls.specs.Numbers.{refusal, open-field, series, open-series, order, check, step, walk, from-order, unit, rescale, pairs, compare, transfer}
 use Rattle.demands_calls.specs.Numbers.{book, ask, attest, list, write, add, parse, line, end}
 use Rattle.demands_calls.specs.Numbers.{order-c, step-c, walk-c, from-order-c, unit-c, one-field-c, book-c, ask-c, attest-c, begin-c, prime-c, period-c, list-c, rows-c, write-c, add-c}
 use Rattle.base_answers.proofs.Said.{number-of}
@@ -170,15 +172,15 @@ told-goes o (told.spent l B f g e) = inr (inl (ap (λ (x : PeriodAnswer). x .ref
 from-order-numbered : {p n : ℕ} {G H : List ℕ} (o : PeriodAnswer) → told.FromOrder p G H n o → Numbered 8 (10 ∷ 14 ∷ []) (o .refusal)
 from-order-numbered o = door-out (λ k f l e. refused-of (omega arith) l (ap (λ (x : PeriodAnswer). x .refusal) e)) (λ A. told-goes o)
 
-unit-goes : {p n : ℕ} {G H rows scratch rows′ scratch′ : List ℕ} (m : UnitAnswer)
-    → made.Goes p G H n rows scratch m rows′ scratch′ → Numbered 8 (10 ∷ 11 ∷ 14 ∷ []) (m .refusal)
+unit-goes : {i p n : ℕ} {G H rows scratch rows′ scratch′ : List ℕ} (m : UnitAnswer)
+    → made.Goes i p G H n rows scratch m rows′ scratch′ → Numbered 8 (10 ∷ 11 ∷ 14 ∷ []) (m .refusal)
 unit-goes m (made.bad f r) = inr (inr (inr (inl (refused-number r))))
-unit-goes m (made.spent c b f r) = inr (inl (refused-number r))
-unit-goes m (made.narrow c l d b s f g r) = inr (inr (inl (refused-number r)))
-unit-goes m (made.made c l d b s f g r) = zero-of (r .number)
+unit-goes m (made.spent v c b f r) = inr (inl (refused-number r))
+unit-goes m (made.narrow v c l d b s f g r) = inr (inr (inl (refused-number r)))
+unit-goes m (made.made v c l d b s f g r) = zero-of (r .number)
 
-unit-numbered : {p n : ℕ} {G H rows scratch rows′ scratch′ : List ℕ} (m : UnitAnswer)
-    → made.Makes p G H n rows scratch m rows′ scratch′ → Numbered 8 (10 ∷ 11 ∷ 14 ∷ []) (m .refusal)
+unit-numbered : {i p n : ℕ} {G H rows scratch rows′ scratch′ : List ℕ} (m : UnitAnswer)
+    → made.Makes i p G H n rows scratch m rows′ scratch′ → Numbered 8 (10 ∷ 11 ∷ 14 ∷ []) (m .refusal)
 unit-numbered m = door-out (λ k f l r. refused-of (omega arith) l (refused-number r)) (λ A. unit-goes m)
 
 compare-numbered : {p : ℕ} {G H G′ H′ : List ℕ} (a : CompareAnswer) → compared.Compares p G H G′ H′ a → Numbered 8 [] (a .refusal)
@@ -187,6 +189,10 @@ compare-numbered a = doors-out (λ k f l e. refused-of (omega arith) l (ap (λ (
 transfer-goes : {p n : ℕ} {G H G′ H′ rows rows′ : List ℕ} → carried.Goes p G H G′ H′ rows n rows′ → Numbered 8 (14 ∷ []) n
 transfer-goes (carried.unfit u e) = inr (inl (e .number))
 transfer-goes (carried.carried c l e m w) = zero-of e
+
+rescale-goes : {p i j n : ℕ} {G H rows rows′ : List ℕ} → turned.Goes p G H i j rows n rows′ → Numbered 8 (14 ∷ []) n
+rescale-goes (turned.unfit u e) = inr (inl (e .number))
+rescale-goes (turned.turned k k′ c a b s z t) = zero-of z
 
 -- ---- a line: the text of a refusal says its number, and no unit's text is one
 -- the digits stand between the word and the newline
@@ -238,18 +244,18 @@ made-not p G H m rows h z n e =
     omega (arith, d, f, g)
 
 -- what `unit` gives for a line: two blank slices of 6 · 1,024 numbers and the budget 1,000 are within their rule, so that 14 does not come
-line-unit : {p : ℕ} {G H rows scratch : List ℕ} (m : UnitAnswer) → made.Makes p G H listing.budget listing.blank listing.blank m rows scratch
+line-unit : {p : ℕ} {G H rows scratch : List ℕ} (m : UnitAnswer) → made.Makes 1 p G H listing.budget listing.blank listing.blank m rows scratch
     → Numbered 8 (10 ∷ 11 ∷ 12 ∷ []) (m .refusal)
 line-unit {p} {G} {H} {rows} {scratch} m = door-out (λ k f l r. refused-of (omega arith) l (refused-number r)) (λ A. goes)
   where
-    lent : made.Lent 1024 listing.blank listing.blank listing.budget
-    lent = record { six = record { room = omega arith; whole = length-replicate {A = ℕ} 6144 0 }; even = refl; budget = omega arith }
+    lent : made.Lent 1 e0-monic 1024 listing.blank listing.blank listing.budget
+    lent = record { named = refl; six = record { room = omega arith; whole = length-replicate {A = ℕ} 6144 0 }; even = refl; budget = omega arith }
 
-    goes : made.Goes p G H listing.budget listing.blank listing.blank m rows scratch → Numbered 8 (10 ∷ 11 ∷ 12 ∷ []) (m .refusal)
-    goes (made.bad f r) = absurd (f 1024 lent)
-    goes (made.spent c b f r) = inr (inl (refused-number r))
-    goes (made.narrow c l d b s f g r) = inr (inr (inl (refused-number r)))
-    goes (made.made c l d b s f g r) = zero-of (r .number)
+    goes : made.Goes 1 p G H listing.budget listing.blank listing.blank m rows scratch → Numbered 8 (10 ∷ 11 ∷ 12 ∷ []) (m .refusal)
+    goes (made.bad f r) = absurd (f e0-monic 1024 lent)
+    goes (made.spent v c b f r) = inr (inl (refused-number r))
+    goes (made.narrow v c l d b s f g r) = inr (inr (inl (refused-number r)))
+    goes (made.made v c l d b s f g r) = zero-of (r .number)
 
 line-numbered : {s t : List ℕ} {n : ℕ} → listing.Lists s t → Says t n → Numbered 8 (10 ∷ 11 ∷ 12 ∷ []) n
 line-numbered (listing.malformed f) (refuses n e) = inr (inr (inr (inl (refused-unique n 12 (sym e)))))
@@ -292,6 +298,7 @@ numbered (step s h) = step-numbered s h
 numbered (walk w h) = walk-numbered w h
 numbered (from-order o h) = from-order-numbered o h
 numbered (unit m h) = unit-numbered m h
+numbered (rescale h) = door-out (λ k f l r. refused-of (omega arith) l (r .number)) (λ A. rescale-goes) h
 numbered (pairs h) = doors-out (λ k f l e. refused-of (omega arith) l e) (λ t e. zero-of e) h
 numbered (compare a h) = compare-numbered a h
 numbered (transfer h) = doors-out (λ k f l r. refused-of (omega arith) l (r .number)) (λ t. transfer-goes) h

@@ -29,6 +29,7 @@ use Rattle.door_unit.specs.Unit.{Makes}
 use Rattle.door_unit.proofs.Once.{refused-number}
 use Rattle.door_compare.specs.Answer.{Refusals, Compares}
 use Rattle.door_transfer.specs.Transfer.{Transfers}
+use Rattle.door_rescale.specs.Rescale.{Rescales}
 use Rattle.book_body.specs.Body.{Body, FieldSays, bodyOf}
 use Rattle.book_write.specs.Write.{bodyFrom, WriteTells}
 use Rattle.book_rows.specs.Rows.{RowsSays}
@@ -74,7 +75,7 @@ kept G H o h z =
     let w = k (A .degG) (A .degH) (A .listG) (A .listH) in
     (w .rowG ∙ ap pad (trim-G G H A), w .rowH ∙ ap pad (trim-H G H A))
 
-unit-accepted : {p : ℕ} {G H : List ℕ} {n : ℕ} {rows scratch r s : List ℕ} {m : UnitAnswer} → Makes p G H n rows scratch m r s → m .refusal ≡ 0 → Accepted p G H
+unit-accepted : {i p : ℕ} {G H : List ℕ} {n : ℕ} {rows scratch r s : List ℕ} {m : UnitAnswer} → Makes i p G H n rows scratch m r s → m .refusal ≡ 0 → Accepted p G H
 unit-accepted x = door-out (λ k f h y z. absurd (f (sym (refused-number y) ∙ z))) (λ A g z. A) x
 
 -- the unit's text is the field and what stands behind it
@@ -144,7 +145,8 @@ padded-lists = record {
   step-same = λ {p} {B = B} s s′ a b x y. D .step-fixed s s′ x (back a b (λ g h. Answers p g h B s′) y);
   walk-same = λ {p} {n} {B = B} v w a b x y. D .walk-fixed v w x (back a b (λ g h. Walks p g h n B w) y);
   from-order-same = λ {p} {n} v w a b x y. D .from-order-fixed v w x (back a b (λ g h. FromOrder p g h n w) y);
-  unit-same = λ {p} {n} {rows = rows} {scratch} {r′ = r′} {s′} m m′ a b x y. D .unit-fixed m m′ x (back a b (λ g h. Makes p g h n rows scratch m′ r′ s′) y);
+  unit-same = λ {i} {p} {n} {rows = rows} {scratch} {r′ = r′} {s′} m m′ a b x y. D .unit-fixed m m′ x (back a b (λ g h. Makes i p g h n rows scratch m′ r′ s′) y);
+  rescale-same = λ {p} {i} {j} {n} {n′} {rows = rows} {r′ = r′} a b x y. D .rescale-fixed x (back a b (λ g h. Rescales p g h i j rows n′ r′) y);
   pairs-same = λ {p} {m} {n} {K = K} {L} {G′} {H′} a b c d x y.
       D .pairs-fixed x (back a b (λ g h. Refusals p g h (unpad K) (unpad L) n) (back c d (λ k l. Refusals p (unpad G′) (unpad H′) k l n) y));
   compare-same = λ {p} {K = K} {L} {G′} {H′} v w a b c d x y.

@@ -1,4 +1,4 @@
--- The unit that `unit` made is a body of the book: its rows obey the body rule, and its norm is a constant.
+-- The unit that `unit` made, by convention 1, is a body of the book: its rows obey the body rule, and its norm is a constant.
 --   unit-sizes      E0 has the degree of the unit, an even number from 2 on; E1 and E2 are not 0; the norm is a constant
 --   row-list        a row that is not 0, without the zeros at its end, is a list of coefficients of its degree
 --   unit-bookable   the body of the unit can be written and attested
@@ -39,9 +39,11 @@ use Rattle.math_ideals.specs.Ideal.{Basis}
 use Rattle.math_ideals.specs.Next.{Start}
 use Rattle.math_ideals.proofs.Sizes.{ev-XZ, two-b, two-c}
 use Rattle.math_ideals.proofs.Form.{has-two, has-three}
+use Rattle.math_chain.specs.Convention.{Convention, e0-monic}
 use Rattle.math_chain.specs.Unit.{UnitOf}
 use Rattle.math_chain.proofs.Unit.{norm-unit, large, closing-pos, unit-degree}
 use Rattle.math_chain.proofs.Exists.{order-exists}
+use Rattle.math_chain.proofs.Scaling.{named-one}
 use Rattle.field_open.specs.Refusal.{Accepted}
 use Rattle.field_open.proofs.Stages.{refusal-unique}
 use Rattle.field_open.proofs.Accept.{accepted-none, with-prime}
@@ -83,7 +85,7 @@ module _ (S : Setting) where
   factor-has x {y} h = elim (view 𝓥 x) [ inl z ↦ absurd (not-zero 𝓥 h (ap (λ t. t * y) z ∙ rg.zero-mul′ L y)) | inr k ↦ k ]
 
   -- E1 r, E2 w and X are of the degree of E
-  pub unit-sizes : (B₀ : Basis S) → Start S B₀ → {l n : ℕ} {E F : O S .El} → UnitOf S B₀ l n E F → Sizes E n
+  pub unit-sizes : (B₀ : Basis S) → Start S B₀ → {k : Convention} {l n : ℕ} {E F : O S .El} → UnitOf S k B₀ l n E F → Sizes E n
   unit-sizes B₀ st {n = n} {E} {F} u =
       let (hE, hA, h, e) = unit-degree S B₀ st u in
       let pos = closing-pos S B₀ st (u .closing) in
@@ -169,23 +171,23 @@ record Made (p : ℕ) (G H : List ℕ) (n c : ℕ) (m : UnitAnswer) (rows : List
   sizes : (A : Accepted p G H) → Sizes (setting A) (six A c 0 rows) degree
   monic : (A : Accepted p G H) → Leads (setting A .𝓥) (six A c 0 rows .a .0) (setting A .𝓥 .K .ops .𝟏)
 
-made-of : {p n : ℕ} {G H rows scratch rows′ scratch′ : List ℕ} (m : UnitAnswer) → unit.Makes p G H n rows scratch m rows′ scratch′ → m .refusal ≡ 0
+made-of : {p n : ℕ} {G H rows scratch rows′ scratch′ : List ℕ} (m : UnitAnswer) → unit.Makes 1 p G H n rows scratch m rows′ scratch′ → m .refusal ≡ 0
     → (c : ℕ) → length rows′ ≡ N._*_ 6 c → Made p G H n c m rows′
 made-of {p} {n} {G} {H} {rows} {scratch} {rows′} {scratch′} m h z c e = door-out (λ k f l r. let q = refused-number r in absurd (f (sym q ∙ z))) goes h
   where
-    goes : Accepted p G H → unit.Goes p G H n rows scratch m rows′ scratch′ → Made p G H n c m rows′
+    goes : Accepted p G H → unit.Goes 1 p G H n rows scratch m rows′ scratch′ → Made p G H n c m rows′
     goes A (unit.bad f r) = let k = refused-number r in absurd (omega arith)
-    goes A (unit.spent c b f r) = let k = refused-number r in absurd (omega arith)
-    goes A (unit.narrow c l d b s f g r) = let k = refused-number r in absurd (omega arith)
-    goes A (unit.made c₁ l d b s f g r) =
+    goes A (unit.spent v c b f r) = let k = refused-number r in absurd (omega arith)
+    goes A (unit.narrow v c l d b s f g r) = let k = refused-number r in absurd (omega arith)
+    goes A (unit.made v c₁ l d b s f g r) =
         let w : length rows′ ≡ N._*_ 6 c₁ = r .rows-hold .whole in
         let k : c₁ ≡ c = omega arith in
-        let q : Holds p G H l d c rows′ = subst (λ x. Holds p G H l d x rows′) k (r .rows-hold) in
+        let q : Holds e0-monic p G H l d c rows′ = subst (λ x. Holds e0-monic p G H l d x rows′) k (subst (λ x. Holds x p G H l d c₁ rows′) (named-one v (b .named)) (r .rows-hold)) in
         let (B₀, st) = order-exists (setting A) in
         let a : 1 ≤ l = q .unit A B₀ st .closing .some in
         let t : m .period .0 ≡ l = r .period in
         let y : n ≤ 1000000 = b .budget in
-        let v : c₁ ≤ 4096 = b .six .room in
+        let fit : c₁ ≤ 4096 = b .six .room in
         record {
           field = A;
           room = omega arith;
@@ -194,7 +196,7 @@ made-of {p} {n} {G} {H} {rows} {scratch} {rows′} {scratch′} m h z c e = door
           each = q .each;
           degree = d;
           sizes = λ A. let (B₀, st) = order-exists (setting A) in unit-sizes (setting A) B₀ st (q .unit A B₀ st);
-          monic = λ A. let (B₀, st) = order-exists (setting A) in q .unit A B₀ st .monic;
+          monic = λ A. let (B₀, st) = order-exists (setting A) in q .unit A B₀ st .scaled;
         }
 
 module _ {p n : ℕ} {G H : List ℕ} (c : ℕ) (m : UnitAnswer) (rows : List ℕ) (t : Made p G H n c m rows) where
@@ -268,7 +270,7 @@ module _ {p n : ℕ} {G H : List ℕ} (c : ℕ) (m : UnitAnswer) (rows : List �
   unit-attests a h e (attest.yes _ _ _ q) = q
   unit-attests a h e (attest.no _ _ f q) = absurd (f (subst judged.Attested (sym e) unit-attested))
 
-pub unit-bookable : {p n : ℕ} {G H rows scratch rows′ scratch′ : List ℕ} (m : UnitAnswer) → unit.Makes p G H n rows scratch m rows′ scratch′ → m .refusal ≡ 0
+pub unit-bookable : {p n : ℕ} {G H rows scratch rows′ scratch′ : List ℕ} (m : UnitAnswer) → unit.Makes 1 p G H n rows scratch m rows′ scratch′ → m .refusal ≡ 0
     → (c : ℕ) → length rows′ ≡ N._*_ 6 c → Bookable (unitBody p G H m c rows′)
 unit-bookable {p} {n} {G} {H} {rows′ = rows} m h z c e =
     let t = made-of m h z c e in

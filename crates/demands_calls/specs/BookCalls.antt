@@ -107,16 +107,16 @@ pub record BookCalls : Type 0 where
       (r ≡ take (x .result) w′) × Returns b r
   -- two accepted books with the same rows are the same bytes
   pub same-rows : (s t : List ℕ) → Bytes s → Bytes t → Accepted s → Accepted t → valueOf s ≡ valueOf t → s ≡ t
-  -- a unit that `unit` made can be written into the book
+  -- a unit that `unit` made can be written into the book: convention 1, under which E0 is monic, as the body rule asks
   pub unit-bookable :
       {p n : ℕ} {G H rows scratch rows′ scratch′ : List ℕ} (m : UnitAnswer) →
-      Makes p G H n rows scratch m rows′ scratch′ → m .refusal ≡ 0 →
+      Makes 1 p G H n rows scratch m rows′ scratch′ → m .refusal ≡ 0 →
       (c : ℕ) → length rows′ ≡ 6 * c →
       Bookable (unitBody p G H m c rows′)
   -- and once it is written and added, its entry is attested
   pub unit-attested :
       {p k : ℕ} {G H rows scratch rows′ scratch′ : List ℕ} (m : UnitAnswer) →
-      Makes p G H k rows scratch m rows′ scratch′ → m .refusal ≡ 0 →
+      Makes 1 p G H k rows scratch m rows′ scratch′ → m .refusal ≡ 0 →
       (c : ℕ) → length rows′ ≡ 6 * c →
       {w w′ : List ℕ} {x : Said} → WriteTells (unitBody p G H m c rows′) w x w′ → x .number ≡ 0 →
       {n : ℕ} {d d′ : List ℕ} {y : Said} → Bytes d → AddTells d n (take (x .result) w′) y d′ → y .number ≡ 0 →

@@ -33,6 +33,7 @@ use Rattle.door_unit.specs.Unit.{Makes}
 use Rattle.door_compare.specs.declared.CompareAnswer.{CompareAnswer}
 use Rattle.door_compare.specs.Answer.{Refusals, Compares}
 use Rattle.door_transfer.specs.Transfer.{Transfers}
+use Rattle.door_rescale.specs.Rescale.{Rescales}
 use Rattle.book_body.specs.Body.{Body}
 use Rattle.book_body.specs.Code.{ListTells}
 use Rattle.book_write.specs.Write.{WriteTells}
@@ -59,13 +60,14 @@ pub record Demand1 : Type 0 where
       series.Answer p G H r w r′ w′ n → n ≢ 0 →
       (r′ ≡ r) × (w′ ≡ w)
   pub unit-kept :
-      {p n : ℕ} {G H rows scratch rows′ scratch′ : List ℕ} (m : UnitAnswer) →
-      Makes p G H n rows scratch m rows′ scratch′ → m .refusal ≢ 0 →
+      {i p n : ℕ} {G H rows scratch rows′ scratch′ : List ℕ} (m : UnitAnswer) →
+      Makes i p G H n rows scratch m rows′ scratch′ → m .refusal ≢ 0 →
       (rows′ ≡ rows) × (scratch′ ≡ scratch)
   pub transfer-kept :
       {p n : ℕ} {G H G′ H′ rows rows′ : List ℕ} →
       Transfers p G H G′ H′ rows n rows′ → n ≢ 0 →
       rows′ ≡ rows
+  pub rescale-kept : {p i j n : ℕ} {G H rows rows′ : List ℕ} → Rescales p G H i j rows n rows′ → n ≢ 0 → rows′ ≡ rows
   pub list-kept : {k : ℕ} {s d d′ : List ℕ} {x : Said} → ListTells s k d x d′ → x .number ≢ 0 → d′ ≡ d
   pub write-kept : {b : Body} {d d′ : List ℕ} {x : Said} → WriteTells b d x d′ → x .number ≢ 0 → d′ ≡ d
   pub add-kept : {n : ℕ} {d b d′ : List ℕ} {x : Said} → AddTells d n b x d′ → x .number ≢ 0 → d′ ≡ d
@@ -103,9 +105,13 @@ pub record Demand1 : Type 0 where
       FromOrder p G H n v → FromOrder p G H n w →
       v ≡ w
   pub unit-fixed :
-      {p n : ℕ} {G H rows scratch r s r′ s′ : List ℕ} (m m′ : UnitAnswer) →
-      Makes p G H n rows scratch m r s → Makes p G H n rows scratch m′ r′ s′ →
+      {i p n : ℕ} {G H rows scratch r s r′ s′ : List ℕ} (m m′ : UnitAnswer) →
+      Makes i p G H n rows scratch m r s → Makes i p G H n rows scratch m′ r′ s′ →
       (m ≡ m′) × (r ≡ r′) × (s ≡ s′)
+  pub rescale-fixed :
+      {p i j n n′ : ℕ} {G H rows r r′ : List ℕ} →
+      Rescales p G H i j rows n r → Rescales p G H i j rows n′ r′ →
+      (n ≡ n′) × (r ≡ r′)
   -- two pairs
   pub pairs-fixed : {p m n : ℕ} {G H G′ H′ : List ℕ} → Refusals p G H G′ H′ m → Refusals p G H G′ H′ n → m ≡ n
   pub compare-fixed :

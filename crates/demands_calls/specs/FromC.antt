@@ -2,8 +2,8 @@
 -- by the input."
 --   FromC   a field `..-kept` says that a refusal leaves what is lent as it was, `..-fixed` that two outcomes of one call are equal
 -- How to read it: n is the number that a function returns. The functions of the book return nothing and put five numbers into a lent row
--- `out`, of which the first is the refusal's. zaminuk_refusal, zaminuk_series, zaminuk_check and zaminuk_transfer have the contracts of
--- the functions behind them, so that the fields of `Demand1` are theirs; zaminuk_book_bodies has an equation for a contract.
+-- `out`, of which the first is the refusal's. zaminuk_refusal, zaminuk_series, zaminuk_check, zaminuk_transfer and zaminuk_rescale have
+-- the contracts of the functions behind them, so that the fields of `Demand1` are theirs; zaminuk_book_bodies has an equation for a contract.
 -- The theorem `from-c` is in proofs/FromC.antt.
 use mathlib.Core.Path.{_≡_}
 use mathlib.Core.Logic.{_≢_}
@@ -24,8 +24,8 @@ pub record FromC : Type 0 where
   pub step-kept : {p n d : ℕ} {G H a b : List ℕ} → StepTells p G H a n d b → n ≢ 0 → b ≡ a
   pub walk-kept : {p k n s d : ℕ} {G H a b : List ℕ} → WalkTells p G H k a n s d b → n ≢ 0 → n ≢ 10 → b ≡ a
   pub unit-kept :
-      {p k n l r : ℕ} {G H a b c d : List ℕ} →
-      UnitTells p G H k a b n l r c d → n ≢ 0 →
+      {i p k n l r : ℕ} {G H a b c d : List ℕ} →
+      UnitTells i p G H k a b n l r c d → n ≢ 0 →
       (c ≡ a) × (d ≡ b)
   pub begin-kept : {d e out : List ℕ} → BeginSays d e out → getD out 0 0 ≢ 0 → e ≡ d
   pub rows-kept : {p t : ℕ} {G H l d e out : List ℕ} → RowsSays p G H t l d e out → getD out 0 0 ≢ 0 → e ≡ d
@@ -50,8 +50,8 @@ pub record FromC : Type 0 where
       FromOrderTells p G H k n l r → FromOrderTells p G H k n′ l′ r′ →
       (n ≡ n′) × (l ≡ l′) × (r ≡ r′)
   pub unit-fixed :
-      {p k n n′ l l′ r r′ : ℕ} {G H a b c c′ d d′ : List ℕ} →
-      UnitTells p G H k a b n l r c d → UnitTells p G H k a b n′ l′ r′ c′ d′ →
+      {i p k n n′ l l′ r r′ : ℕ} {G H a b c c′ d d′ : List ℕ} →
+      UnitTells i p G H k a b n l r c d → UnitTells i p G H k a b n′ l′ r′ c′ d′ →
       (n ≡ n′) × (l ≡ l′) × (r ≡ r′) × (c ≡ c′) × (d ≡ d′)
   pub one-field-fixed :
       {p n n′ s s′ : ℕ} {G H G′ H′ : List ℕ} →

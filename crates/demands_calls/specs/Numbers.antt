@@ -12,11 +12,11 @@
 --   door_check::check, door_step::step      0 to 9              book_write::write_body              0 to 8, 11, 13
 --   door_walk::walk                         0 to 10, 14         book_add::add                       0, 11, 13, 14, 15
 --   door_period::from_order                 0 to 8, 10, 14      text_read::parse                    0, 12
---   door_unit::unit                         0 to 8, 10, 11, 14  lister::answer                      0 to 8, 10, 11, 12
+--   door_unit::unit, unit_scaled            0 to 8, 10, 11, 14  lister::answer                      0 to 8, 10, 11, 12
 --   door_compare::refusal, compare          0 to 8              text_end::finish                    0, 12
 --   door_transfer::transfer                 0 to 8, 14          book_begin::begin                   0, 11
 --   book_parts::prime, period               0, 13               book_parts::list                    0, 11, 13, 14
---   book_rows::write_rows                   0 to 8, 11, 13, 14
+--   door_rescale::rescale                   0 to 8, 14          book_rows::write_rows               0 to 8, 11, 13, 14
 -- The other functions for C and Rust (crate capi) give the numbers of the functions behind them.
 -- That every such n is one of the row's numbers is `numbered` of `demand-1`.
 use mathlib.Core.Path.{_≡_}
@@ -44,6 +44,7 @@ use Rattle.door_unit.specs.Unit.{Makes}
 use Rattle.door_compare.specs.declared.CompareAnswer.{CompareAnswer}
 use Rattle.door_compare.specs.Answer.{Refusals, Compares}
 use Rattle.door_transfer.specs.Transfer.{Transfers}
+use Rattle.door_rescale.specs.Rescale.{Rescales}
 use Rattle.book_body.specs.Body.{Body}
 use Rattle.book_body.specs.Code.{ListTells}
 use Rattle.book_write.specs.Write.{WriteTells}
@@ -89,8 +90,9 @@ pub data Gives : ℕ → List ℕ → ℕ → Type 0 where
   step : {p : ℕ} {G H B : List ℕ} (s : StepAnswer) → Answers p G H B s → Gives 9 [] (s .refusal)
   walk : {p n : ℕ} {G H B : List ℕ} (w : WalkAnswer) → Walks p G H n B w → Gives 10 (14 ∷ []) (w .refusal)
   from-order : {p n : ℕ} {G H : List ℕ} (o : PeriodAnswer) → FromOrder p G H n o → Gives 8 (10 ∷ 14 ∷ []) (o .refusal)
-  unit : {p n : ℕ} {G H rows scratch rows′ scratch′ : List ℕ} (m : UnitAnswer)
-      → Makes p G H n rows scratch m rows′ scratch′ → Gives 8 (10 ∷ 11 ∷ 14 ∷ []) (m .refusal)
+  unit : {i p n : ℕ} {G H rows scratch rows′ scratch′ : List ℕ} (m : UnitAnswer)
+      → Makes i p G H n rows scratch m rows′ scratch′ → Gives 8 (10 ∷ 11 ∷ 14 ∷ []) (m .refusal)
+  rescale : {p i j n : ℕ} {G H rows rows′ : List ℕ} → Rescales p G H i j rows n rows′ → Gives 8 (14 ∷ []) n
   -- ---- two pairs
   pairs : {p n : ℕ} {G H G′ H′ : List ℕ} → Refusals p G H G′ H′ n → Gives 8 [] n
   compare : {p : ℕ} {G H G′ H′ : List ℕ} (a : CompareAnswer) → Compares p G H G′ H′ a → Gives 8 [] (a .refusal)
@@ -111,7 +113,7 @@ pub data Gives : ℕ → List ℕ → ℕ → Type 0 where
   step-c : {p n d : ℕ} {G H a b : List ℕ} → StepTells p G H a n d b → Gives 9 [] n
   walk-c : {p k n s d : ℕ} {G H a b : List ℕ} → WalkTells p G H k a n s d b → Gives 10 (14 ∷ []) n
   from-order-c : {p k n l r : ℕ} {G H : List ℕ} → FromOrderTells p G H k n l r → Gives 8 (10 ∷ 14 ∷ []) n
-  unit-c : {p k n l r : ℕ} {G H a b c d : List ℕ} → UnitTells p G H k a b n l r c d → Gives 8 (10 ∷ 11 ∷ 14 ∷ []) n
+  unit-c : {i p k n l r : ℕ} {G H a b c d : List ℕ} → UnitTells i p G H k a b n l r c d → Gives 8 (10 ∷ 11 ∷ 14 ∷ []) n
   one-field-c : {p n s : ℕ} {G H G′ H′ : List ℕ} → OneFieldTells p G H G′ H′ n s → Gives 8 [] n
   book-c : {s out : List ℕ} → CheckSays s out → Gives 0 (13 ∷ []) (getD out 0 0)
   ask-c : {s : List ℕ} {i a l : ℕ} {out : List ℕ} → AskSays s i a l out → Gives 0 (13 ∷ 14 ∷ []) (getD out 0 0)

@@ -36,6 +36,7 @@ use Rattle.door_unit.specs.Unit.{Makes}
 use Rattle.door_compare.specs.declared.CompareAnswer.{CompareAnswer}
 use Rattle.door_compare.specs.Answer.{Refusals, Compares}
 use Rattle.door_transfer.specs.Transfer.{Transfers}
+use Rattle.door_rescale.specs.Rescale.{Rescales}
 use Rattle.book_body.specs.Body.{Body, FieldSays, bodyOf}
 use Rattle.book_write.specs.Write.{bodyFrom, WriteTells}
 use Rattle.book_rows.specs.Rows.{RowsSays}
@@ -95,9 +96,13 @@ pub record PaddedLists : Type 1 where
       FromOrder p (unpad G) (unpad H) n v → FromOrder p (unpad G′) (unpad H′) n w →
       v ≡ w
   pub unit-same :
-      {p n : ℕ} {G H G′ H′ rows scratch r s r′ s′ : List ℕ} (m m′ : UnitAnswer) → Stand G G′ → Stand H H′ →
-      Makes p (unpad G) (unpad H) n rows scratch m r s → Makes p (unpad G′) (unpad H′) n rows scratch m′ r′ s′ →
+      {i p n : ℕ} {G H G′ H′ rows scratch r s r′ s′ : List ℕ} (m m′ : UnitAnswer) → Stand G G′ → Stand H H′ →
+      Makes i p (unpad G) (unpad H) n rows scratch m r s → Makes i p (unpad G′) (unpad H′) n rows scratch m′ r′ s′ →
       (m ≡ m′) × (r ≡ r′) × (s ≡ s′)
+  pub rescale-same :
+      {p i j n n′ : ℕ} {G H G′ H′ rows r r′ : List ℕ} → Stand G G′ → Stand H H′ →
+      Rescales p (unpad G) (unpad H) i j rows n r → Rescales p (unpad G′) (unpad H′) i j rows n′ r′ →
+      (n ≡ n′) × (r ≡ r′)
   -- two pairs: each list may be padded
   pub pairs-same :
       {p m n : ℕ} {G H K L G′ H′ K′ L′ : List ℕ} → Stand G G′ → Stand H H′ → Stand K K′ → Stand L L′ →

@@ -9,6 +9,7 @@ use mathlib.Core.List.{List, [], _∷_}
 use Prim.Native.Nat.{ℕ, _*_, _≤_}
 use lib.ListN.{length, replicate}
 use Rattle.math_ideals.specs.Element.{norm}
+use Rattle.math_chain.specs.Convention.{Convention, e0-monic, number}
 use Rattle.field_open.specs.Refusal.{Accepted}
 use Rattle.field_open.specs.Opening.{Opens, nothing}
 use Rattle.basis_record.specs.Record.{setting, polyOf}
@@ -44,10 +45,10 @@ Refuses p G H n = Only (Opens p G H) (record { refusal = n; field = nothing })
 abbrev pub Outcome : Type 0
 Outcome = UnitAnswer × List ℕ × List ℕ
 
--- what is said of these outcomes, from whatever the slices held and within any budget that suffices for the period
-abbrev pub Units : Input → ℕ → ℕ → (List ℕ → List ℕ → (Outcome → Type 0) → Type 0) → Type 0
-Units k c l Says = (n : ℕ) → l ≤ n → n ≤ most → (rows scratch : List ℕ) → length rows ≡ 6 * c → length scratch ≡ 6 * c
-    → Says rows scratch (λ (o : Outcome). Makes (k .p) (k .G) (k .H) n rows scratch (o .0) (o .1) (o .2))
+-- what is said of these outcomes under a convention, from whatever the slices held and within any budget that suffices for the period
+abbrev pub Units : Convention → Input → ℕ → ℕ → (List ℕ → List ℕ → (Outcome → Type 0) → Type 0) → Type 0
+Units by k c l Says = (n : ℕ) → l ≤ n → n ≤ most → (rows scratch : List ℕ) → length rows ≡ 6 * c → length scratch ≡ 6 * c
+    → Says rows scratch (λ (o : Outcome). Makes (number by) (k .p) (k .G) (k .H) n rows scratch (o .0) (o .1) (o .2))
 
 abbrev pub Holds : Line → Type 0
 Holds (refuses p whatever n) = (G H : List ℕ) → Refuses p G H n
@@ -60,10 +61,10 @@ Holds (closes k n from s d b) = Only (Walks (k .p) (k .G) (k .H) n (stored from)
 Holds (spends k n from d b) = Only (Walks (k .p) (k .G) (k .H) n (stored from)) (record { refusal = 10; steps = n; sum = d; basis = stored b })
 Holds (period k n l e) = Only (FromOrder (k .p) (k .G) (k .H) n) (record { refusal = 0; period = record { 0 = l }; regulator = record { 0 = e } })
 Holds (no-period k n) = Only (FromOrder (k .p) (k .G) (k .H) n) (told.refusal 10)
-Holds (unit k c l e E F) = Units k c l (λ rows scratch Contract. Only Contract (made l e, sixRows c E F, replicate (6 * c) 0))
-Holds (unit-norm k c l N) = Units k c l (λ rows scratch Contract. (o : Outcome) → Contract o
+Holds (unit by k c l e E F) = Units by k c l (λ rows scratch Contract. Only Contract (made l e, sixRows c E F, replicate (6 * c) 0))
+Holds (unit-norm k c l N) = Units e0-monic k c l (λ rows scratch Contract. (o : Outcome) → Contract o
     → (A : Accepted (k .p) (k .G) (k .H)) → norm (setting A) (six A c 0 (o .1)) ≡ polyOf A N)
-Holds (narrow k c l) = Units k c l (λ rows scratch Contract. Only Contract (refusal 11, rows, scratch))
+Holds (narrow k c l) = Units e0-monic k c l (λ rows scratch Contract. Only Contract (refusal 11, rows, scratch))
 Holds empty-book = Only (λ (a : Answer). Tells (80 ∷ 67 ∷ 70 ∷ 49 ∷ 0 ∷ 0 ∷ []) (answerSays a)) Yes
 Holds (no-book n) = (s : List ℕ) → length s ≡ n → Only (λ (a : Answer). Tells s (answerSays a)) (Refused Mark)
 

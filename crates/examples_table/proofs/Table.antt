@@ -1,6 +1,6 @@
 -- The table passes its tests.
 --   hints         what the tests are helped with: the series of each of the three fields, and the bases passed
---   table-passes  every line of the table passes: by one computation
+--   table-passes requested-passes   every line passes: by one computation
 --   table-whole   the lines are those of P1 to P12: each number is there, in order, and no other
 use mathlib.Core.Path.{_≡_, refl}
 use mathlib.Core.List.{List, [], _∷_}
@@ -11,7 +11,7 @@ use Rattle.math_rows.specs.Sum.{sumTo}
 use Rattle.base_lists.specs.Sums.{conv}
 use Rattle.field_roots.specs.Prefix.{partAt, plusPart, minusPart}
 use Rattle.examples_table.specs.Lines.{element, labels}
-use Rattle.examples_table.specs.Table.{num, t, b₁, b₂, b₃, b₄, e₃, f₃, table}
+use Rattle.examples_table.specs.Table.{num, t, b₁, b₂, b₃, b₄, e₃, f₃, table, requested}
 use Rattle.examples_table.specs.Decide.{Hints, decideAll}
 
 -- G = t³+4, H = 1
@@ -60,6 +60,10 @@ hints =
 pub table-passes : T (decideAll table hints)
 unfolding primeb tab fallAt sumTo conv partAt plusPart minusPart
 table-passes = tt
+
+pub requested-passes : T (decideAll requested (h₃ ∷ []))
+unfolding primeb tab fallAt sumTo conv partAt plusPart minusPart
+requested-passes = tt
 
 pub table-whole : labels table ≡ 1 ∷ 2 ∷ 3 ∷ 4 ∷ 5 ∷ 6 ∷ 7 ∷ 8 ∷ 9 ∷ 10 ∷ 11 ∷ 12 ∷ []
 table-whole = refl

@@ -9,6 +9,7 @@ use Prim.Native.Nat.{ℕ, zero, suc, _+_, _*_, _/_, _%_}
 use lib.Dec.{eqb, ltb, leb}
 use lib.ListN.{length}
 use Rattle.math_triple.specs.Tri.{Tri, normT}
+use Rattle.math_chain.specs.Convention.{Convention, e0-monic}
 use Rattle.math_fp.specs.Trial.{primeb}
 use Rattle.num_prime.specs.Table.{largest}
 use Rattle.base_answers.specs.Limits.{longest}
@@ -91,10 +92,10 @@ module _ (k : Input) (h : Hints) where
   abbrev pub isSix : ℕ → Tri (List ℕ) → Tri (List ℕ) → List ℕ → List Bool
   isSix c E F l = eqb (length l) (6 * c) ∷ below (k .p) l ∷ alikeT (k .p) (rowsAt c 0 l) E ∷ alikeT (k .p) (rowsAt c (c + c + c) l) F ∷ []
 
-  abbrev pub makes : ℕ → ℕ → ℕ → Tri (List ℕ) → Tri (List ℕ) → List Bool
-  makes c l e E F =
+  abbrev pub makes : Convention → ℕ → ℕ → ℕ → Tri (List ℕ) → Tri (List ℕ) → List Bool
+  makes by c l e E F =
       every (fromOrder c l) ∷ eqb (e + e) (total (h .start) (h .passed)) ∷ ltb (total (h .start) (h .passed)) c
-      ∷ every (isUnit (k .p) (k .G) (k .H) (h .start) (h .passed) E F) ∷ every (isSix c E F (sixRows c E F)) ∷ []
+      ∷ every (isUnit (k .p) (k .G) (k .H) by (h .start) (h .passed) E F) ∷ every (isSix c E F (sixRows c E F)) ∷ []
 
 abbrev pub decide : Line → Hints → Bool
 decide (refuses p ls n) h = refused p n
@@ -105,9 +106,9 @@ decide (closes k n a s d b) h = every (closing k h n a s d b)
 decide (spends k n a d b) h = every (spending k h n a d b)
 decide (period k n l e) h = every (periodic k h n l e)
 decide (no-period k n) h = every (unperiodic k h n)
-decide (unit k c l e E F) h = every (makes k h c l e E F)
+decide (unit by k c l e E F) h = every (makes k h by c l e E F)
 decide (unit-norm k c l N) h =
-    every (every (makes k h c l (total (h .start) (h .passed) / 2) (h .E) (h .F)) ∷ alike (k .p) (normT (lists (k .p)) (k .G) (k .H) (h .E)) N ∷ [])
+    every (every (makes k h e0-monic c l (total (h .start) (h .passed) / 2) (h .E) (h .F)) ∷ alike (k .p) (normT (lists (k .p)) (k .G) (k .H) (h .E)) N ∷ [])
 decide (narrow k c l) h = every (every (fromOrder k h c l) ∷ leb c (total (h .start) (h .passed)) ∷ [])
 decide empty-book h = true
 decide (no-book n) h = ltb n 6

@@ -13,6 +13,7 @@ use Prim.Native.Nat.{ℕ}
 use lib.Dec.{eqb}
 use lib.ListN.{take, replicate}
 use Rattle.math_triple.specs.Tri.{Tri}
+use Rattle.math_chain.specs.Convention.{Convention}
 use Rattle.examples_tests.specs.Rows.{Rows}
 
 pub record Input : Type 0 where
@@ -50,9 +51,9 @@ pub data Line : Type 0 where
   period : (k : Input) (budget period regulator : ℕ) → Line
   -- it does not close: refused 10
   no-period : (k : Input) (budget : ℕ) → Line
-  -- the unit in rows of c coefficients: period, regulator, the unit and its inverse
-  unit : (k : Input) (c period regulator : ℕ) (E F : Tri (List ℕ)) → Line
-  -- its norm
+  -- the unit scaled by a convention, in rows of c coefficients: period, regulator, the unit and its inverse
+  unit : (by : Convention) (k : Input) (c period regulator : ℕ) (E F : Tri (List ℕ)) → Line
+  -- the norm of the unit with E0 monic
   unit-norm : (k : Input) (c period : ℕ) (N : List ℕ) → Line
   -- c is too little room: refused 11
   narrow : (k : Input) (c period : ℕ) → Line

@@ -1,6 +1,7 @@
 -- Bases by computed tests.
 --   basisL              the basis of written rows
 --   lies-in             an element in its lattice
+--   pure-is, by-is, norm-is   an element's meaning: of a polynomial, of a product; its norm
 --   good-rows           it is the scaled reduced basis of a reduced ideal
 use mathlib.Core.Path.{_≡_, refl, sym, ap, ap₂, _∙_, subst}
 use mathlib.Core.Logic.{_⊎_, inl, inr}
@@ -12,7 +13,7 @@ use lib.Dec.{T, eqb, ltb, leb, eqb→eq, ltb→lt, leb→le}
 use lib.ListN.{length, getD}
 use Rattle.math_ring.specs.Ring.{Ops}
 use Rattle.math_ring.proofs.Solve.{Expr, var, minus as minusE, _:+_, _:*_}
-use Rattle.math_triple.specs.Tri.{Tri}
+use Rattle.math_triple.specs.Tri.{Tri, Nm, X as Xᵉ, normT}
 use Rattle.math_fp.proofs.Trial.{and-l, and-r}
 use Rattle.math_valued.specs.Polynomial.{polys}
 use Rattle.math_valued.proofs.Degree as d
@@ -25,7 +26,7 @@ use Rattle.field_roots.specs.Prefix.{enough, plusPart, minusPart}
 use Rattle.field_roots.specs.Pair.{degR, degW}
 use Rattle.field_roots.proofs.Prefix.{prefix-is-enough}
 use Rattle.math_ideals.specs.Setting.{Setting}
-use Rattle.math_ideals.specs.Element.{O, sc, el-r, el-w, X, Y, Z, times-r, times-w}
+use Rattle.math_ideals.specs.Element.{O, sc, el-r, el-w, X, Y, Z, times-r, times-w, norm}
 use Rattle.math_ideals.specs.Ideal.{Basis, In, det, Coords}
 use Rattle.math_ideals.specs.Basis.{Good}
 use Rattle.math_ideals.proofs.Sizes.{O-path}
@@ -95,6 +96,9 @@ module _ {p : ℕ} {G H : List ℕ} (A : Accepted p G H) where
 
   pub by-is : (x y : Tri (List ℕ)) → el p (A .prime) (by p G H x y) ≡ el p (A .prime) x ⊗ el p (A .prime) y
   by-is x y = el-hom p (A .prime) G H .mul x y
+
+  pub norm-is : (x : Tri (List ℕ)) → polyOf A (normT (L.lists p) G H x) ≡ norm (setting A) (el p (A .prime) x)
+  norm-is x = hom-eval (polyOf A) (poly-hom p (A .prime)) (Nm Xᵉ) (G ∷ H ∷ x .a ∷ x .b ∷ x .c ∷ [])
 
   -- r v and w v in the lattice, v = el y
   coords-r : (b : Rows) (y : Tri (List ℕ)) → T (lies p b (by p G H (rootR p) y)) → Coords S (basisL b) (times-r S (el p (A .prime) y))

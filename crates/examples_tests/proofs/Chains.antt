@@ -4,6 +4,7 @@
 --   open-of       no count so far closes
 --   closing-of    the last one does, and is the first
 --   start-of      a good basis with U = 1 is that of the order
+--   scaled-of     an element scaled by a convention
 --   unit-of       the unit of a closing walk from the order
 use mathlib.Core.Path.{_≡_, refl, sym, ap, ap₂, _∙_}
 use mathlib.Core.Logic.{_≢_}
@@ -14,7 +15,7 @@ use native.Mathlib.Omega.{arith}
 use lib.Dec.{T, eqb, ltb, eqb→eq, ltb→lt}
 use lib.ListN.{length, getD}
 use Rattle.math_ring.specs.Ring.{Ops}
-use Rattle.math_triple.specs.Tri.{Tri}
+use Rattle.math_triple.specs.Tri.{Tri, normT}
 use Rattle.math_fp.proofs.Trial.{and-l, and-r}
 use Rattle.math_valued.specs.Polynomial.{polys}
 use Rattle.math_valued.proofs.Degree as d
@@ -26,20 +27,20 @@ use Rattle.math_ideals.specs.Element.{O, sc}
 use Rattle.math_ideals.specs.Basis.{Good}
 use Rattle.math_ideals.specs.Next.{Start}
 use Rattle.math_chain.specs.Chain.{Degree, Chain, here, then, tops, bottoms, Open, Closing}
+use Rattle.math_chain.specs.Convention.{Convention, e0-monic, norm-one, Scaled}
 use Rattle.math_chain.specs.Unit.{UnitOf}
 use Rattle.math_chain.proofs.Walk.{degree-M0, closes, open-none, open-more}
 use Rattle.math_chain.proofs.Closing.{start-of-one}
 use Rattle.basis_record.specs.Record.{setting, polyOf}
-use Rattle.examples_lists.specs.Lists.{lists, alike}
-use Rattle.examples_lists.specs.Quotients.{inverse}
+use Rattle.examples_lists.specs.Lists.{lists, alike, ends}
 use Rattle.examples_lists.proofs.Lists.{lead-list}
 use Rattle.examples_lists.proofs.Meaning.{poly-hom, poly-alike, el, el-hom, el-alike}
 use Rattle.examples_tests.specs.Rows.{Rows}
 use Rattle.examples_tests.specs.Tests.{every, last, hasTop, pure, by, good}
-use Rattle.examples_tests.specs.Walks.{at, degreeL, total, unclosed, step, walks, topsL, bottomsL, leadOf, isUnitBy, isUnit}
+use Rattle.examples_tests.specs.Walks.{at, degreeL, total, unclosed, step, walks, topsL, bottomsL, isScaled, ratio, isUnitBy, isUnit}
 use Rattle.examples_tests.proofs.Fields.{every-at}
 use Rattle.examples_tests.proofs.Floors.{has-top}
-use Rattle.examples_tests.proofs.Bases.{basisL, pure-is, by-is, good-rows}
+use Rattle.examples_tests.proofs.Bases.{basisL, pure-is, by-is, norm-is, good-rows}
 use Rattle.examples_tests.proofs.Steps.{next-rows}
 
 module _ {p : ℕ} {G H : List ℕ} (A : Accepted p G H) (r w : List ℕ) where
@@ -107,28 +108,34 @@ module _ {p : ℕ} {G H : List ℕ} (A : Accepted p G H) (r w : List ℕ) where
     bottoms-is [] t = sym (poly-hom p (A .prime) .𝟏)
     bottoms-is (c ∷ cs) t = ap (λ z. z ⊠ polyOf A (at b cs .U)) (bottoms-is cs (and-l (walks p G H r w b cs) _ t)) ∙ sym (poly-hom p (A .prime) .mul (bottomsL p G H b cs) (at b cs .U))
 
-    pub unit-of : (c : Rows) (cs : List Rows) → T (alike p (b .U) (1 ∷ [])) → T (walks p G H r w b (c ∷ cs)) → T (unclosed p cs) → T (alike p (c .U) (1 ∷ []))
-        → (E F : Tri (List ℕ)) → T (every (isUnit p G H b (c ∷ cs) E F)) → UnitOf (setting A) (basisL A b) (suc (length cs)) (total b (c ∷ cs)) (el p (A .prime) E) (el p (A .prime) F)
-    unit-of c cs e t o f E F u =
+    scaled-of : (k : Convention) (E : Tri (List ℕ)) → T (isScaled p G H k E) → Scaled (setting A) k (el p (A .prime) E)
+    scaled-of e0-monic E t =
+        let n : ℕ = last (E .a) in
+        (n, 0, ρ .𝓥 .one≢zero, d.lead-eq (ρ .𝓥) (lead-list ρ (E .a) n (and-l (ends (E .a) (suc n)) _ t)) refl (ap (ρ .cast) (eqb→eq (getD (E .a) n 0) 1 (and-r (ends (E .a) (suc n)) _ t)) ∙ ρ .cast-one))
+    scaled-of norm-one E t = sym (norm-is A E) ∙ poly-alike p (A .prime) (normT (lists p) G H E) (1 ∷ []) t ∙ poly-hom p (A .prime) .𝟏
+
+    pub unit-of : (k : Convention) (c : Rows) (cs : List Rows) → T (alike p (b .U) (1 ∷ [])) → T (walks p G H r w b (c ∷ cs)) → T (unclosed p cs) → T (alike p (c .U) (1 ∷ []))
+        → (E F : Tri (List ℕ)) → T (every (isUnit p G H k b (c ∷ cs) E F)) → UnitOf (setting A) k (basisL A b) (suc (length cs)) (total b (c ∷ cs)) (el p (A .prime) E) (el p (A .prime) F)
+    unit-of k c cs e t o f E F u =
         let top : Tri (List ℕ) = topsL p G H b (c ∷ cs) in
         let bottom : List ℕ = bottomsL p G H b (c ∷ cs) in
-        let k : ℕ = leadOf p G H top in
-        let i : List ℕ = inverse p k ∷ [] in
-        let q : (n : ℕ) → T (getD (isUnitBy p G H top bottom k E F) n true) = every-at (isUnitBy p G H top bottom k E F) u in
+        let s : List ℕ = ratio p G H top E in
+        let i : List ℕ = ratio p G H E top in
+        let q : (n : ℕ) → T (getD (isUnitBy p G H k top bottom s i E F) n true) = every-at (isUnitBy p G H k top bottom s i E F) u in
         let k₀ : Closing (setting A) (basisL A b) (suc (length cs)) (total b (c ∷ cs)) (basisL A c) = closing-of c cs t o f in
         record {
           start = start-of e;
           B = basisL A c;
           closing = record { chain = chain-of (c ∷ cs) t; some = k₀ .some; closed = k₀ .closed; none = k₀ .none };
-          scale = polyOf A i;
-          is-unit = (polyOf A (k ∷ []), sym (sym (poly-hom p (A .prime) .mul i (k ∷ [])) ∙ poly-alike p (A .prime) (lists p .mul i (k ∷ [])) (1 ∷ []) (q 0) ∙ poly-hom p (A .prime) .𝟏));
+          scale = polyOf A s;
+          is-unit = (polyOf A i, sym (sym (poly-hom p (A .prime) .mul s i) ∙ poly-alike p (A .prime) (lists p .mul s i) (1 ∷ []) (q 0) ∙ poly-hom p (A .prime) .𝟏));
           product =
               ap₂ (λ x y. sc S x ⊗ y) (bottoms-is (c ∷ cs) t) refl
               ∙ ap (λ x. x ⊗ el p (A .prime) E) (sym (pure-is A bottom))
               ∙ sym (by-is A (pure p bottom) E)
-              ∙ el-alike p (A .prime) (by p G H (pure p bottom) E) (by p G H (pure p i) top) (q 1)
-              ∙ by-is A (pure p i) top
-              ∙ ap₂ (λ x y. x ⊗ y) (pure-is A i) (sym (tops-is (c ∷ cs) t));
-          monic = (last (E .a), 0, ρ .𝓥 .one≢zero, d.lead-eq (ρ .𝓥) (lead-list ρ (E .a) (last (E .a)) (q 2)) refl (ap (ρ .cast) (eqb→eq (getD (E .a) (last (E .a)) 0) 1 (q 3)) ∙ ρ .cast-one));
-          inverse = sym (by-is A E F) ∙ el-alike p (A .prime) (by p G H E F) (pure p (1 ∷ [])) (q 4) ∙ one-el;
+              ∙ el-alike p (A .prime) (by p G H (pure p bottom) E) (by p G H (pure p s) top) (q 1)
+              ∙ by-is A (pure p s) top
+              ∙ ap₂ (λ x y. x ⊗ y) (pure-is A s) (sym (tops-is (c ∷ cs) t));
+          scaled = scaled-of k E (q 2);
+          inverse = sym (by-is A E F) ∙ el-alike p (A .prime) (by p G H E F) (pure p (1 ∷ [])) (q 3) ∙ one-el;
         }

@@ -4,13 +4,15 @@
 --   walks             every step is one, to a good basis (proofs/Chains: `chain-of`)
 --   unclosed          no U so far is 1 (`open-of`, `closing-of`)
 --   topsL, bottomsL   the products of the M and of the U passed
---   isUnit            E is the product of the m passed with E0 monic, and F its inverse (`unit-of`)
+--   isScaled          E is scaled by a convention
+--   isUnit            E is the product of the m passed, scaled by a convention, and F its inverse (`unit-of`)
 use mathlib.Core.Bool.{Bool, true, _&&_}
 use mathlib.Core.List.{List, [], _∷_}
 use Prim.Native.Nat.{ℕ, suc, _+_, _-_}
 use lib.Dec.{eqb, ltb}
 use lib.ListN.{getD}
-use Rattle.math_triple.specs.Tri.{Tri}
+use Rattle.math_triple.specs.Tri.{Tri, normT}
+use Rattle.math_chain.specs.Convention.{Convention, e0-monic, norm-one}
 use Rattle.examples_lists.specs.Lists.{lists, alike, alikeT, ends}
 use Rattle.examples_lists.specs.Quotients.{inverse}
 use Rattle.examples_tests.specs.Rows.{Rows}
@@ -48,16 +50,21 @@ module _ (p : ℕ) where
     bottomsL b [] = 1 ∷ []
     bottomsL b (c ∷ cs) = lists p .mul (bottomsL b cs) (at b cs .U)
 
-    -- the constant by which the product is multiplied, and its inverse
-    abbrev pub leadOf : Tri (List ℕ) → ℕ
-    leadOf x = getD (x .a) (last (x .a)) 0
+    abbrev pub isScaled : Convention → Tri (List ℕ) → Bool
+    isScaled e0-monic E = ends (E .a) (suc (last (E .a))) && eqb (getD (E .a) (last (E .a)) 0) 1
+    isScaled norm-one E = alike p (normT (lists p) G H E) (1 ∷ [])
 
-    abbrev pub isUnitBy : Tri (List ℕ) → List ℕ → ℕ → Tri (List ℕ) → Tri (List ℕ) → List Bool
-    isUnitBy top bottom k E F =
-        alike p (lists p .mul (inverse p k ∷ []) (k ∷ [])) (1 ∷ [])
-        ∷ alikeT p (by p G H (pure p bottom) E) (by p G H (pure p (inverse p k ∷ [])) top)
-        ∷ ends (E .a) (suc (last (E .a))) ∷ eqb (getD (E .a) (last (E .a)) 0) 1
+    -- the constant that takes the leading coefficient of one element's E0 to that of another's
+    abbrev pub ratio : Tri (List ℕ) → Tri (List ℕ) → List ℕ
+    ratio x y = lists p .mul (inverse p (getD (x .a) (last (x .a)) 0) ∷ []) (getD (y .a) (last (y .a)) 0 ∷ [])
+
+    -- s is the constant by which the product is multiplied, and i its inverse
+    abbrev pub isUnitBy : Convention → Tri (List ℕ) → List ℕ → List ℕ → List ℕ → Tri (List ℕ) → Tri (List ℕ) → List Bool
+    isUnitBy k top bottom s i E F =
+        alike p (lists p .mul s i) (1 ∷ [])
+        ∷ alikeT p (by p G H (pure p bottom) E) (by p G H (pure p s) top)
+        ∷ isScaled k E
         ∷ alikeT p (by p G H E F) (pure p (1 ∷ [])) ∷ []
 
-    abbrev pub isUnit : Rows → List Rows → Tri (List ℕ) → Tri (List ℕ) → List Bool
-    isUnit b cs E F = isUnitBy (topsL b cs) (bottomsL b cs) (leadOf (topsL b cs)) E F
+    abbrev pub isUnit : Convention → Rows → List Rows → Tri (List ℕ) → Tri (List ℕ) → List Bool
+    isUnit k b cs E F = isUnitBy k (topsL b cs) (bottomsL b cs) (ratio (topsL b cs) E) (ratio E (topsL b cs)) E F
