@@ -167,7 +167,14 @@ pub extern "C" fn zaminuk_unit_scaled(
 
 // The rows of a unit and its inverse, carried over in place from one convention to another.
 #[no_mangle]
-pub extern "C" fn zaminuk_rescale(p: u64, g: &[u64], h: &[u64], from: u32, to: u32, rows: &mut [u16]) -> u32
+pub extern "C" fn zaminuk_rescale(
+    p: u64,
+    g: &[u64],
+    h: &[u64],
+    from: u32,
+    to: u32,
+    rows: &mut [u16],
+) -> u32
     ensures { λ n. ⌜ Rescales p (unpad (now (g .entry))) (unpad (now (h .entry))) from to (now (rows .entry)) n (now (rows .exit)) ⌝ }
 {
     door_rescale::rescale(p, g, h, from, to, rows)

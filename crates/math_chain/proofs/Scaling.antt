@@ -69,7 +69,7 @@ module _ (S : Setting) where
       let nq : q ≢ 0ᵏ = (λ z. ha (S .roots .form a (-ᵏ b) z .0)) in
       let x = var 0 in let y = var 1 in
       let z : a +ᵏ -ᵏ b ≡ 0ᵏ = k-zero 𝓥 q (a +ᵏ -ᵏ b) nq
-          (solve-by K ((x :* x :+ minus (x :* minus y) :+ minus y :* minus y) :* (x :+ minus y)) zer (hyp one (x :* x :* x) (y :* y :* y) ∷ []) tt (a ∷ b ∷ []) (e, tt)) in
+      (solve-by K ((x :* x :+ minus (x :* minus y) :+ minus y :* minus y) :* (x :+ minus y)) zer (hyp one (x :* x :* x) (y :* y :* y) ∷ []) tt (a ∷ b ∷ []) (e, tt)) in
       solve-by K x y (hyp one (x :+ minus y) zer ∷ []) tt (a ∷ b ∷ []) (z, tt)
 
   times-inj : (k : Convention) (a b : K .El) → a ≢ 0ᵏ → times k a ≡ times k b → a ≡ b

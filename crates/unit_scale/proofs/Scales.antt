@@ -198,8 +198,8 @@ module _ {f : OpenedField} {n c : ℕ} {rows : List ℕ} (t : FactorAsks f n c r
 inverse-some : {p a r : ℕ} → 0 < p → Inverse p a r → 0 < r
 inverse-some {p} {a} {r} pos i =
     let z : r ≢ 0 = (λ e.
-        let o : (a * r) % p ≡ 0 = ap (λ x. (a * x) % p) e ∙ ap (λ x. x % p) (mul-zero a) ∙ mod-eq-of-lt pos in
-        let l : (a * r) % p ≡ 1 = i .law in absurd (omega arith)) in
+    let o : (a * r) % p ≡ 0 = ap (λ x. (a * x) % p) e ∙ ap (λ x. x % p) (mul-zero a) ∙ mod-eq-of-lt pos in
+    let l : (a * r) % p ≡ 1 = i .law in absurd (omega arith)) in
     omega (arith, z)
 
 -- the norm of the numbers in their places

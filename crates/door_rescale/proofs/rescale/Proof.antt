@@ -29,12 +29,12 @@ same-length : tie.Need-same-length
 same-length c = search needs
 
 returns-2 : tie.Need-returns-2
-returns-2 c = 
+returns-2 c =
     let a = c .before .before .before .before .before .before .before .before .before .args in
     rescales-bad (c .before .before .before .before .before .open-with-series .ensures) (c .before .before .before .before .if1 .left) (subst (Unfit (c .before .before .before .before .before .open-with-series .result .cubic) (a .from) (a .to) (a .rows .now)) (c .if2 .taken) (c .before .unfit .ensures))
 
 turn-requires : tie.Need-turn-requires
-turn-requires c κs = 
+turn-requires c κs =
     let a = c .before .before .before .before .before .before .before .before .before .before .args in
     turn-in (c .before .before .before .before .before .before .open-with-series .ensures) (c .before .before .before .before .before .if1 .left) (subst (Unfit (c .before .before .before .before .before .before .open-with-series .result .cubic) (a .from) (a .to) (a .rows .now)) (c .before .if2 .left) (c .before .before .unfit .ensures))
 
@@ -42,7 +42,7 @@ same-length-2 : tie.Need-same-length-2
 same-length-2 c = search needs
 
 returns-3 : tie.Need-returns-3
-returns-3 c = 
+returns-3 c =
     let a = c .before .before .before .before .before .before .before .before .before .before .before .before .before .args in
     rescales-turned (c .before .before .before .before .before .before .before .before .before .open-with-series .ensures) (c .before .before .before .before .before .before .before .before .if1 .left) (subst (Unfit (c .before .before .before .before .before .before .before .before .before .open-with-series .result .cubic) (a .from) (a .to) (a .rows .now)) (c .before .before .before .before .if2 .left) (c .before .before .before .before .before .unfit .ensures)) (c .before .before .turn .ensures)
 

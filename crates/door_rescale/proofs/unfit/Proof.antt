@@ -35,13 +35,13 @@ returns-3 : tie.Need-returns-3
 returns-3 c = let a = c .before .before .before .before .before .before .before .args in unfit-six (a .f) (a .from) (a .to) (a .rows .now) (no-six (c .before .no-six-rows .ensures) (c .if3 .taken))
 
 misscaled-requires : tie.Need-misscaled-requires
-misscaled-requires c κs = 
+misscaled-requires c κs =
     let x = some-named (c .before .before .before .before .before .no-convention .ensures) (c .before .before .before .before .if1 .left) in
     let b = six-at (c .before .before .before .before .before .before .before .args .rows .now) (six-of (c .before .no-six-rows .ensures) (c .if3 .left)) in
     record { known = c .before .before .before .before .before .before .before .pre; k = x .0; named = x .1; most = b .room; whole = b .whole }
 
 returns-4 : tie.Need-returns-4
-returns-4 c = 
+returns-4 c =
     let a = c .before .before .before .before .before .before .before .before .args in
     unfit-last (a .f) (a .from) (a .to) (a .rows .now) (c .misscaled .result) (six-of (c .before .before .no-six-rows .ensures) (c .before .if3 .left))
     (some-named (c .before .before .before .before .before .before .no-convention .ensures) (c .before .before .before .before .before .if1 .left)) (some-named (c .before .before .before .before .no-convention2 .ensures) (c .before .before .before .if2 .left)) (c .misscaled .ensures)

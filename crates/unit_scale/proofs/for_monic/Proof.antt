@@ -44,7 +44,7 @@ wide-requires : tie.Need-wide-requires
 wide-requires c κs = search needs
 
 inverse-requires : tie.Need-inverse-requires
-inverse-requires c κs = 
+inverse-requires c κs =
     let s = c .before .before .before .before .before in
     let z = c .before .before .size .ensures in
     let o = s .pre .some _ z in
@@ -56,7 +56,7 @@ inverse-requires c κs =
     }
 
 returns : tie.Need-returns
-returns c = 
+returns c =
     let s = c .before .before .before .before .before .before in
     record {
       n = c .before .before .before .size .result;

@@ -44,7 +44,7 @@ wide-requires-3 : tie.Need-wide-requires-3
 wide-requires-3 c κs = search needs
 
 norm-requires : tie.Need-norm-requires
-norm-requires c κs = 
+norm-requires c κs =
     let s = c .before .before .before .before .before .before .before in
     record {
       three = s .pre .three;
@@ -60,7 +60,7 @@ cube-root-requires : tie.Need-cube-root-requires
 cube-root-requires c κs = search needs
 
 inverse-requires : tie.Need-inverse-requires
-inverse-requires c κs = 
+inverse-requires c κs =
     let at2 = c .before .before in
     let s = at2 .before .before .before .before .before .before .before in
     record {
@@ -71,7 +71,7 @@ inverse-requires c κs =
     }
 
 returns : tie.Need-returns
-returns c = 
+returns c =
     let at3 = c .before .before .before in
     record {
       v = c .before .before .norm .result;

@@ -64,7 +64,7 @@ same-length : tie.Need-same-length
 same-length c = search needs
 
 returns : tie.Need-returns
-returns c = 
+returns c =
     let at6 = c .before .before .before .before .before .before in
     let at8 = at6 .before .before in
     let s = at8 .before .before .before .before .before in
