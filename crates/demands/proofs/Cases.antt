@@ -14,7 +14,7 @@ use Rattle.field_open.specs.Refusal.{Accepted}
 use Rattle.field_open.proofs.Door.{door-out}
 use Rattle.math_ideals.specs.Ideal.{Basis}
 use Rattle.math_ideals.specs.Next.{Start}
-use Rattle.math_chain.specs.Convention.{Convention, number}
+use Rattle.math_chain.specs.Convention.{Convention}
 use Rattle.math_chain.specs.Unit.{UnitOf}
 use Rattle.basis_record.specs.Record.{setting}
 use Rattle.basis_field.specs.First.{IsFirst}
@@ -90,7 +90,7 @@ module _ (p n : ℕ) (G H : List ℕ) (o : PeriodAnswer) (h : walks.FromOrder p 
 -- ---- the unit
 module _ (i p n : ℕ) (G H rows scratch rows′ scratch′ : List ℕ) (m : UnitAnswer) (h : unit.Makes i p G H n rows scratch m rows′ scratch′) where
   abbrev Done : Type 0
-  Done = (k : Convention) × (c l d : ℕ) × (number k ≡ i) × unit.Success k p G H l d c scratch m rows′ scratch′
+  Done = (k : Convention) × (c l d : ℕ) × unit.Lent i k c rows scratch n × unit.Success k p G H l d c scratch m rows′ scratch′
 
   abbrev Narrow : Type 0
   Narrow = (k : Convention) × (c l d : ℕ) × unit.Lent i k c rows scratch n × unit.Finds p G H l d × (c ≤ d)
@@ -102,7 +102,7 @@ module _ (i p n : ℕ) (G H rows scratch rows′ scratch′ : List ℕ) (m : Uni
       case (unit.bad f r) = let k = refused-number r in absurd (omega arith)
       case (unit.spent v c b f r) = let k = refused-number r in absurd (omega arith)
       case (unit.narrow v c l d b s f g r) = let k = refused-number r in absurd (omega arith)
-      case (unit.made v c l d b s f g r) = (v, c, l, d, b .named, r)
+      case (unit.made v c l d b s f g r) = (v, c, l, d, b, r)
 
   pub unit-spent : m .refusal ≡ 10 → unit.Misses p G H n
   unit-spent z = door-out (λ k f l e. let q = refused-number e in absurd (omega arith)) (λ A. case) h

@@ -77,7 +77,7 @@ pub unit-is :
 unit-is i p n G H rows scratch rows′ scratch′ m h z =
     let (k, c, l, d, e, r) = unit-made i p n G H rows scratch rows′ scratch′ m h z in (
       k,
-      e,
+      e .named,
       record {
         c = c;
         long = r .rows-hold .whole;

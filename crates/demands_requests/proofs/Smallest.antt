@@ -32,7 +32,7 @@ unit-rows : (i p n : ℕ) (G H rows scratch rows′ scratch′ : List ℕ) (m : 
 unit-rows i p n G H rows scratch rows′ scratch′ m h z =
     let (k, c, l, d, e, r) = unit-made i p n G H rows scratch rows′ scratch′ m h z in (
       k,
-      e,
+      e .named,
       record {
         c = c;
         long = r .rows-hold .whole;
@@ -72,7 +72,7 @@ module _ (i p n n′ : ℕ) (G H rows scratch r s rows′ scratch′ r′ s′ :
       let (v′, c₂, l′, d′, f′, x′) = unit-made i p n′ G H rows′ scratch′ r′ s′ m′ h′ z′ in
       let a : length r ≡ 6 * c₁ = x .rows-hold .whole in
       let b : length r′ ≡ 6 * c₂ = x′ .rows-hold .whole in
-      let one : v′ ≡ v = number-unique v′ v (f′ ∙ sym f) in
+      let one : v′ ≡ v = number-unique v′ v (f′ .named ∙ sym (f .named)) in
       let k : c₁ ≡ c = omega arith in
       let k′ : c₂ ≡ c′ = omega arith in
       made-agree (subst (λ t. Success v p G H l d t scratch m r s) k x) (subst (λ t. Success v p G H l′ d′ t scratch′ m′ r′ s′) k′ (subst (λ t. Success t p G H l′ d′ c₂ scratch′ m′ r′ s′) one x′)) (unit-accepted i p n G H rows scratch r s m h z)

@@ -2,7 +2,7 @@
 --   turned-rows      what comes out of accepted rows is scaled by the other convention
 --   rescales-back    there and back: the second answer is 0, and the rows are as they were
 --   rescales-holds   what holds the unit of a closing chain under one convention becomes what holds it under the other
---   holds-accepted   and it is accepted
+--   holds-rows rows-accepted   and it is accepted
 use mathlib.Core.Path.{_≡_, refl, sym, _∙_, subst}
 use mathlib.Core.List.{List}
 use Prim.Native.Nat.{ℕ, _*_, _≤_}
@@ -78,11 +78,11 @@ module _ {p : ℕ} {G H : List ℕ} where
         let same : o .c ≡ c = omega arith in
         turned-holds h (subst (λ m. Turned m p G H c rows rows′) (number-unique (o .k′) k′ (o .to ∙ sym e′)) (subst (λ m. Turned (o .k′) p G H m rows rows′) same (o .over)))
 
-  -- and it is accepted
-  pub holds-accepted : {i j n : ℕ} {rows rows′ : List ℕ} (k k′ : Convention) {l d c : ℕ} → Accepted p G H → number k ≡ i → number k′ ≡ j → c ≤ longest → Holds k p G H l d c rows →
+  -- and it is accepted, as all rows so scaled are
+  pub rows-accepted : {i j n c : ℕ} {rows rows′ : List ℕ} (k k′ : Convention) → number k ≡ i → number k′ ≡ j → Accepted p G H → ScaledRows k p G H c rows →
       Rescales p G H i j rows n rows′ → n ≡ 0
-  holds-accepted {i} {j} {n} {rows} {rows′} k k′ {l} {d} {c} A e e′ room h x = goes (x .goes (refusal-unique p G H (x .no) 0 (x .first) (accepted-none p G H A)))
+  rows-accepted {i} {j} {n} {c} {rows} {rows′} k k′ e e′ A s x = goes (x .goes (refusal-unique p G H (x .no) 0 (x .first) (accepted-none p G H A)))
     where
       goes : Goes p G H i j rows n rows′ → n ≡ 0
-      goes (unfit a r) = absurd (a k k′ c e e′ (holds-rows room h))
+      goes (unfit a r) = absurd (a k k′ c e e′ s)
       goes (turned _ _ _ _ _ _ z _) = z
