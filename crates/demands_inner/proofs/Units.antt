@@ -56,7 +56,7 @@ factor-unique {f} {no} {c} {rows} s s′ t h k =
     let ρ = reading (f .field .p) (A .prime) in
     let (w, l) = positive-weight (setting A) (t .k) (t .holds .unit A) in
     let e = scale-unique (setting A) (t .k) (six A c 0 rows) (constant A s) (constant A s′) l (constant-unit A s (h .below) (h .some)) (constant-unit A s′ (k .below) (k .some))
-        (h .law (t .G) (t .H) A (t .kept) (t .holds) (t .k) (t .named)) (k .law (t .G) (t .H) A (t .kept) (t .holds) (t .k) (t .named)) in
+    (h .law (t .G) (t .H) A (t .kept) (t .holds) (t .k) (t .named)) (k .law (t .G) (t .H) A (t .kept) (t .holds) (t .k) (t .named)) in
     cast-inj ρ s s′ (h .below) (k .below) (const-inj ρ (ρ .cast s) (ρ .cast s′) (ap (λ x. x .0) e))
 
 pub turns-unique : {f : OpenedField} {no c : ℕ} {rows : List ℕ} (r₁ r₂ : List ℕ) → TurnAsks f no c rows → Turns f no c rows r₁ → Turns f no c rows r₂ → r₁ ≡ r₂

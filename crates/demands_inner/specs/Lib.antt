@@ -21,7 +21,7 @@
 --                  strict_refusal: refusal-unique (field_open/proofs/Stages); open:
 --                  opens-unique (field_open/proofs/Opening)
 --   field_next, field_pairs   next_pair, fill serve `grow` alone: grow-unique is of the whole
---   field_fill     grow: grow-unique (Steps)
+--   field_fill     grow: grow-unique (Units)
 --   field_series   series, open_with_series: answer-unique, expands-unique (field_series/proofs/Answer)
 --   pair_lists     agree: decides-unique (base_answers/proofs/Tests)
 --   pair_agree     one_field: decides-unique (base_answers/proofs/Tests); paired: pairs-unique (pair_agree/proofs/Once)
@@ -96,8 +96,9 @@
 --   capi_walk      put: puts-unique (capi_walk/proofs/Once)
 --   capi           zaminuk_refusal, zaminuk_series, zaminuk_check, zaminuk_transfer, zaminuk_rescale: refusal-unique, answer-unique,
 --                  checks-unique, transfers-unique, rescales-unique as above; zaminuk_order, zaminuk_step, zaminuk_walk,
---                  zaminuk_from_order, zaminuk_unit, zaminuk_unit_scaled, zaminuk_one_field: order-tells-unique, step-tells-unique, walk-tells-unique, from-order-tells-unique,
---                  unit-tells-unique, one-field-tells-unique; zaminuk_book_check, _attest, _write, _add:
+--                  zaminuk_from_order, zaminuk_unit, zaminuk_unit_scaled, zaminuk_one_field: order-tells-unique, step-tells-unique,
+--                  walk-tells-unique, from-order-tells-unique, unit-tells-unique, one-field-tells-unique; zaminuk_book_check, _attest,
+--                  _write, _add:
 --                  check-says-unique, attest-says-unique, write-says-unique, add-says-unique (capi/proofs/Once); zaminuk_book_ask,
 --                  _begin, _write_rows, zaminuk_body_prime, _period, _list: as above
 pub mod Turnable
