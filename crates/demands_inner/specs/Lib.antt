@@ -21,7 +21,7 @@
 --                  strict_refusal: refusal-unique (field_open/proofs/Stages); open:
 --                  opens-unique (field_open/proofs/Opening)
 --   field_next, field_pairs   next_pair, fill serve `grow` alone: grow-unique is of the whole
---   field_fill     grow: grow-unique (Steps)
+--   field_fill     grow: grow-unique (Units)
 --   field_series   series, open_with_series: answer-unique, expands-unique (field_series/proofs/Answer)
 --   pair_lists     agree: decides-unique (base_answers/proofs/Tests)
 --   pair_agree     one_field: decides-unique (base_answers/proofs/Tests); paired: pairs-unique (pair_agree/proofs/Once)
@@ -55,13 +55,16 @@
 --   unit_inverse   invert: invert-unique (Long)
 --   unit_norm      norm: norm-unique (unit_norm/proofs/Norms)
 --   unit_finish    finished: finished-unique (unit_make/proofs/Whole)
---   unit_make      make: make-unique (Steps)
+--   unit_make      make: make-unique (Units)
+--   unit_scale     no_convention, factor, turn: no-convention-unique, factor-unique, turns-unique (Units)
+--   unit_check     is_unit: is-unit-unique (Units)
 --   door_order     order: orders-unique (door_order/proofs/Answer)
 --   door_check     check: checks-unique (door_check/proofs/Answer)
 --   door_step      step: answers-unique (door_step/proofs/Answers)
 --   door_walk      walk: walks-unique (walk_chain/proofs/Walk)
 --   door_period    from_order: from-order-unique (door_period/proofs/Order)
---   door_unit      unit: makes-unique (door_unit/proofs/Once)
+--   door_unit      unit, unit_scaled: makes-unique (door_unit/proofs/Once)
+--   door_rescale   rescale: rescales-unique (door_rescale/proofs/Once)
 --   door_compare   refusal, compare: refusals-unique, compares-unique (door_compare/proofs/Once)
 --   door_transfer  transfer: transfers-unique (door_transfer/proofs/Once)
 --   book_bytes     read_list, put_two, put_four, put_list, copy_in, lift: written-unique (base_lists/proofs/Puts)
@@ -91,10 +94,11 @@
 --   lister_print   put_made: placed-unique (base_lists/proofs/Puts)
 --   lister         answer, pass: answer-unique, passes-unique (lister/proofs/Once)
 --   capi_walk      put: puts-unique (capi_walk/proofs/Once)
---   capi           zaminuk_refusal, zaminuk_series, zaminuk_check, zaminuk_transfer: refusal-unique, answer-unique, checks-unique,
---                  transfers-unique as above; zaminuk_order, zaminuk_step, zaminuk_walk, zaminuk_from_order, zaminuk_unit,
---                  zaminuk_one_field: order-tells-unique, step-tells-unique, walk-tells-unique, from-order-tells-unique,
---                  unit-tells-unique, one-field-tells-unique; zaminuk_book_check, _attest, _write, _add:
+--   capi           zaminuk_refusal, zaminuk_series, zaminuk_check, zaminuk_transfer, zaminuk_rescale: refusal-unique, answer-unique,
+--                  checks-unique, transfers-unique, rescales-unique as above; zaminuk_order, zaminuk_step, zaminuk_walk,
+--                  zaminuk_from_order, zaminuk_unit, zaminuk_unit_scaled, zaminuk_one_field: order-tells-unique, step-tells-unique,
+--                  walk-tells-unique, from-order-tells-unique, unit-tells-unique, one-field-tells-unique; zaminuk_book_check, _attest,
+--                  _write, _add:
 --                  check-says-unique, attest-says-unique, write-says-unique, add-says-unique (capi/proofs/Once); zaminuk_book_ask,
 --                  _begin, _write_rows, zaminuk_body_prime, _period, _list: as above
 pub mod Turnable
