@@ -1,6 +1,7 @@
 -- Both conventions (request E6).
 --   cubes         every constant of an accepted field has a cube root
 --   closing-unit  the unit of a closing chain under a convention
+--   one-answer    the answer beside the rows, under two conventions
 --   unit-turned   what `unit` gives under one convention, turned
 use mathlib.Core.Path.{_≡_, refl, sym, ap, _∙_, subst}
 use mathlib.Core.List.{List, [], _∷_}
@@ -19,17 +20,18 @@ use Rattle.math_ideals.specs.Ideal.{Basis}
 use Rattle.math_ideals.specs.Next.{Start}
 use Rattle.math_ideals.proofs.Lattice.{sc-mul}
 use Rattle.math_chain.specs.Chain.{Closing}
-use Rattle.math_chain.specs.Convention.{Convention, Cubes}
+use Rattle.math_chain.specs.Convention.{Convention, number, Cubes}
 use Rattle.math_chain.proofs.Unit.{unit-exists, unit-unique, unit-positive, unit-rescaled, positive-scaling}
 use Rattle.basis_record.specs.Record.{setting}
 use Rattle.unit_finish.specs.Rows.{Holds}
 use Rattle.unit_finish.proofs.Rows.{rows-unique}
 use Rattle.door_unit.specs.declared.UnitAnswer.{UnitAnswer}
 use Rattle.door_unit.specs.Unit.{Makes}
+use Rattle.door_unit.proofs.Once.{makes-alike}
 use Rattle.door_rescale.specs.Rescale.{Rescales}
 use Rattle.door_rescale.proofs.Back.{done, turned-rows, holds-rows, rescales-back, rescales-holds, rows-accepted}
 use Rattle.demands.proofs.Cases.{unit-made, unit-accepted}
-use Rattle.demands_requests.specs.Conventions.{OnlyUnit, Carried, Conventions}
+use Rattle.demands_requests.specs.Conventions.{OnlyUnit, Conventions}
 
 cubes : {p : ℕ} {G H : List ℕ} (A : Accepted p G H) → Cubes (setting A .𝓥 .K)
 cubes {p} A u =
@@ -66,6 +68,12 @@ unit-turned {p} {i} {j} {n} {n′} {k} {G} {H} {x} {y} {x′} {y′} {r} {s} {r�
     let zero : k ≡ 0 = rows-accepted k₁ k₂ (b .named) (b′ .named) A (holds-rows (b .six .room) (u .rows-hold)) t in
     (zero, rows-unique A c r₁ r′ (rescales-holds t zero k₁ k₂ (b .named) (b′ .named) (u .rows-hold)) (subst (λ q. Holds k₂ p G H l′ d′ q r′) same (u′ .rows-hold)))
 
+one-answer : {p i j n : ℕ} {G H x y r s r′ s′ : List ℕ} (k k′ : Convention) → number k ≡ i → number k′ ≡ j → (m m′ : UnitAnswer) →
+    Makes i p G H n x y m r s → Makes j p G H n x y m′ r′ s′ → (m ≡ m′) × (s ≡ s′)
+one-answer {p} {i} {j} {n} {G} {H} {x} {y} {r} {s} {r′} {s′} k k′ e e′ m m′ h h′ =
+    let a = makes-alike i j p G H n x y (λ _ _. (k′, e′)) (λ _ _. (k, e)) m m′ r r′ s s′ h h′ in
+    (λ t. record { refusal = a .number-same t; period = record { 0 = a .period-same t }; regulator = record { 0 = a .regulator-same t } }, a .scratch-alike)
+
 pub conventions : Conventions
 conventions = record {
   one-scaling = λ A k u. positive-scaling (setting A) (cubes A) k u;
@@ -83,5 +91,6 @@ conventions = record {
   };
   accepts = λ k k′ e e′ A s x. rows-accepted k k′ e e′ A s x;
   there-and-back = λ x z y. rescales-back x z y;
+  one-answer = one-answer;
   unit-turned = unit-turned;
 }

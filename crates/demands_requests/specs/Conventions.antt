@@ -67,6 +67,11 @@ pub record Conventions : Type 0 where
       Rescales p G H i j rows n rows′ → n ≡ 0 →
       Rescales p G H j i rows′ m rows″ →
       (m ≡ 0) × (rows″ ≡ rows)
+  -- refusal, period, regulator and scratch do not depend on the convention
+  pub one-answer :
+      {p i j n : ℕ} {G H x y r s r′ s′ : List ℕ} (k k′ : Convention) → number k ≡ i → number k′ ≡ j → (m m′ : UnitAnswer) →
+      Makes i p G H n x y m r s → Makes j p G H n x y m′ r′ s′ →
+      (m ≡ m′) × (s ≡ s′)
   -- what `unit` gives under one convention becomes what it gives under the other
   pub unit-turned :
       {p i j n n′ k : ℕ} {G H x y x′ y′ r s r′ s′ r₁ : List ℕ} (m m′ : UnitAnswer) →

@@ -13,7 +13,7 @@ use Rattle.field_series.specs.declared.OpenedAnswer.{OpenedAnswer}
 use Rattle.field_series.proofs.Answer.{expands-number}
 use Rattle.basis_field.proofs.Known.{prime-of, kept-of}
 use Rattle.unit_scale.specs.Scale.{FactorAsks, Turned, Turns}
-use Rattle.door_rescale.specs.Rescale.{ScaledRows, Refused, unfit, turned, Rescales}
+use Rattle.door_rescale.specs.Rescale.{ScaledRows, unfit, turned, Rescales}
 use Rattle.door_rescale.specs.Test.{Fit, Unfit}
 
 module _ {p : ℕ} {G H : List ℕ} {i j : ℕ} {rows : List ℕ} {e : OpenedAnswer} (opens : Expands p G H e) where

@@ -2,11 +2,11 @@
 --   factor-in          what `factor` asks of rows that hold a unit
 --   off-one at-one     the unit is scaled by a convention exactly where the factor is 1
 --   unfit-six unfit-last   the answers of `unfit`
-use mathlib.Core.Path.{_≡_, refl, sym, ap, _∙_, subst}
+use mathlib.Core.Path.{_≡_, sym, ap, _∙_, subst}
 use mathlib.Core.Logic.{_≢_}
 use mathlib.Core.Bool.{Bool, true, false}
 use mathlib.Core.List.{List}
-use Prim.Native.Nat.{ℕ, _+_, _/_, _<_, _≤_}
+use Prim.Native.Nat.{ℕ, _/_, _<_}
 use native.Mathlib.Omega.{arith}
 use lib.ListN.{length}
 use Rattle.base_answers.specs.Limits.{SixRows}
@@ -19,18 +19,18 @@ use Rattle.math_rows.specs.Reading.{Reading}
 use Rattle.math_rows.specs.Made.{reading}
 use Rattle.math_rows.proofs.Unique.{cast-inj, const-inj}
 use Rattle.field_open.specs.Refusal.{Accepted}
-use Rattle.math_ideals.specs.Setting.{Setting, P}
+use Rattle.math_ideals.specs.Setting.{Setting}
 use Rattle.math_ideals.specs.Element.{O, sc}
 use Rattle.math_chain.specs.Convention.{Convention, number, Scaled}
 use Rattle.math_chain.proofs.Scaling.{scale-unique}
 use Rattle.math_chain.proofs.Unit.{positive-weight}
 use Rattle.basis_record.specs.Record.{setting}
-use Rattle.field_series.specs.Keeps.{Kept, Known}
+use Rattle.field_series.specs.Keeps.{Kept}
 use Rattle.field_series.specs.declared.OpenedField.{OpenedField}
 use Rattle.unit_finish.specs.Rows.{six, HoldsUnit}
 use Rattle.unit_scale.specs.Scale.{constant, FactorAsks, Factors}
 use Rattle.door_rescale.specs.Rescale.{ScaledRows}
-use Rattle.door_rescale.specs.Test.{MisscaledAsks, Misscaled, Fit, Unfit}
+use Rattle.door_rescale.specs.Test.{MisscaledAsks, Misscaled, Unfit}
 
 -- ---- the factor
 module _ {f : OpenedField} {i c : ℕ} {rows : List ℕ} (t : MisscaledAsks f i c rows) where

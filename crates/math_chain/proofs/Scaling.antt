@@ -11,10 +11,9 @@
 use mathlib.Core.Path.{_≡_, refl, sym, ap, _∙_, subst}
 use mathlib.Core.Logic.{_≢_}
 use mathlib.Core.List.{[], _∷_}
-use Prim.Native.Nat.{ℕ}
 use native.Mathlib.Omega.{arith}
 use Rattle.math_ring.proofs.Laws as rg
-use Rattle.math_ring.specs.Ring.{Ops, CRing}
+use Rattle.math_ring.specs.Ring.{Ops}
 use Rattle.math_ring.proofs.Solve.{var, hyp, one, zer, minus, _:+_, _:*_, solve-by}
 use Rattle.math_valued.specs.Val.{Valued}
 use Rattle.math_valued.specs.Degree.{Leads}

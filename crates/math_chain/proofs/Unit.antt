@@ -8,7 +8,7 @@
 --   unit-exists unit-unique   the unit of document 01 exists and is one; `unit-degree`: deg E0 = d, and d is even
 --   unit-positive unit-rescaled   it is a unit of positive degree, and scaled by another convention it is the unit of that one
 --   positive-scaling       a unit of positive degree has exactly one scaling under each convention
-use mathlib.Core.Path.{_≡_, refl, sym, ap, ap₂, _∙_, subst}
+use mathlib.Core.Path.{_≡_, sym, ap, ap₂, _∙_, subst}
 use mathlib.Core.List.{[], _∷_}
 use mathlib.Core.Logic.{_≢_, _⊎_, inl, inr}
 use Prim.Native.Nat.{ℕ, _≤_, _+_ as _+ⁿ_, _-_ as _-ⁿ_}

@@ -13,7 +13,7 @@ use Rattle.math_valued.specs.Degree.{Lt}
 use Rattle.math_valued.proofs.Polynomial.{unit-const, const-path}
 use Rattle.math_rows.specs.Reading.{Reading}
 use Rattle.math_rows.specs.Made.{reading}
-use Rattle.math_rows.specs.Row.{Row, row}
+use Rattle.math_rows.specs.Row.{row}
 use Rattle.field_open.specs.Refusal.{Accepted}
 use Rattle.field_open.proofs.Accept.{with-prime}
 use Rattle.math_ideals.specs.Element.{O, sc, norm, cof}

@@ -5,7 +5,7 @@
 --   at-const      a constant is its value
 use mathlib.Core.Path.{_≡_, sym, ap, ap₂, _∙_}
 use mathlib.Core.List.{List, [], _∷_}
-use Prim.Native.Nat.{ℕ, zero, suc}
+use Prim.Native.Nat.{ℕ, zero}
 use Prim.Native.Nat as N
 use native.Mathlib.Omega.{arith}
 use lib.ListN.{length, getD}

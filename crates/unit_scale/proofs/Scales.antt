@@ -3,17 +3,16 @@
 --   top-some        E0 has a last coefficient
 --   monic-law       its inverse makes E0 monic
 --   norm-number     the number for the norm stands for the norm, which is not 0
---   norm-law        the inverse of its cube root makes the norm 1
+--   norm-law        the cube root of its inverse makes the norm 1
 --   held-of, monic-in, norm-in, factors-monic, factors-norm   what `factor` asks of its parts and hands out
 use mathlib.Core.Path.{_≡_, refl, sym, ap, _∙_, subst}
 use mathlib.Core.Logic.{_≢_}
-use mathlib.Core.List.{List, [], _∷_}
+use mathlib.Core.List.{List}
 use Prim.Native.Nat.{ℕ, zero, suc, _+_, _*_, _-_, _%_, _<_, _≤_}
 use native.Mathlib.Omega.{arith}
 use native.Mathlib.Nat.{mul-zero, mod-eq-of-lt}
 use lib.ListN.{length, getD}
 use Rattle.math_ring.specs.Ring.{Ops}
-use Rattle.math_ring.proofs.Solve.{var, hyp, one, _:*_, solve-by}
 use Rattle.math_ring.proofs.Laws as rg
 use Rattle.math_valued.specs.Degree.{Has, Leads}
 use Rattle.math_valued.proofs.Degree.{has-eq, has-not-zero, above}
@@ -149,22 +148,16 @@ module _ {f : OpenedField} {G H : List ℕ} {c : ℕ} {rows : List ℕ} (t : Hel
     pub norm-some : 0 < v
     norm-some = let z : v ≢ 0 = (λ e. norm-number .2 (ap (ρ .cast) e ∙ ρ .cast-zero)) in omega (arith, z)
 
-    module _ (w : ℕ) (root : CubeRoot p v w) where
-      root-cast : ρ .cast w *ᵏ ρ .cast w *ᵏ ρ .cast w ≡ ρ .cast v
+    module _ (u : ℕ) (inverse : (v * u) % p ≡ 1) (q : ℕ) (root : CubeRoot p u q) where
+      root-cast : ρ .cast q *ᵏ ρ .cast q *ᵏ ρ .cast q ≡ ρ .cast u
       root-cast =
-          ap (λ x. x *ᵏ ρ .cast w) (sym (ρ .cast-mul w w)) ∙ sym (ρ .cast-mul (w * w) w) ∙ sym (ρ .cast-mod (w * w * w)) ∙ ap (ρ .cast) (root .law)
+          ap (λ x. x *ᵏ ρ .cast q) (sym (ρ .cast-mul q q)) ∙ sym (ρ .cast-mul (q * q) q) ∙ sym (ρ .cast-mod (q * q * q)) ∙ ap (ρ .cast) (root .law)
 
-      pub root-some : 0 < w
-      root-some =
-          let z : w ≢ 0 = (λ e. norm-number .2 (sym root-cast ∙ ap (λ x. x *ᵏ x *ᵏ x) (ap (ρ .cast) e ∙ ρ .cast-zero) ∙ rg.mul-zero (ρ .𝓥 .K) (0ᵏ *ᵏ 0ᵏ))) in
-          omega (arith, z)
+      root-not : ρ .cast q ≢ 0ᵏ
+      root-not z = one-not v u inverse (sym root-cast ∙ ap (λ x. x *ᵏ x *ᵏ x) z ∙ rg.mul-zero (ρ .𝓥 .K) (0ᵏ *ᵏ 0ᵏ))
 
-      pub norm-law : (q : ℕ) → (w * q) % p ≡ 1 → Scaled S norm-one (O S .ops .mul (sc S (constant A q)) E)
-      norm-law q e =
-          let x = var 0 in let y = var 1 in let z = var 2 in
-          scaled-by S norm-one (constant A q) E (positive-norm S unit) (one-not w q e) (ρ .𝓥 .const-lead (ρ .cast q)) norm-number
-          (solve-by (ρ .𝓥 .K) (x :* x :* x :* z) one (hyp (x :* x :* x) z (y :* y :* y) ∷ hyp (x :* y :* (x :* y)) (x :* y) one ∷ hyp (x :* y) (x :* y) one ∷ hyp one (x :* y) one ∷ []) tt
-          (ρ .cast q ∷ ρ .cast w ∷ ρ .cast v ∷ []) (sym root-cast, (one-cast w q e, (one-cast w q e, (one-cast w q e, tt)))))
+      pub norm-law : Scaled S norm-one (O S .ops .mul (sc S (constant A q)) E)
+      norm-law = scaled-by S norm-one (constant A q) E (positive-norm S unit) root-not (ρ .𝓥 .const-lead (ρ .cast q)) norm-number (ap (λ x. x *ᵏ ρ .cast v) root-cast ∙ one-cast v u inverse)
 
 -- ---- what `factor` asks and hands out
 module _ {f : OpenedField} {n c : ℕ} {rows : List ℕ} (t : FactorAsks f n c rows) where
@@ -191,15 +184,22 @@ module _ {f : OpenedField} {n c : ℕ} {rows : List ℕ} (t : FactorAsks f n c r
     each = t .holds .each;
     g-below = keeps.g-row (t .kept) .each 0;
     h-below = keeps.h-row (t .kept) .each 0;
-    some = λ v w made root. root-some held-of A₀ v made w root;
+    some = norm-some held-of A₀;
   }
 
--- a number with an inverse is not 0
+-- a number with an inverse is not 0, nor is a cube root of such a one
 inverse-some : {p a r : ℕ} → 0 < p → Inverse p a r → 0 < r
 inverse-some {p} {a} {r} pos i =
     let z : r ≢ 0 = (λ e.
     let o : (a * r) % p ≡ 0 = ap (λ x. (a * x) % p) e ∙ ap (λ x. x % p) (mul-zero a) ∙ mod-eq-of-lt pos in
     let l : (a * r) % p ≡ 1 = i .law in absurd (omega arith)) in
+    omega (arith, z)
+
+root-some : {p a r : ℕ} → 0 < p → 0 < a → CubeRoot p a r → 0 < r
+root-some {p} {a} {r} pos some i =
+    let z : r ≢ 0 = (λ e.
+    let o : (r * r * r) % p ≡ 0 = ap (λ x. (x * x * x) % p) e ∙ mod-eq-of-lt pos in
+    let l : (r * r * r) % p ≡ a = i .law in absurd (omega arith)) in
     omega (arith, z)
 
 -- the norm of the numbers in their places
@@ -217,11 +217,11 @@ factors-monic {f} {n} {c} {rows} {r} pos e m = record {
 
 pub factors-norm : {f : OpenedField} {n c : ℕ} {rows : List ℕ} {r : ℕ} → 0 < f .field .p → n ≢ 1 → ForNorm (f .field .p) (getD (f .field .g) 0 0) (getD (f .field .h) 0 0) c rows r → Factors f n c rows r
 factors-norm {f} {n} {c} {rows} {r} pos e m = record {
-  below = m .inverse .below;
-  some = inverse-some pos (m .inverse);
+  below = m .root .below;
+  some = root-some pos (inverse-some pos (m .inverse)) (m .root);
   law = λ G H A kept holds k named.
       subst (λ j. Scaled (setting A) j (O (setting A) .ops .mul (sc (setting A) (constant A r)) (six A c 0 rows))) (sym (named-two k (λ q. e (sym named ∙ q))))
-      (norm-law (record { kept = kept; holds = holds }) A (m .v) (m .is-norm) (m .w) (m .root) r (m .inverse .law));
+      (norm-law (record { kept = kept; holds = holds }) A (m .v) (m .is-norm) (m .u) (m .inverse .law) r (m .root));
 }
 
 pub p-pos : {f : OpenedField} {n c : ℕ} {rows : List ℕ} → FactorAsks f n c rows → 0 < f .field .p

@@ -7,21 +7,18 @@
 --   turned-scaled    what comes out is scaled
 use mathlib.Core.Path.{_≡_, sym, ap, _∙_, subst}
 use mathlib.Core.List.{List, [], _∷_}
-use Prim.Native.Nat.{ℕ, _+_, _*_, _<_}
-use lib.ListN.{length, getD}
-use Rattle.math_ring.specs.Ring.{Ops}
+use Prim.Native.Nat.{ℕ, _+_, _*_}
 use Rattle.math_ring.proofs.Laws as rg
-use Rattle.math_ring.proofs.Solve.{var, hyp, one, minus, _:*_, solve-by}
-use Rattle.math_valued.specs.Polynomial.{polys, IsUnit}
+use Rattle.math_ring.proofs.Solve.{var, hyp, one, _:*_, solve-by}
+use Rattle.math_valued.specs.Polynomial.{polys}
 use Rattle.math_valued.proofs.Degree.{has-eq}
 use Rattle.math_valued.proofs.Compare.{has-scale}
 use Rattle.math_valued.proofs.Polynomial.{unit-const}
 use Rattle.field_open.specs.Refusal.{Accepted}
-use Rattle.math_ideals.specs.Setting.{Setting, P}
 use Rattle.math_ideals.specs.Element.{O, sc, ev}
 use Rattle.math_ideals.proofs.Sizes.{ev-sc}
 use Rattle.math_ideals.proofs.Lattice.{sc-mul}
-use Rattle.math_chain.specs.Convention.{Convention, Scaled, PositiveUnit}
+use Rattle.math_chain.specs.Convention.{Convention, Scaled}
 use Rattle.math_chain.specs.Unit.{UnitOf}
 use Rattle.math_chain.proofs.Exists.{order-exists}
 use Rattle.math_chain.proofs.Scaling.{scale-unique}
@@ -29,7 +26,7 @@ use Rattle.math_chain.proofs.Unit.{inverse-unique, unit-positive, unit-rescaled
 use Rattle.basis_record.specs.Record.{setting}
 use Rattle.unit_finish.specs.Rows.{six, Holds, HoldsUnit}
 use Rattle.unit_finish.proofs.Rows.{same-rows}
-use Rattle.unit_scale.specs.Scale.{ScaledOver, Turned}
+use Rattle.unit_scale.specs.Scale.{Turned}
 
 module _ {p : ℕ} {G H : List ℕ} where
   pub holds-unit : {k : Convention} {l d c : ℕ} {rows : List ℕ} → Holds k p G H l d c rows → HoldsUnit p G H c rows

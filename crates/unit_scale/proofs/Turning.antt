@@ -12,11 +12,10 @@ use lib.ListN.{length, getD, take, drop}
 use Rattle.math_ring.specs.Ring.{Ops}
 use Rattle.math_ring.proofs.Solve.{var, hyp, one, _:*_, solve-by}
 use Rattle.math_ring.proofs.Laws as rg
-use Rattle.math_valued.specs.Polynomial.{polys}
 use Rattle.math_valued.proofs.Polynomial.{P-path, const-unit}
 use Rattle.math_rows.specs.Reading.{Reading}
 use Rattle.math_rows.specs.Made.{reading}
-use Rattle.math_rows.proofs.Tab.{length-tab, at-tab}
+use Rattle.math_rows.proofs.Tab.{at-tab}
 use Rattle.base_lists.specs.Pieces.{cut, between}
 use Rattle.base_lists.proofs.Pieces.{between-length, between-cut}
 use Rattle.base_lists.proofs.Puts.{Around, put-back}
@@ -26,14 +25,13 @@ use Rattle.math_ideals.specs.Setting.{Setting}
 use Rattle.math_ideals.specs.Element.{O, sc}
 use Rattle.math_ideals.proofs.Sizes.{sc-a, sc-b, sc-c}
 use Rattle.math_ideals.proofs.Lattice.{sc-mul}
-use Rattle.math_chain.specs.Convention.{Convention, number, Scaled}
+use Rattle.math_chain.specs.Convention.{Convention, Scaled}
 use Rattle.basis_record.specs.Record.{setting}
-use Rattle.field_series.specs.Keeps.{Kept}
 use Rattle.field_series.specs.declared.OpenedField.{OpenedField}
 use Rattle.unit_inverse.proofs.Inverting.{row-scaled}
 use Rattle.unit_finish.specs.Rows.{six, HoldsUnit}
 use Rattle.unit_finish.proofs.Stored.{six-path}
-use Rattle.unit_scale.specs.Scale.{constant, ScaledOver, Turned, Factors, Turns}
+use Rattle.unit_scale.specs.Scale.{constant, ScaledOver, Factors, Turns}
 
 -- ---- a part of a list
 module _ (p s a k : ℕ) (l q : List ℕ) (m : ℕ) (em : m ≡ k) (inside : a + k ≤ length l) (z : ScaledList p s (between a (a + k) l) q) where

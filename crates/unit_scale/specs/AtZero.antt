@@ -3,7 +3,7 @@
 --   NormAsks             five such numbers
 --   NormIs p g h a b c r   r is their norm in the field of p elements
 --   for_monic  ForMonic    the inverse of the last coefficient of the first of three rows
---   for_norm   ForNorm     the inverse of the cube root of the norm's value at t = 0
+--   for_norm   ForNorm     the cube root of the inverse of the norm's value at t = 0
 use mathlib.Core.Path.{_≡_}
 use mathlib.Core.List.{List}
 use Prim.Native.Nat.{ℕ, _+_, _-_, _%_, _<_, _≤_}
@@ -55,11 +55,11 @@ pub record ForNormAsks (p g h c : ℕ) (rows : List ℕ) : Type 0 where
   pub each : (i : ℕ) → getD rows i 0 < p
   pub g-below : g < p
   pub h-below : h < p
-  pub some : (v w : ℕ) → NormIs p g h (getD rows 0 0) (getD rows c 0) (getD rows (c + c) 0) v → CubeRoot p v w → 0 < w
+  pub some : (v : ℕ) → NormIs p g h (getD rows 0 0) (getD rows c 0) (getD rows (c + c) 0) v → 0 < v
 
 pub record ForNorm (p g h c : ℕ) (rows : List ℕ) (r : ℕ) : Type 0 where
   pub v : ℕ
   pub is-norm : NormIs p g h (getD rows 0 0) (getD rows c 0) (getD rows (c + c) 0) v
-  pub w : ℕ
-  pub root : CubeRoot p v w
-  pub inverse : Inverse p w r
+  pub u : ℕ
+  pub inverse : Inverse p v u
+  pub root : CubeRoot p u r

@@ -10,13 +10,12 @@
 use mathlib.Core.Path.{_≡_}
 use mathlib.Core.Bool.{Bool, true, false}
 use mathlib.Core.List.{List}
-use Prim.Native.Nat.{ℕ, _+_, _*_, _<_, _≤_}
+use Prim.Native.Nat.{ℕ, _+_, _<_, _≤_}
 use lib.ListN.{length, getD}
-use Rattle.math_ring.specs.Ring.{Ops}
 use Rattle.math_valued.specs.Polynomial.{IsUnit}
 use Rattle.math_rows.specs.Made.{reading}
 use Rattle.field_open.specs.Refusal.{Accepted}
-use Rattle.math_ideals.specs.Setting.{Setting, P}
+use Rattle.math_ideals.specs.Setting.{P}
 use Rattle.math_ideals.specs.Element.{O, sc}
 use Rattle.math_chain.specs.Convention.{Convention, number, Scaled}
 use Rattle.basis_record.specs.Record.{setting}

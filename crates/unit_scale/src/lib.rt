@@ -61,8 +61,9 @@ fn for_norm(p: u64, g: u64, h: u64, c: usize, rows: &[u16]) -> u64
     ensures { λ r. ⌜ ForNorm p g h c (now (rows .entry)) r ⌝ }
 {
     let v = norm(p, g, h, wide(rows[0]), wide(rows[c]), wide(rows[c + c]));
-    let w = cube_root(p, v);
-    inverse(p, w)
+    let u = inverse(p, v);
+    let w = cube_root(p, u);
+    w
 }
 
 // The constant by which the unit in the rows is to be multiplied.

@@ -1,9 +1,6 @@
-use Prim.Native.Nat.{ℕ, zero, suc, _≤_, _<_, _-_, _*_, _+_, _%_}
-use mathlib.Core.Path.{_≡_, _∙_, sym, ap, refl, subst}
-use mathlib.Core.List.{List, [], _∷_, _++_}
-use native.Mathlib.Omega.{arith}
-use native.Mathlib.Numerals.{add-one}
-use lib.ListN.{length, length-set, getD, set, replicate, take, drop}
+-- `door_rescale::rescale` meets its contract.
+use Prim.Native.Nat.{_-_}
+use mathlib.Core.Path.{subst}
 use Rattle.basis_field.proofs.Known.{known-of}
 use Rattle.door_rescale.proofs.Answering.{rescales-refused, rescales-bad, turn-in, rescales-turned}
 use Rattle.door_rescale.specs.Test.{Unfit}

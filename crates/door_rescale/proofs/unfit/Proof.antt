@@ -1,9 +1,5 @@
-use Prim.Native.Nat.{ℕ, zero, suc, _≤_, _<_, _-_, _*_, _+_, _%_}
-use mathlib.Core.Path.{_≡_, _∙_, sym, ap, refl, subst}
-use mathlib.Core.List.{List, [], _∷_, _++_}
-use native.Mathlib.Omega.{arith}
-use native.Mathlib.Numerals.{add-one}
-use lib.ListN.{length, length-set, getD, set, replicate, take, drop}
+-- `door_rescale::unfit` meets its contract.
+use Prim.Native.Nat.{_-_}
 use Rattle.base_answers.proofs.Limits.{no-six, six-of, six-at}
 use Rattle.unit_scale.proofs.Named.{none-named, some-named}
 use Rattle.door_rescale.proofs.Testing.{unfit-six, unfit-last}

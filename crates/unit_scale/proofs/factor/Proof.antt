@@ -1,9 +1,5 @@
-use Prim.Native.Nat.{ℕ, zero, suc, _≤_, _<_, _-_, _*_, _+_, _%_}
-use mathlib.Core.Path.{_≡_, _∙_, sym, ap, refl, subst}
-use mathlib.Core.List.{List, [], _∷_, _++_}
-use native.Mathlib.Omega.{arith}
-use native.Mathlib.Numerals.{add-one}
-use lib.ListN.{length, length-set, getD, set, replicate, take, drop}
+-- `unit_scale::factor` meets its contract.
+use Prim.Native.Nat.{_-_}
 use Rattle.unit_scale.proofs.Scales.{monic-in, norm-in, factors-monic, factors-norm, p-pos}
 use borrow.Author.Needs.{needs}
 use Rattle.unit_scale.proofs.factor.Statement.{statement}

@@ -1,10 +1,7 @@
 -- `unit_scale::for_monic` meets its contract.
-use Prim.Native.Nat.{ℕ, zero, suc, _≤_, _<_, _-_, _*_, _+_, _%_}
-use mathlib.Core.Path.{_≡_, _∙_, sym, ap, refl, subst}
-use mathlib.Core.List.{List, [], _∷_, _++_}
+use Prim.Native.Nat.{_<_, _-_}
+use mathlib.Core.Path.{sym, subst}
 use native.Mathlib.Omega.{arith}
-use native.Mathlib.Numerals.{add-one}
-use lib.ListN.{length, length-set, getD, set, replicate, take, drop}
 use Rattle.num_power.specs.Powers.{Inverse}
 use Rattle.unit_scale.proofs.Numbers.{modulus-of, top-not-zero}
 use borrow.Author.Needs.{needs}

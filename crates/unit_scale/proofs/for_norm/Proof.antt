@@ -1,9 +1,6 @@
-use Prim.Native.Nat.{ℕ, zero, suc, _≤_, _<_, _-_, _*_, _+_, _%_}
-use mathlib.Core.Path.{_≡_, _∙_, sym, ap, refl, subst}
-use mathlib.Core.List.{List, [], _∷_, _++_}
-use native.Mathlib.Omega.{arith}
-use native.Mathlib.Numerals.{add-one}
-use lib.ListN.{length, length-set, getD, set, replicate, take, drop}
+-- `unit_scale::for_norm` meets its contract: proofs/Scales.antt.
+use Prim.Native.Nat.{_<_}
+use mathlib.Core.Path.{sym, subst}
 use Rattle.unit_scale.proofs.Numbers.{modulus-of}
 use Rattle.unit_scale.proofs.Scales.{norm-at}
 use borrow.Author.Needs.{needs}
@@ -12,9 +9,6 @@ use Rattle.unit_scale.proofs.for_norm.Tie as tie
 use Rattle.unit_scale.proofs.for_norm.Reads as reads
 use Rattle.unit_scale.proofs.for_norm.Lts as lts
 use Rattle.base_lists.proofs.wide.Reads as wide-reads
-use Rattle.num_power.proofs.cube_root.Reads as cube-root-reads
-use Rattle.num_power.proofs.inverse.Reads as inverse-reads
-use Rattle.unit_scale.proofs.norm.Reads as norm-reads
 
 shared-slice-read-wide : tie.Need-shared-slice-read-wide
 shared-slice-read-wide c = search needs
@@ -56,19 +50,21 @@ norm-requires c κs =
       c-below = subst (λ v. v < s .args .p) (sym (c .wide3 .ensures)) (s .pre .each _);
     }
 
-cube-root-requires : tie.Need-cube-root-requires
-cube-root-requires c κs = search needs
-
 inverse-requires : tie.Need-inverse-requires
 inverse-requires c κs =
-    let at2 = c .before .before in
-    let s = at2 .before .before .before .before .before .before .before in
+    let at1 = c .before in
+    let s = at1 .before .before .before .before .before .before .before in
     record {
       modulus = modulus-of (s .pre .modulus);
       prime = s .pre .modulus .prime;
-      pos = s .pre .some _ _ (norm-at (at2 .before .before .before .before .wide .ensures) (at2 .before .before .wide2 .ensures) (at2 .wide3 .ensures) (c .before .norm .ensures)) (c .cube-root .ensures);
-      below = c .cube-root .ensures .below;
+      pos = s .pre .some _ (norm-at (at1 .before .before .before .before .wide .ensures) (at1 .before .before .wide2 .ensures) (at1 .wide3 .ensures) (c .norm .ensures));
+      below = c .norm .ensures .below;
     }
+
+cube-root-requires : tie.Need-cube-root-requires
+cube-root-requires c κs =
+    let s = c .before .before .before .before .before .before .before .before .before in
+    record { modulus = modulus-of (s .pre .modulus); prime = s .pre .modulus .prime; kind = s .pre .kind; below = c .inverse .ensures .below }
 
 returns : tie.Need-returns
 returns c =
@@ -76,9 +72,9 @@ returns c =
     record {
       v = c .before .before .norm .result;
       is-norm = norm-at (at3 .before .before .before .before .wide .ensures) (at3 .before .before .wide2 .ensures) (at3 .wide3 .ensures) (c .before .before .norm .ensures);
-      w = c .before .cube-root .result;
-      root = c .before .cube-root .ensures;
-      inverse = c .inverse .ensures;
+      u = c .before .inverse .result;
+      inverse = c .before .inverse .ensures;
+      root = c .cube-root .ensures;
     }
 
 pub for-norm-spec : {M : Type 1} → statement M
@@ -95,6 +91,6 @@ for-norm-spec =
     shared-slice-read-wide-3
     wide-requires-3
     norm-requires
-    cube-root-requires
     inverse-requires
+    cube-root-requires
     returns)

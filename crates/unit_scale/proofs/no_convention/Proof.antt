@@ -1,5 +1,5 @@
 -- `unit_scale::no_convention` meets its contract.
-use mathlib.Core.Path.{_≡_, sym, _∙_}
+use mathlib.Core.Path.{_≡_, sym}
 use mathlib.Core.Logic.{_≢_}
 use Prim.Native.Nat.{ℕ}
 use Rattle.math_chain.specs.Convention.{Convention, e0-monic, norm-one, number}

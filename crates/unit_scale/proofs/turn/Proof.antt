@@ -1,9 +1,6 @@
-use Prim.Native.Nat.{ℕ, zero, suc, _≤_, _<_, _-_, _*_, _+_, _%_}
-use mathlib.Core.Path.{_≡_, _∙_, sym, ap, refl, subst}
-use mathlib.Core.List.{List, [], _∷_, _++_}
+-- `unit_scale::turn` meets its contract.
+use Prim.Native.Nat.{_-_, _+_}
 use native.Mathlib.Omega.{arith}
-use native.Mathlib.Numerals.{add-one}
-use lib.ListN.{length, length-set, getD, set, replicate, take, drop}
 use Rattle.unit_finish.proofs.Stored.{storable}
 use Rattle.unit_scale.proofs.Turning.{turns, twice-scaled}
 use borrow.Author.Needs.{needs}
@@ -43,7 +40,7 @@ part-scale-end : tie.Need-part-scale-end
 part-scale-end c = search needs
 
 scale-requires : tie.Need-scale-requires
-scale-requires c κs = let s = c .before .before .before .before .before .before in record { modulus = storable (s .pre .kept .accepted); below = c .before .before .factor .ensures .below }
+scale-requires c κs = let m = storable (c .before .before .before .before .before .before .pre .kept .accepted) in let a = c .before .before .factor .ensures .below in let b = c .before .inverse .ensures .below in search needs
 
 mul-scale-2 : tie.Need-mul-scale-2
 mul-scale-2 c = search needs
@@ -58,7 +55,7 @@ part-scale-end-2 : tie.Need-part-scale-end-2
 part-scale-end-2 c = search needs
 
 scale-requires-2 : tie.Need-scale-requires-2
-scale-requires-2 c κs = let s = c .before .before .before .before .before .before .before .before .before .before in record { modulus = storable (s .pre .kept .accepted); below = c .before .before .before .before .before .inverse .ensures .below }
+scale-requires-2 c κs = let m = storable (c .before .before .before .before .before .before .before .before .before .before .pre .kept .accepted) in let a = c .before .before .before .before .before .before .factor .ensures .below in let b = c .before .before .before .before .before .inverse .ensures .below in search needs
 
 same-length : tie.Need-same-length
 same-length c = search needs
