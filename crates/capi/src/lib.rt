@@ -120,29 +120,8 @@ pub extern "C" fn zaminuk_from_order(
     o.refusal
 }
 
-// The unit and its inverse into the first of two lent slices of one length; period and regulator, 0 beside a refusal.
-#[no_mangle]
-pub extern "C" fn zaminuk_unit(
-    p: u64,
-    g: &[u64],
-    h: &[u64],
-    budget: u64,
-    rows: &mut [u16],
-    scratch: &mut [u16],
-    period: &mut u64,
-    regulator: &mut u64,
-) -> u32
-    ensures { λ n. ⌜ UnitTells 1 p (unpad (now (g .entry))) (unpad (now (h .entry))) budget (now (rows .entry)) (now (scratch .entry)) n (now (period .exit)) (now (regulator .exit)) (now (rows .exit)) (now (scratch .exit)) ⌝ }
-{
-    let o = door_unit::unit(p, g, h, budget, rows, scratch);
-    let t = o.period;
-    let r = o.regulator;
-    *period = t.0;
-    *regulator = r.0;
-    o.refusal
-}
-
-// The same under a convention: 1, E0 monic; 2, norm 1.
+// The unit under a convention, 1 for E0 monic and 2 for norm 1, and its inverse into the first of two lent slices of one length; period and
+// regulator, 0 beside a refusal.
 #[no_mangle]
 pub extern "C" fn zaminuk_unit_scaled(
     p: u64,
@@ -155,7 +134,9 @@ pub extern "C" fn zaminuk_unit_scaled(
     period: &mut u64,
     regulator: &mut u64,
 ) -> u32
-    ensures { λ n. ⌜ UnitTells convention p (unpad (now (g .entry))) (unpad (now (h .entry))) budget (now (rows .entry)) (now (scratch .entry)) n (now (period .exit)) (now (regulator .exit)) (now (rows .exit)) (now (scratch .exit)) ⌝ }
+    ensures { λ n.
+        ⌜ UnitTells convention p (unpad (now (g .entry))) (unpad (now (h .entry))) budget (now (rows .entry)) (now (scratch .entry)) n
+        (now (period .exit)) (now (regulator .exit)) (now (rows .exit)) (now (scratch .exit)) ⌝ }
 {
     let o = door_unit::unit_scaled(p, g, h, budget, convention, rows, scratch);
     let t = o.period;
@@ -163,6 +144,25 @@ pub extern "C" fn zaminuk_unit_scaled(
     *period = t.0;
     *regulator = r.0;
     o.refusal
+}
+
+// The same under convention 1.
+#[no_mangle]
+pub extern "C" fn zaminuk_unit(
+    p: u64,
+    g: &[u64],
+    h: &[u64],
+    budget: u64,
+    rows: &mut [u16],
+    scratch: &mut [u16],
+    period: &mut u64,
+    regulator: &mut u64,
+) -> u32
+    ensures { λ n.
+        ⌜ UnitTells 1 p (unpad (now (g .entry))) (unpad (now (h .entry))) budget (now (rows .entry)) (now (scratch .entry)) n
+        (now (period .exit)) (now (regulator .exit)) (now (rows .exit)) (now (scratch .exit)) ⌝ }
+{
+    zaminuk_unit_scaled(p, g, h, budget, 1, rows, scratch, period, regulator)
 }
 
 // The rows of a unit and its inverse, carried over in place from one convention to another.

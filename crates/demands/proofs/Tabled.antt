@@ -40,27 +40,27 @@ use Rattle.door_unit.proofs.Once.{refused-number}
 use Rattle.demands.specs.Tabled.{FieldTabled, OrderTabled, SeriesTabled, RecordTabled}
 use Rattle.demands.specs.Tabled.{WalkTabled, PeriodTabled, UnitWithin, UnitTabled}
 
-both : {A B : Type 0} → A → B → A ↔ B
+pub both : {A B : Type 0} → A → B → A ↔ B
 both a b = (λ x. b, λ y. a)
 
-neither : {A B : Type 0} → (A → ⊥) → (B → ⊥) → A ↔ B
+pub neither : {A B : Type 0} → (A → ⊥) → (B → ⊥) → A ↔ B
 neither f g = (λ a. absurd (f a), λ b. absurd (g b))
 
 module _ (p : ℕ) (G H : List ℕ) where
   -- ---- the field
   -- with a refusal from 1 to 8 it is not accepted
-  never : (k : ℕ) → Refusal p G H k → 1 ≤ k → Accepted p G H → ⊥
+  pub never : (k : ℕ) → Refusal p G H k → 1 ≤ k → Accepted p G H → ⊥
   never k r lo A = let z : k ≡ 0 = refusal-unique p G H k 0 r (accepted-none p G H A) in omega arith
 
-  field-refused : (x : ℕ) → Refusal p G H x → FieldTabled p G H x
+  pub field-refused : (x : ℕ) → Refusal p G H x → FieldTabled p G H x
   field-refused x r k lo hi = (λ e. subst (Refusal p G H) e r, λ q. refusal-unique p G H x k r q)
 
-  field-passed : (x : ℕ) → Accepted p G H → ((k : ℕ) → 1 ≤ k → k ≤ 8 → x ≢ k) → FieldTabled p G H x
+  pub field-passed : (x : ℕ) → Accepted p G H → ((k : ℕ) → 1 ≤ k → k ≤ 8 → x ≢ k) → FieldTabled p G H x
   field-passed x A f k lo hi = neither (f k lo hi) (λ r. never k r lo A)
 
   -- the table of an answer that comes through the field's door and carries the number x
   module _ (T : ℕ → Type 0) {R : ℕ → Type 0} {K : Type 0} {x : ℕ} (number : (k : ℕ) → R k → x ≡ k) where
-    door-tabled : ((k : ℕ) → Refusal p G H k → 1 ≤ k → k ≤ 8 → T k) → (Accepted p G H → K → T x) → Door p G H R K → T x
+    pub door-tabled : ((k : ℕ) → Refusal p G H k → 1 ≤ k → k ≤ 8 → T k) → (Accepted p G H → K → T x) → Door p G H R K → T x
     door-tabled out on d = go (ℕ-discrete (d .no) 0)
       where
         go : Dec (d .no ≡ 0) → T x

@@ -1,11 +1,13 @@
 -- Both conventions (request E6).
 --   cubes         every constant of an accepted field has a cube root
 --   closing-unit  the unit of a closing chain under a convention
+--   tabled        exactly when `rescale` answers with which number
 --   one-answer    the answer beside the rows, under two conventions
 --   unit-turned   what `unit` gives under one convention, turned
 use mathlib.Core.Path.{_≡_, refl, sym, ap, _∙_, subst}
 use mathlib.Core.List.{List, [], _∷_}
-use Prim.Native.Nat.{ℕ, _*_}
+use mathlib.Core.Logic.{inl, inr}
+use Prim.Native.Nat.{ℕ, _*_, _≤_}
 use native.Mathlib.Omega.{arith}
 use lib.ListN.{length}
 use Rattle.math_ring.specs.Ring.{Ops}
@@ -14,7 +16,7 @@ use Rattle.math_fp.specs.Fp.{powMod, third}
 use Rattle.math_fp.proofs.Value.{root-value}
 use Rattle.math_rows.specs.Made.{reading}
 use Rattle.math_rows.proofs.Numbers.{cast-cube}
-use Rattle.field_open.specs.Refusal.{Accepted}
+use Rattle.field_open.specs.Refusal.{Refusal, Accepted}
 use Rattle.math_ideals.specs.Element.{O, sc}
 use Rattle.math_ideals.specs.Ideal.{Basis}
 use Rattle.math_ideals.specs.Next.{Start}
@@ -28,10 +30,11 @@ use Rattle.unit_finish.proofs.Rows.{rows-unique}
 use Rattle.door_unit.specs.declared.UnitAnswer.{UnitAnswer}
 use Rattle.door_unit.specs.Unit.{Makes}
 use Rattle.door_unit.proofs.Once.{makes-alike}
-use Rattle.door_rescale.specs.Rescale.{Rescales}
+use Rattle.door_rescale.specs.Rescale.{Goes, unfit, turned, Rescales}
 use Rattle.door_rescale.proofs.Back.{done, turned-rows, holds-rows, rescales-back, rescales-holds, rows-accepted}
 use Rattle.demands.proofs.Cases.{unit-made, unit-accepted}
-use Rattle.demands_requests.specs.Conventions.{OnlyUnit, Conventions}
+use Rattle.demands.proofs.Tabled.{both, neither, never, field-refused, field-passed, door-tabled}
+use Rattle.demands_requests.specs.Conventions.{OnlyUnit, Fits, RescaleTabled, Conventions}
 
 cubes : {p : ℕ} {G H : List ℕ} (A : Accepted p G H) → Cubes (setting A .𝓥 .K)
 cubes {p} A u =
@@ -68,6 +71,42 @@ unit-turned {p} {i} {j} {n} {n′} {k} {G} {H} {x} {y} {x′} {y′} {r} {s} {r�
     let zero : k ≡ 0 = rows-accepted k₁ k₂ (b .named) (b′ .named) A (holds-rows (b .six .room) (u .rows-hold)) t in
     (zero, rows-unique A c r₁ r′ (rescales-holds t zero k₁ k₂ (b .named) (b′ .named) (u .rows-hold)) (subst (λ q. Holds k₂ p G H l′ d′ q r′) same (u′ .rows-hold)))
 
+-- ---- the table of `rescale`
+module _ (i j p : ℕ) (G H rows : List ℕ) where
+  abbrev At : ℕ → Type 0
+  At = RescaleTabled i j p G H rows
+
+  at-refused : (k : ℕ) → Refusal p G H k → 1 ≤ k → k ≤ 8 → At k
+  at-refused k r lo hi = record {
+    field = field-refused p G H k r;
+    out-of-rule = neither (λ e. omega arith) (λ c. never p G H k r lo (c .0));
+    passes = neither (λ e. omega arith) (λ c. never p G H k r lo (c .0));
+    only = inl hi;
+  }
+
+  at-out : Accepted p G H → (Fits i j p G H rows → ⊥) → At 14
+  at-out A f = record {
+    field = field-passed p G H 14 A (λ k lo hi e. omega arith);
+    out-of-rule = both refl (A, f);
+    passes = neither (λ e. omega arith) (λ c. f (c .1));
+    only = inr refl;
+  }
+
+  at-turned : Accepted p G H → Fits i j p G H rows → At 0
+  at-turned A t = record {
+    field = field-passed p G H 0 A (λ k lo hi e. omega arith);
+    out-of-rule = neither (λ e. omega arith) (λ c. c .1 t);
+    passes = both refl (A, t);
+    only = inl (omega arith);
+  }
+
+  tabled : {n : ℕ} {rows′ : List ℕ} → Rescales p G H i j rows n rows′ → At n
+  tabled {n} {rows′} = door-tabled p G H At (λ k r. r .number) at-refused goes
+    where
+      goes : Accepted p G H → Goes p G H i j rows n rows′ → At n
+      goes A (unfit a r) = subst At (sym (r .number)) (at-out A (λ (k, k′, c, e, e′, s). a k k′ c e e′ s))
+      goes A (turned k k′ c e e′ s z t) = subst At (sym z) (at-turned A (k, k′, c, e, e′, s))
+
 one-answer : {p i j n : ℕ} {G H x y r s r′ s′ : List ℕ} (k k′ : Convention) → number k ≡ i → number k′ ≡ j → (m m′ : UnitAnswer) →
     Makes i p G H n x y m r s → Makes j p G H n x y m′ r′ s′ → (m ≡ m′) × (s ≡ s′)
 one-answer {p} {i} {j} {n} {G} {H} {x} {y} {r} {s} {r′} {s′} k k′ e e′ m m′ h h′ =
@@ -78,6 +117,7 @@ pub conventions : Conventions
 conventions = record {
   one-scaling = λ A k u. positive-scaling (setting A) (cubes A) k u;
   one-unit = λ A B₀ st c k. closing-unit A B₀ st c k;
+  tabled = λ x. tabled _ _ _ _ _ _ x;
   turns = λ x z. let d = done x z in record {
     field = d .field;
     from = d .k;
@@ -89,7 +129,6 @@ conventions = record {
     after = turned-rows (d .before) (d .over);
     same = d .over;
   };
-  accepts = λ k k′ e e′ A s x. rows-accepted k k′ e e′ A s x;
   there-and-back = λ x z y. rescales-back x z y;
   one-answer = one-answer;
   unit-turned = unit-turned;

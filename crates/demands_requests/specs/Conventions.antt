@@ -1,13 +1,15 @@
 -- Request E6: "We keep both: convention 1 with E0 monic, convention 2 with norm 1, as the caller names it. .. Prove once over both that a closing
 -- unit has one scaling under each, and that going from one to the other and back returns the same rows."
 --   OnlyUnit k B₀ l d    exactly one unit, with its inverse, closes the chain from B₀ under the convention k
+--   RescaleTabled i j p G H rows x   the table of `rescale`: exactly when it answers with the number x
 --   Conventions          what holds of both conventions, and of the functions `unit_scaled` (`unit` is asked no number and answers with 1) and
 --                        `rescale`
 -- `Convention`, `number`, `Scaled`, `PositiveUnit` and `OneScaling` are in math_chain/specs/Convention, `ScaledRows` and `Rescales` in
 -- door_rescale/specs/Rescale, `Makes` in door_unit/specs/Unit. Theorem `conventions` (proofs/Conventions).
 use mathlib.Core.Path.{_≡_}
 use mathlib.Core.List.{List}
-use Prim.Native.Nat.{ℕ}
+use mathlib.Core.Logic.{_⊎_, _↔_}
+use Prim.Native.Nat.{ℕ, _≤_}
 use lib.ListN.{length}
 use Rattle.field_open.specs.Refusal.{Accepted}
 use Rattle.math_ideals.specs.Setting.{Setting}
@@ -22,12 +24,24 @@ use Rattle.door_unit.specs.declared.UnitAnswer.{UnitAnswer}
 use Rattle.door_unit.specs.Unit.{Makes}
 use Rattle.door_rescale.specs.Rescale.{ScaledRows, Rescales}
 use Rattle.unit_scale.specs.Scale.{Turned}
+use Rattle.demands.specs.Tabled.{FieldTabled}
 
 pub record OnlyUnit (S : Setting) (k : Convention) (B₀ : Basis S) (l d : ℕ) : Type 0 where
   pub E : O S .El
   pub F : O S .El
   pub unit : UnitOf S k B₀ l d E F
   pub only : (E′ F′ : O S .El) → UnitOf S k B₀ l d E′ F′ → (E ≡ E′) × (F ≡ F′)
+
+-- the numbers name conventions, and the rows are a unit scaled by the first of them, with its inverse
+abbrev pub Fits : ℕ → ℕ → ℕ → List ℕ → List ℕ → List ℕ → Type 0
+Fits i j p G H rows = (k k′ : Convention) × (c : ℕ) × (number k ≡ i) × (number k′ ≡ j) × ScaledRows k p G H c rows
+
+-- "Refusals: 14 for any other convention number, or for rows to carry over that aren't a unit of positive degree so scaled, after 1 to 8"
+pub record RescaleTabled (i j p : ℕ) (G H rows : List ℕ) (x : ℕ) : Type 0 where
+  pub field : FieldTabled p G H x
+  pub out-of-rule : (x ≡ 14) ↔ (Accepted p G H × (Fits i j p G H rows → ⊥))
+  pub passes : (x ≡ 0) ↔ (Accepted p G H × Fits i j p G H rows)
+  pub only : (x ≤ 8) ⊎ (x ≡ 14)
 
 -- the rows before and after, where `rescale` answers 0
 pub record Carried (p : ℕ) (G H : List ℕ) (i j : ℕ) (rows rows′ : List ℕ) : Type 0 where
@@ -53,14 +67,14 @@ pub record Conventions : Type 0 where
       {l d : ℕ} {B : Basis (setting A)} → Closing (setting A) B₀ l d B →
       (k : Convention) → OnlyUnit (setting A) k B₀ l d
   -- what `rescale` accepts, and what it makes of it
+  pub tabled :
+      {p i j n : ℕ} {G H rows rows′ : List ℕ} →
+      Rescales p G H i j rows n rows′ →
+      RescaleTabled i j p G H rows n
   pub turns :
       {p i j n : ℕ} {G H rows rows′ : List ℕ} →
       Rescales p G H i j rows n rows′ → n ≡ 0 →
       Carried p G H i j rows rows′
-  pub accepts :
-      {p i j n c : ℕ} {G H rows rows′ : List ℕ} (k k′ : Convention) → number k ≡ i → number k′ ≡ j →
-      Accepted p G H → ScaledRows k p G H c rows →
-      Rescales p G H i j rows n rows′ → n ≡ 0
   -- "going from one to the other and back returns the same rows", for every slice that it accepts
   pub there-and-back :
       {p i j n m : ℕ} {G H rows rows′ rows″ : List ℕ} →

@@ -5,7 +5,8 @@
 --   SmallestUnit                the request: of every closing chain, of what the functions answer, of what refusal 10 says, and what follows
 -- How to read it: A says that the field is accepted, `setting A` is the field with its series; a unit of the order is `Invertible`, and its
 -- degree is that of its series. `UnitOf k B₀ l d E F`: from the order's basis B₀ the chain closes first after l steps, with the degree sum d, and
--- E is the unit scaled by the convention k, F its inverse; `Makes i ..`: the answer under the convention with the number i. `Fundamental`, `Smallest`, `LeastDegree` and `NoneBetween` are in crate math_fundamental, specs/Smallest.antt.
+-- E is the unit scaled by the convention k, F its inverse; `Makes i ..`: the answer under the convention with the number i. `Fundamental`,
+-- `Smallest`, `LeastDegree` and `NoneBetween` are in crate math_fundamental, specs/Smallest.antt.
 -- The theorem `smallest-unit` is in proofs/Smallest.antt.
 use mathlib.Core.Path.{_≡_}
 use mathlib.Core.List.{List}

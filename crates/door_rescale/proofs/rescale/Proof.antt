@@ -1,9 +1,10 @@
 -- `door_rescale::rescale` meets its contract.
 use Prim.Native.Nat.{_-_}
-use mathlib.Core.Path.{subst}
+use mathlib.Core.Path.{_≡_, subst}
 use Rattle.basis_field.proofs.Known.{known-of}
 use Rattle.door_rescale.proofs.Answering.{rescales-refused, rescales-bad, turn-in, rescales-turned}
 use Rattle.door_rescale.specs.Test.{Unfit}
+use mathlib.Core.Bool.{Bool}
 use borrow.Author.Needs.{needs}
 use Rattle.door_rescale.proofs.rescale.Statement.{statement}
 use Rattle.door_rescale.proofs.rescale.Tie as tie
@@ -25,23 +26,27 @@ unfit-requires c κs = known-of (c .before .before .before .open-with-series .en
 same-length : tie.Need-same-length
 same-length c = search needs
 
+-- what the answer of `unfit` says
+module _ (u : tie.After-unfit) where
+  abbrev opened : tie.After-open-with-series
+  opened = u .before .before .before .before
+
+  says : {r : Bool} → u .unfit .result ≡ r → let a = opened .before .before .before .before .args in Unfit (opened .open-with-series .result .cubic) (a .from) (a .to) (a .rows .now) r
+  says e = let a = opened .before .before .before .before .args in subst (Unfit (opened .open-with-series .result .cubic) (a .from) (a .to) (a .rows .now)) e (u .unfit .ensures)
+
 returns-2 : tie.Need-returns-2
-returns-2 c =
-    let a = c .before .before .before .before .before .before .before .before .before .args in
-    rescales-bad (c .before .before .before .before .before .open-with-series .ensures) (c .before .before .before .before .if1 .left) (subst (Unfit (c .before .before .before .before .before .open-with-series .result .cubic) (a .from) (a .to) (a .rows .now)) (c .if2 .taken) (c .before .unfit .ensures))
+returns-2 c = let u = c .before in rescales-bad (opened u .open-with-series .ensures) (u .before .before .before .if1 .left) (says u (c .if2 .taken))
 
 turn-requires : tie.Need-turn-requires
-turn-requires c κs =
-    let a = c .before .before .before .before .before .before .before .before .before .before .args in
-    turn-in (c .before .before .before .before .before .before .open-with-series .ensures) (c .before .before .before .before .before .if1 .left) (subst (Unfit (c .before .before .before .before .before .before .open-with-series .result .cubic) (a .from) (a .to) (a .rows .now)) (c .before .if2 .left) (c .before .before .unfit .ensures))
+turn-requires c κs = let u = c .before .before in turn-in (opened u .open-with-series .ensures) (u .before .before .before .if1 .left) (says u (c .before .if2 .left))
 
 same-length-2 : tie.Need-same-length-2
 same-length-2 c = search needs
 
 returns-3 : tie.Need-returns-3
 returns-3 c =
-    let a = c .before .before .before .before .before .before .before .before .before .before .before .before .before .args in
-    rescales-turned (c .before .before .before .before .before .before .before .before .before .open-with-series .ensures) (c .before .before .before .before .before .before .before .before .if1 .left) (subst (Unfit (c .before .before .before .before .before .before .before .before .before .open-with-series .result .cubic) (a .from) (a .to) (a .rows .now)) (c .before .before .before .before .if2 .left) (c .before .before .before .before .before .unfit .ensures)) (c .before .before .turn .ensures)
+    let u = c .before .before .before .before .before in
+    rescales-turned (opened u .open-with-series .ensures) (u .before .before .before .if1 .left) (says u (c .before .before .before .before .if2 .left)) (c .before .before .turn .ensures)
 
 pub rescale-spec : {M : Type 1} → statement M
 rescale-spec =

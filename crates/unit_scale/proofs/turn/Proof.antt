@@ -55,7 +55,12 @@ part-scale-end-2 : tie.Need-part-scale-end-2
 part-scale-end-2 c = search needs
 
 scale-requires-2 : tie.Need-scale-requires-2
-scale-requires-2 c κs = let m = storable (c .before .before .before .before .before .before .before .before .before .before .pre .kept .accepted) in let a = c .before .before .before .before .before .before .factor .ensures .below in let b = c .before .before .before .before .before .inverse .ensures .below in search needs
+scale-requires-2 c κs =
+    let at5 = c .before .before .before .before .before in
+    let m = storable (at5 .before .before .before .before .before .pre .kept .accepted) in
+    let a = at5 .before .factor .ensures .below in
+    let b = at5 .inverse .ensures .below in
+    search needs
 
 same-length : tie.Need-same-length
 same-length c = search needs
