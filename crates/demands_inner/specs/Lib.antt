@@ -16,6 +16,7 @@
 --   poly_long      size: size-unique (Poly); scale: scale-unique (Long)
 --   poly_mix       mix: mix-unique (Long)
 --   poly_products  times: times-unique (Long)
+--   poly_tests     below, constant, longer: decides-unique (base_answers/proofs/Tests)
 --   poly_quotient  quotient, where there is one that fits: quotient-unique (Long)
 --   field_open     list_length: list-unique (base_lists/proofs/Coefs); unpadded: unpadded-unique (base_lists/proofs/Paddings); refusal,
 --                  strict_refusal: refusal-unique (field_open/proofs/Stages); open:

@@ -31,9 +31,11 @@ use Rattle.unit_finish.specs.Rows.{six}
 use Rattle.unit_finish.proofs.Rows.{cut-below}
 use Rattle.unit_finish.proofs.Stored.{storable}
 use Rattle.unit_check.specs.Check.{IsUnitAsks, IsUnitGives}
-use Rattle.unit_check.specs.Code.{Below, Longer, ProductAsks, ProductGives, IsInverseGives}
+use Rattle.poly_tests.specs.Tests.{Below, Longer}
+use Rattle.unit_check.specs.Code.{ProductAsks, ProductGives, IsInverseGives}
 use Rattle.unit_check.proofs.Positive.{Length, positive-longer, longer-positive}
-use Rattle.unit_check.proofs.Lists.{row-at, to-longer, of-longer, size-length}
+use Rattle.poly_tests.proofs.Lists.{to-longer, of-longer}
+use Rattle.unit_check.proofs.Lists.{row-at, size-length}
 
 module _ (f : OpenedField) (c : ℕ) (rows g h gh : List ℕ) (eg : g ≡ f .field .g) (eh : h ≡ f .field .h) (egh : gh ≡ f .field .gh) where
   -- the rows of an opened field stand for G, H and G H

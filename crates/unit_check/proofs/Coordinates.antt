@@ -22,7 +22,8 @@ use Rattle.poly_mix.specs.Mixing.{MixAsks, Mixed}
 use Rattle.poly_mix.proofs.Mixing.{whole}
 use Rattle.poly_products.specs.Products.{TimesAsks, Times}
 use Rattle.unit_monic.proofs.InPlace.{front}
-use Rattle.unit_check.specs.Code.{Constant, CoordinateAsks, coordinateOf, CoordinateGives}
+use Rattle.poly_tests.specs.Tests.{Constant}
+use Rattle.unit_check.specs.Code.{CoordinateAsks, coordinateOf, CoordinateGives}
 use Rattle.unit_check.proofs.Lists.{constant-is, is-constant}
 
 front-length : (j : ℕ) (l : List ℕ) → j ≤ length l → length (between 0 j l) ≡ j

@@ -1,20 +1,15 @@
 -- Lists of numbers below p as polynomials.
---   below-end      all numbers are passed, and past the end stands 0
 --   row-at         a row as it is lent
---   to-longer, of-longer   what `Longer` says of sizes
 --   size-length    the length without the zeros at the end is the polynomial's
 --   constant-is, is-constant   a list is k and zeros after it exactly where it stands for the constant k
---   constant-at, constant-not  it is where nothing stands from place 1 on, and k at place 0; else it is not
 use mathlib.Core.Path.{_≡_, sym, ap, ap₂, _∙_}
 use mathlib.Core.List.{List, [], _∷_}
 use Prim.Native.Nat.{ℕ, zero, suc, _+_, _*_, _-_, _<_, _≤_}
 use native.Mathlib.Omega.{arith}
 use native.Mathlib.Decide.{decLt}
-use lib.ListN.{length, getD, List·getD-eq-default}
+use lib.ListN.{length, getD}
 use Rattle.base_lists.specs.Pieces.{cut, between}
-use Rattle.base_lists.specs.Coefficients.{trim}
 use Rattle.base_lists.proofs.Pieces.{between-cut}
-use Rattle.base_lists.proofs.Trims.{trim-length}
 use Rattle.math_valued.specs.Degree.{Lt}
 use Rattle.math_valued.proofs.Degree.{above}
 use Rattle.math_rows.specs.Reading.{Reading}
@@ -23,39 +18,18 @@ use Rattle.math_rows.proofs.Rows.{psum-ext, row-upto, size-lt, size-lead}
 use Rattle.math_rows.proofs.Unique.{cast-inj, psum-unique}
 use Rattle.unit_inverse.proofs.Inverting.{row-one}
 use Rattle.unit_finish.proofs.Stored.{list-top}
-use Rattle.unit_check.specs.Code.{Below, Constant, Longer}
+use Rattle.poly_tests.specs.Tests.{Below, Constant}
+use Rattle.poly_tests.proofs.Lists.{past}
 use Rattle.unit_check.proofs.Positive.{Length}
-
-past : (l : List ℕ) (i : ℕ) → length l ≤ i → getD l i 0 ≡ 0
-past l i h = List·getD-eq-default l 0 {n = i} h
-
-pub below-end : (p : ℕ) (l : List ℕ) (i : ℕ) → 0 < p → ((k : ℕ) → k < i → getD l k 0 < p) → length l ≤ i → Below p l
-below-end p l i z h u k = elim (decLt k i) [ yes v ↦ h k v | no v ↦ let e : getD l k 0 ≡ 0 = past l k (omega arith) in omega arith ]
 
 -- ---- a row of c numbers, of six
 pub row-at : (c a b at : ℕ) (l : List ℕ) → length l ≡ 6 * c → b ≡ a + c → b ≤ 6 * c → a ≡ at → between a b l ≡ cut at c l
 row-at c a b at l s e u f = between-cut a b l (omega arith) (omega arith) ∙ ap₂ (λ i k. cut i k l) f (let o : b - a ≡ c = omega arith in o)
 
--- ---- lengths
-module _ {x y : List ℕ} {a b : ℕ} (sx : Size x a) (sy : Size y b) where
-  pub to-longer : b < a → Longer x y
-  to-longer u = let ex : length (trim x) ≡ a = trim-length x a sx in let ey : length (trim y) ≡ b = trim-length y b sy in omega arith
-
-  pub of-longer : Longer x y → b < a
-  of-longer u = let ex : length (trim x) ≡ a = trim-length x a sx in let ey : length (trim y) ≡ b = trim-length y b sy in omega arith
-
 -- ---- a list of one number
 one-below : (p k : ℕ) → k < p → (i : ℕ) → getD (k ∷ []) i 0 < p
 one-below p k h zero = h
 one-below p k h (suc i) = omega arith
-
-pub constant-at : (k : ℕ) (l : List ℕ) (n : ℕ) → Size l n → n ≤ 1 → getD l 0 0 ≡ k → Constant k l
-constant-at k l n s u e zero = e
-constant-at k l n s u e (suc i) = s .above (suc i) (omega arith)
-
--- two numbers or more
-pub constant-not : (k : ℕ) (l : List ℕ) (n : ℕ) → Size l n → 1 < n → Constant k l → ⊥
-constant-not k l n s u h = s .top (omega arith) (h (n - 1) ∙ past (k ∷ []) (n - 1) (omega arith))
 
 module _ {p : ℕ} (ρ : Reading p) where
   open Reading ρ using (𝓥, cast)

@@ -1,18 +1,14 @@
 -- What the parts of the test ask and answer. Polynomials are `row` of lists (crate math_rows).
---   below            Below             all numbers are below p
---   constant         Constant          the list is the number k and zeros after it
---   longer           Longer            x is longer than y without the zeros at their ends
 --   coordinate       CoordinateGives   u (x y + z w) + v m n is the constant k
 --   product_is_one   ProductGives      the product of the elements in the first and in the last three rows is 1
 --   is_inverse       IsInverseGives    the same in the order of the field
 use mathlib.Core.Path.{_≡_}
 use mathlib.Core.Bool.{Bool}
-use mathlib.Core.List.{List, [], _∷_}
+use mathlib.Core.List.{List}
 use Prim.Native.Nat.{ℕ, _+_, _*_, _<_, _≤_}
-use lib.ListN.{length, getD}
+use lib.ListN.{length}
 use Rattle.base_answers.specs.Decides.{Decides}
 use Rattle.base_answers.specs.Limits.{longest}
-use Rattle.base_lists.specs.Coefficients.{trim}
 use Rattle.math_triple.specs.Tri.{mulT}
 use Rattle.math_triple.specs.Order.{triops}
 use Rattle.math_fp.specs.Fp.{Prime}
@@ -27,15 +23,6 @@ use Rattle.basis_record.specs.Record.{setting}
 use Rattle.poly_long.specs.Long.{Storable}
 use Rattle.unit_inverse.specs.Inverse.{element}
 use Rattle.unit_finish.specs.Rows.{six}
-
-abbrev pub Below : ℕ → List ℕ → Type 0
-Below p l = (i : ℕ) → getD l i 0 < p
-
-abbrev pub Constant : ℕ → List ℕ → Type 0
-Constant k l = (i : ℕ) → getD l i 0 ≡ getD (k ∷ []) i 0
-
-abbrev pub Longer : List ℕ → List ℕ → Type 0
-Longer x y = length (trim y) < length (trim x)
 
 pub record CoordinateAsks (p c : ℕ) (x y z w u m n v : List ℕ) (k : ℕ) : Type 0 where
   pub modulus : Storable p

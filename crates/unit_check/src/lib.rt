@@ -2,61 +2,15 @@
 // parts do.
 //
 // No buffer is lent for the work, so products stand in arrays of their greatest lengths; of these only as much is used as the rows ask for.
-use base_lists::wide;
 use field_series::OpenedField;
-use poly_long::size;
 use poly_long::to_stored;
 use poly_mix::mix;
 use poly_products::times;
-ghost use Prim.Native.Nat.{_<_};
-ghost use lib.ListN.{length};
-ghost use Rattle.base_answers.specs.Decides.{Decides};
+use poly_tests::below;
+use poly_tests::constant;
+use poly_tests::longer;
 ghost use Rattle.unit_check.specs.Check.{IsUnitAsks, IsUnitGives};
-ghost use Rattle.unit_check.specs.Code.{Below, Constant, Longer, CoordinateAsks, CoordinateGives, ProductAsks, ProductGives, IsInverseGives};
-
-// Is every number below p?
-fn below(p: u64, rows: &[u16]) -> bool
-    requires { ⌜ 0 < p ⌝ }
-    ensures { λ r. ⌜ Decides r (Below p (now (rows .entry))) ⌝ }
-{
-    let mut i: usize = 0;
-    while i < rows.len() {
-        let v = wide(rows[i]);
-        if p <= v {
-            return false;
-        }
-        i += 1;
-    }
-    true
-}
-
-// Is x the number k and zeros after it?
-fn constant(k: u16, x: &[u16]) -> bool
-    requires { ⌜ 0 < length (now x) ⌝ }
-    ensures { λ r. ⌜ Decides r (Constant k (now (x .entry))) ⌝ }
-{
-    let n = size(x);
-    if n > 1 {
-        return false;
-    }
-    let v = x[0];
-    if v != k {
-        return false;
-    }
-    true
-}
-
-// Is x longer than y without the zeros at their ends?
-fn longer(x: &[u16], y: &[u16]) -> bool
-    ensures { λ r. ⌜ Decides r (Longer (now (x .entry)) (now (y .entry))) ⌝ }
-{
-    let a = size(x);
-    let b = size(y);
-    if a <= b {
-        return false;
-    }
-    true
-}
+ghost use Rattle.unit_check.specs.Code.{CoordinateAsks, CoordinateGives, ProductAsks, ProductGives, IsInverseGives};
 
 // Is u (x y + z w) + v m n the constant k? The six rows have c numbers.
 fn coordinate(

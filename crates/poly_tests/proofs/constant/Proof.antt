@@ -1,10 +1,10 @@
--- `unit_check::constant` meets its contract.
+-- `poly_tests::constant` meets its contract.
 use native.Mathlib.Omega.{arith}
 use Rattle.base_answers.proofs.Tests.{answer-yes, answer-no}
-use Rattle.unit_check.proofs.Lists.{constant-at, constant-not}
+use Rattle.poly_tests.proofs.Lists.{constant-at, constant-not}
 use borrow.Author.Needs.{needs}
-use Rattle.unit_check.proofs.constant.Statement.{statement}
-use Rattle.unit_check.proofs.constant.Tie as tie
+use Rattle.poly_tests.proofs.constant.Statement.{statement}
+use Rattle.poly_tests.proofs.constant.Tie as tie
 
 size-requires : tie.Need-size-requires
 size-requires c κs = search needs

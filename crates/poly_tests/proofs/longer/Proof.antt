@@ -1,10 +1,10 @@
--- `unit_check::longer` meets its contract.
+-- `poly_tests::longer` meets its contract.
 use native.Mathlib.Omega.{arith}
 use Rattle.base_answers.proofs.Tests.{answer-yes, answer-no}
-use Rattle.unit_check.proofs.Lists.{to-longer, of-longer}
+use Rattle.poly_tests.proofs.Lists.{to-longer, of-longer}
 use borrow.Author.Needs.{needs}
-use Rattle.unit_check.proofs.longer.Statement.{statement}
-use Rattle.unit_check.proofs.longer.Tie as tie
+use Rattle.poly_tests.proofs.longer.Statement.{statement}
+use Rattle.poly_tests.proofs.longer.Tie as tie
 
 size-requires : tie.Need-size-requires
 size-requires c κs = search needs

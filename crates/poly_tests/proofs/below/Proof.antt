@@ -1,13 +1,13 @@
--- `unit_check::below` meets its contract: the invariant is that the numbers passed are below p.
+-- `poly_tests::below` meets its contract: the invariant is that the numbers passed are below p.
 use Prim.Native.Nat.{ℕ, _-_, _≤_, _<_}
 use lib.ListN.{length, getD}
 use borrow.Author.Count.{below-more}
 use native.Mathlib.Omega.{arith}
 use borrow.Author.Needs.{needs}
 use Rattle.base_answers.proofs.Tests.{answer-yes, answer-no}
-use Rattle.unit_check.proofs.Lists.{below-end}
-use Rattle.unit_check.proofs.below.Statement.{statement}
-use Rattle.unit_check.proofs.below.Tie as tie
+use Rattle.poly_tests.proofs.Lists.{below-end}
+use Rattle.poly_tests.proofs.below.Statement.{statement}
+use Rattle.poly_tests.proofs.below.Tie as tie
 
 abbrev Inv-loop : tie.InvT-loop
 Inv-loop p rows i₀ i = (i ≤ length rows) × ((k : ℕ) → k < i → getD rows k 0 < p)
