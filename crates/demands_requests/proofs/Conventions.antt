@@ -12,10 +12,8 @@ use native.Mathlib.Omega.{arith}
 use lib.ListN.{length}
 use Rattle.math_ring.specs.Ring.{Ops}
 use Rattle.math_ring.proofs.Solve.{var, hyp, one, minus, _:*_, solve-by}
-use Rattle.math_fp.specs.Fp.{powMod, third}
-use Rattle.math_fp.proofs.Value.{root-value}
 use Rattle.math_rows.specs.Made.{reading}
-use Rattle.math_rows.proofs.Numbers.{cast-cube}
+use Rattle.math_rows.proofs.Constants.{root}
 use Rattle.field_open.specs.Refusal.{Refusal, Accepted}
 use Rattle.math_ideals.specs.Element.{O, sc}
 use Rattle.math_ideals.specs.Ideal.{Basis}
@@ -37,11 +35,7 @@ use Rattle.demands.proofs.Tabled.{both, neither, never, field-refused, field-pa
 use Rattle.demands_requests.specs.Conventions.{OnlyUnit, Fits, RescaleTabled, Conventions}
 
 cubes : {p : ℕ} {G H : List ℕ} (A : Accepted p G H) → Cubes (setting A .𝓥 .K)
-cubes {p} A u =
-    let ρ = reading p (A .prime) in
-    let (n, l, e) = ρ .cast-onto u in
-    let w = powMod p n (third p) in
-    (ρ .cast w, sym (cast-cube ρ w) ∙ sym (ρ .cast-mod (w * w * w)) ∙ ap (ρ .cast) (root-value p (A .prime) n l (A .kind) w refl) ∙ e)
+cubes {p} A = root (reading p (A .prime)) (A .prime) (A .kind)
 
 module _ {p : ℕ} {G H : List ℕ} (A : Accepted p G H) (B₀ : Basis (setting A)) (st : Start (setting A) B₀) where
   open Ops (O (setting A) .ops) using (mul as _⊗_, 𝟏 as 1ₒ)

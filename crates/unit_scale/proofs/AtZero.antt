@@ -17,7 +17,7 @@ use Rattle.math_valued.specs.Degree.{Lt}
 use Rattle.math_valued.proofs.Degree.{lt-add, lt-neg, lt-eq, lt-cancel, lt-up}
 use Rattle.math_rows.specs.Reading.{Reading}
 use Rattle.math_rows.specs.Row.{row, psum, coefs, tpow}
-use Rattle.math_rows.proofs.Rows.{psum-poly, const-neg, tpow-lead}
+use Rattle.math_rows.proofs.Rows.{psum-poly, const-neg, tpow-lead, tpow-poly}
 use Rattle.math_rows.proofs.Unique.{const-inj}
 use Rattle.poly_long.proofs.Low.{psum-split}
 
@@ -44,17 +44,13 @@ module _ {p : ℕ} (ρ : Reading p) where
         ∙ ap (λ c. c + tpow ρ 1 * (u .rest + v .rest)) (sym (ρ .const-add a b));
   }
 
-  tpow-poly : IsPoly (tpow ρ 1)
-  unfolding tpow
-  tpow-poly = 𝓥 .closed .mul _ _ (𝓥 .t-poly) (𝓥 .closed .𝟏)
-
   at-mul : {x y : L .El} {a b : K .El} → At x a → At y b → At (x * y) (a *ᵏ b)
   at-mul {a = a} {b} u v =
       let e = const a * v .rest + u .rest * const b + tpow ρ 1 * (u .rest * v .rest) in
       record {
         rest = e;
         is-poly = 𝓥 .closed .add _ _ (𝓥 .closed .add _ _ (𝓥 .closed .mul _ _ (𝓥 .const-poly a) (v .is-poly)) (𝓥 .closed .mul _ _ (u .is-poly) (𝓥 .const-poly b)))
-            (𝓥 .closed .mul _ _ tpow-poly (𝓥 .closed .mul _ _ (u .is-poly) (v .is-poly)));
+            (𝓥 .closed .mul _ _ (tpow-poly ρ 1) (𝓥 .closed .mul _ _ (u .is-poly) (v .is-poly)));
         law = ap₂ _*_ (u .law) (v .law)
             ∙ solve L ((var 0 :+ var 4 :* var 1) :* (var 2 :+ var 4 :* var 3)) (var 0 :* var 2 :+ var 4 :* (var 0 :* var 3 :+ var 1 :* var 2 :+ var 4 :* (var 1 :* var 3))) tt (const a ∷ u .rest ∷ const b ∷ v .rest ∷ tpow ρ 1 ∷ [])
             ∙ ap (λ c. c + tpow ρ 1 * e) (sym (ρ .const-mul a b));

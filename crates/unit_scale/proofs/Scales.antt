@@ -1,6 +1,6 @@
 -- The constant that scales the unit in six rows.
 --   Held            the opened field, the unit in the rows, an accepted field
---   top-some        E0 has a last coefficient
+--   top-pos         E0 has a last coefficient
 --   monic-law       its inverse makes E0 monic
 --   norm-number     the number for the norm stands for the norm, which is not 0
 --   norm-law        the cube root of its inverse makes the norm 1
@@ -106,12 +106,6 @@ module _ {f : OpenedField} {G H : List ℕ} {c : ℕ} {rows : List ℕ} (t : Hel
 
     pub top-room : n ≤ c
     top-room = subst (λ k. n ≤ k) (length-tab c (λ i. getD rows (0 + i) 0)) (size-at .fits)
-
-    pub top-some : 0 < getD rows (n - 1) 0
-    top-some =
-        let u = top-pos in let v = top-room in
-        let z : getD rows (n - 1) 0 ≢ 0 = (λ e. size-at .top u (first-at (n - 1) (omega arith) ∙ e)) in
-        omega (arith, z)
 
     pub monic-law : (q : ℕ) → (getD rows (n - 1) 0 * q) % p ≡ 1 → Scaled S e0-monic (O S .ops .mul (sc S (constant A q)) E)
     monic-law q e =
