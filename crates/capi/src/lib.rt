@@ -1,5 +1,6 @@
 // The library for C and Rust: each entry point under a name of its own, on numbers and slices (a slice passes as pointer, then length).
 // The contracts are those of the functions behind them.
+use walk_record::WalkRecord;
 ghost use Rattle.field_open.specs.Refusal.{Refusal};
 ghost use Rattle.field_open.specs.Padding.{unpad};
 ghost use Rattle.field_series.specs.Answer.{Answer};
@@ -12,6 +13,7 @@ ghost use Rattle.book_begin.specs.Begin.{BeginSays};
 ghost use Rattle.book_rows.specs.Rows.{RowsSays};
 ghost use Rattle.book_parts.specs.Parts.{PrimeSays, PeriodSays, ListSays};
 ghost use Rattle.door_rescale.specs.Rescale.{Rescales};
+ghost use Rattle.door_sheet.specs.Sheet.{Sheet};
 ghost use Rattle.door_transfer.specs.Transfer.{Transfers};
 ghost use Rattle.capi.specs.Told.{OrderTells, StepTells, WalkTells, FromOrderTells, UnitTells, OneFieldTells};
 ghost use Rattle.capi.specs.Books.{CheckSays, WriteSays, AddSays, AttestSays};
@@ -98,6 +100,14 @@ pub extern "C" fn zaminuk_walk(
     let d = o.sum;
     let b = o.basis;
     capi_walk::put(n, l, d, b, rows, steps, sum)
+}
+
+// At most `budget` steps from each of up to 64 walk records, in place: 0, or 14 with nothing changed.
+#[no_mangle]
+pub extern "C" fn zaminuk_sheet(records: &mut [WalkRecord], budget: u64) -> u32
+    ensures { λ n. ⌜ Sheet (now (records .entry)) budget n (now (records .exit)) ⌝ }
+{
+    door_sheet::sheet(records, budget)
 }
 
 // The walk of at most `budget` steps from the order: its refusal; period and regulator, 0 beside a refusal.

@@ -55,7 +55,7 @@ back-first S B₀ st l d B c = record {
   first = λ m e B′ lo hi ch s. c .none m e B′ lo hi ch (s .U-one);
 }
 
-closes-first :
+pub closes-first :
     {p l d : ℕ} {G H B B′ : List ℕ} →
     IsFirst p G H B → Closes p G H B l d B′ →
     (A : Accepted p G H) → BackFirst (setting A) (basisOf A B) l d

@@ -1,6 +1,6 @@
 -- Walks taken up again are one chain: by induction over them, with no bound on their budgets.
 --   together          what they come to
---   together-agrees   from the order: the period and twice the regulator that `from_order` answers
+--   together-agrees   from the order: the period and twice the regulator that `from_order` answers; `closes-agrees`, of any closing
 use mathlib.Core.Path.{_≡_, subst}
 use mathlib.Core.Logic.{_⊎_, inl, inr}
 use mathlib.Core.List.{List}
@@ -53,16 +53,24 @@ module _ (p : ℕ) (G H B : List ℕ) where
       reached (inl z) = let k = closing t z in record { is-record = k .is-record; chain = λ A. k .closing A .chain }
       reached (inr z) = going t z .reaches
 
+  pub closes-agrees :
+      {n s d : ℕ} {B′ : List ℕ} (o : PeriodAnswer) →
+      IsFirst p G H B →
+      Closes p G H B s d B′ →
+      FromOrder p G H n o → o .refusal ≡ 0 →
+      (o .period .0 ≡ s) × (o .regulator .0 + o .regulator .0 ≡ d)
+  closes-agrees {n} o first c h u =
+      let A = told-accepted p n G H o h u in
+      let (B′, first′, k) = told-closed p n G H o h u in
+      let e = first-unique A B′ B first′ first in
+      let same = subst (λ b. Closes p G H b (o .period .0) (o .regulator .0 + o .regulator .0) (k .last)) e (k .closes) in
+      let (x, y, q) = closes-unique p G H A B (first .is-record) same c in
+      (x, y)
+
   pub together-agrees :
       {n s d : ℕ} {w : WalkAnswer} (o : PeriodAnswer) →
       IsFirst p G H B →
       TakenUp p G H B s d w → w .refusal ≡ 0 →
       FromOrder p G H n o → o .refusal ≡ 0 →
       (o .period .0 ≡ s) × (o .regulator .0 + o .regulator .0 ≡ d)
-  together-agrees {n} o first t z h u =
-      let A = told-accepted p n G H o h u in
-      let (B′, first′, k) = told-closed p n G H o h u in
-      let e = first-unique A B′ B first′ first in
-      let same = subst (λ b. Closes p G H b (o .period .0) (o .regulator .0 + o .regulator .0) (k .last)) e (k .closes) in
-      let (x, y, q) = closes-unique p G H A B (first .is-record) same (closing t z) in
-      (x, y)
+  together-agrees o first t z h u = closes-agrees o first (closing t z) h u

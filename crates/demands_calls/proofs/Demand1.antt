@@ -12,6 +12,8 @@ use Rattle.door_unit.proofs.Once.{makes-unique}
 use Rattle.door_compare.proofs.Once.{refusals-unique, compares-unique}
 use Rattle.door_transfer.proofs.Once.{transfers-unique}
 use Rattle.door_rescale.proofs.Once.{rescales-unique}
+use Rattle.door_record.proofs.Unique.{advances-unique}
+use Rattle.door_sheet.proofs.Unique.{sheet-unique}
 use Rattle.book_body.proofs.One.{list-unique, list-kept}
 use Rattle.book_write.proofs.One.{write-unique, write-kept}
 use Rattle.book_check.proofs.One.{tells-unique, ask-unique, part-unique}
@@ -33,6 +35,7 @@ demand-1 = record {
   unit-kept = kept.unit-kept;
   transfer-kept = kept.transfer-kept;
   rescale-kept = kept.rescale-kept;
+  sheet-kept = kept.sheet-kept;
   list-kept = list-kept;
   write-kept = write-kept;
   add-kept = kept.add-kept;
@@ -55,6 +58,8 @@ demand-1 = record {
         s .scratch-same,
       );
   rescale-fixed = λ h k. rescales-unique _ _ _ _ _ _ _ _ _ _ h k;
+  advance-fixed = λ h k. advances-unique _ _ _ _ h k;
+  sheet-fixed = λ h k. sheet-unique _ _ _ _ _ _ h k;
   pairs-fixed = λ h k. refusals-unique h k;
   compare-fixed = λ a b h k. compares-unique h k;
   transfer-fixed = λ h k. transfers-unique _ _ _ _ _ _ _ _ _ _ h k;

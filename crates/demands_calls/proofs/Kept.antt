@@ -1,5 +1,6 @@
 -- What a refusal leaves, by the contract's cases.
 --   unit-kept transfer-kept rescale-kept   the rows, and the scratch
+--   sheet-kept   the records
 --   add-kept parse-kept         the lent slices; of a list and of a body written: list-kept (book_body), write-kept (book_write)
 --   answer-kept                 of a slice into which an answer goes: what stands before it, and its length
 --   pass-kept                   everything, where the slice is too short for an answer
@@ -18,6 +19,8 @@ use Rattle.door_unit.specs.Unit as unit
 use Rattle.door_compare.proofs.Doors.{doors-out}
 use Rattle.door_transfer.specs.Transfer as transfer
 use Rattle.door_rescale.specs.Rescale as rescale
+use Rattle.walk_record.specs.declared.WalkRecord.{WalkRecord}
+use Rattle.door_sheet.specs.Sheet as sheet
 use Rattle.book_add.specs.Add as add
 use Rattle.text_read.specs.Tells.{ParseTells}
 use Rattle.text_read.specs.declared.Parsed.{Parsed}
@@ -49,6 +52,10 @@ rescale-kept {p} {i} {j} {n} {G} {H} {rows} {rows′} h g = door-out (λ k f l e
     goes : rescale.Goes p G H i j rows n rows′ → rows′ ≡ rows
     goes (rescale.unfit u e) = e .kept
     goes (rescale.turned k k′ c a b s z t) = absurd (g z)
+
+pub sheet-kept : {rs os : List WalkRecord} {b n : ℕ} → sheet.Sheet rs b n os → n ≢ 0 → os ≡ rs
+sheet-kept (sheet.refused v e f) g = f
+sheet-kept (sheet.walked w e s) g = absurd (g e)
 
 -- ---- the book
 pub add-kept : {n : ℕ} {d b d′ : List ℕ} {x : Said} → add.AddTells d n b x d′ → x .number ≢ 0 → d′ ≡ d

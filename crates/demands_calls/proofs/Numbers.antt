@@ -33,6 +33,10 @@ use Rattle.door_compare.specs.Answer as compared
 use Rattle.door_compare.proofs.Doors.{doors-out}
 use Rattle.door_transfer.specs.Transfer as carried
 use Rattle.door_rescale.specs.Rescale as turned
+use Rattle.walk_record.specs.declared.WalkRecord.{WalkRecord}
+use Rattle.walk_record.specs.State.{Passed}
+use Rattle.door_record.specs.Advance as advanced
+use Rattle.door_sheet.specs.Sheet as sheets
 use Rattle.book_body.specs.Body.{Body}
 use Rattle.book_body.specs.Code as code
 use Rattle.book_write.specs.Write as written
@@ -58,7 +62,7 @@ use Rattle.lister_print.specs.Text.{unit-text, made-text}
 use Rattle.lister_print.proofs.Prints.{made-unit, made-refused}
 use Rattle.lister.specs.Listing as listing
 use Rattle.demands_calls.specs.Numbers.{Numbered, Says, refuses, answers, Gives}
-use Rattle.demands_calls.specs.Numbers.{refusal, open-field, series, open-series, order, check, step, walk, from-order, unit, rescale, pairs, compare, transfer}
+use Rattle.demands_calls.specs.Numbers.{refusal, open-field, series, open-series, order, check, step, walk, from-order, unit, rescale, sheet, advance, pairs, compare, transfer}
 use Rattle.demands_calls.specs.Numbers.{book, ask, attest, list, write, add, parse, line, end}
 use Rattle.demands_calls.specs.Numbers.{order-c, step-c, walk-c, from-order-c, unit-c, one-field-c, book-c, ask-c, attest-c, begin-c, prime-c, period-c, list-c, rows-c, write-c, add-c}
 use Rattle.base_answers.proofs.Said.{number-of}
@@ -283,6 +287,34 @@ end-numbered m (answers g) = zero-of refl
 end-numbered zero (refuses n e) = absurd (end-none n e)
 end-numbered (suc m) (refuses n e) = inr (inl (refused-unique n 12 (sym e ∙ end-some m)))
 
+-- ---- walk records
+sheet-numbered : {rs os : List WalkRecord} {b n : ℕ} → sheets.Sheet rs b n os → Numbered 0 (14 ∷ []) n
+sheet-numbered (sheets.refused v e f) = inr (inl e)
+sheet-numbered (sheets.walked g e s) = zero-of e
+
+passed-numbered : {s : ℕ} → Passed s → Numbered 9 (14 ∷ 100 ∷ []) s
+passed-numbered (inl e) = inr (inr (inl e))
+passed-numbered (inr (inl (a, b))) = inl b
+passed-numbered (inr (inr e)) = inr (inl e)
+
+advance-numbered : {b : ℕ} {r o : WalkRecord} → advanced.Advances b r o → Numbered 9 (14 ∷ 100 ∷ []) (o .state)
+advance-numbered {r = r} {o} = go
+  where
+    state-is : {x : WalkRecord} → o ≡ x → o .state ≡ x .state
+    state-is e = ap (λ (z : WalkRecord). z .state) e
+
+    refused : {x : ℕ} → Numbered 10 (14 ∷ []) x → x ≢ 10 → o .state ≡ x → Numbered 9 (14 ∷ 100 ∷ []) (o .state)
+    refused (inl l) f e = inl (omega arith)
+    refused (inr (inl q)) f e = inr (inl (e ∙ q))
+    refused (inr (inr q)) f e = absurd q
+
+    go : {b : ℕ} → advanced.Advances b r o → Numbered 9 (14 ∷ 100 ∷ []) (o .state)
+    go (advanced.passed s e) = passed-numbered (subst Passed (sym (state-is e)) s)
+    go (advanced.unfit f u d) = door-out (λ k g l e. inl (let q = state-is e in omega arith)) (λ A e. inr (inl (state-is e))) d
+    go (advanced.walked f u w h (advanced.closed z e)) = inr (inr (inl (state-is e)))
+    go (advanced.walked f u w h (advanced.spent z e)) = zero-of (state-is e)
+    go (advanced.walked f u w h (advanced.refused x y e)) = refused (walk-numbered w h) y (state-is e)
+
 -- ---- the functions for C and Rust put the number of the function behind them first
 first-is : {out : List ℕ} {x : Said} → out ≡ numbers x → getD out 0 0 ≡ x .number
 first-is e = ap (λ l. getD l 0 0) e
@@ -299,6 +331,8 @@ numbered (walk w h) = walk-numbered w h
 numbered (from-order o h) = from-order-numbered o h
 numbered (unit m h) = unit-numbered m h
 numbered (rescale h) = door-out (λ k f l r. refused-of (omega arith) l (r .number)) (λ A. rescale-goes) h
+numbered (sheet h) = sheet-numbered h
+numbered (advance h) = advance-numbered h
 numbered (pairs h) = doors-out (λ k f l e. refused-of (omega arith) l e) (λ t e. zero-of e) h
 numbered (compare a h) = compare-numbered a h
 numbered (transfer h) = doors-out (λ k f l r. refused-of (omega arith) l (r .number)) (λ t. transfer-goes) h

@@ -34,6 +34,9 @@ use Rattle.door_compare.specs.declared.CompareAnswer.{CompareAnswer}
 use Rattle.door_compare.specs.Answer.{Refusals, Compares}
 use Rattle.door_transfer.specs.Transfer.{Transfers}
 use Rattle.door_rescale.specs.Rescale.{Rescales}
+use Rattle.walk_record.specs.declared.WalkRecord.{WalkRecord}
+use Rattle.door_record.specs.Advance.{Advances}
+use Rattle.door_sheet.specs.Sheet.{Sheet}
 use Rattle.book_body.specs.Body.{Body}
 use Rattle.book_body.specs.Code.{ListTells}
 use Rattle.book_write.specs.Write.{WriteTells}
@@ -68,6 +71,7 @@ pub record Demand1 : Type 0 where
       Transfers p G H G′ H′ rows n rows′ → n ≢ 0 →
       rows′ ≡ rows
   pub rescale-kept : {p i j n : ℕ} {G H rows rows′ : List ℕ} → Rescales p G H i j rows n rows′ → n ≢ 0 → rows′ ≡ rows
+  pub sheet-kept : {rs os : List WalkRecord} {b n : ℕ} → Sheet rs b n os → n ≢ 0 → os ≡ rs
   pub list-kept : {k : ℕ} {s d d′ : List ℕ} {x : Said} → ListTells s k d x d′ → x .number ≢ 0 → d′ ≡ d
   pub write-kept : {b : Body} {d d′ : List ℕ} {x : Said} → WriteTells b d x d′ → x .number ≢ 0 → d′ ≡ d
   pub add-kept : {n : ℕ} {d b d′ : List ℕ} {x : Said} → AddTells d n b x d′ → x .number ≢ 0 → d′ ≡ d
@@ -112,6 +116,12 @@ pub record Demand1 : Type 0 where
       {p i j n n′ : ℕ} {G H rows r r′ : List ℕ} →
       Rescales p G H i j rows n r → Rescales p G H i j rows n′ r′ →
       (n ≡ n′) × (r ≡ r′)
+  -- walk records
+  pub advance-fixed : {b : ℕ} {r o o′ : WalkRecord} → Advances b r o → Advances b r o′ → o ≡ o′
+  pub sheet-fixed :
+      {b n n′ : ℕ} {rs os os′ : List WalkRecord} →
+      Sheet rs b n os → Sheet rs b n′ os′ →
+      (n ≡ n′) × (os ≡ os′)
   -- two pairs
   pub pairs-fixed : {p m n : ℕ} {G H G′ H′ : List ℕ} → Refusals p G H G′ H′ m → Refusals p G H G′ H′ n → m ≡ n
   pub compare-fixed :

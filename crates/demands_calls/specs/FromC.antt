@@ -2,8 +2,8 @@
 -- by the input."
 --   FromC   a field `..-kept` says that a refusal leaves what is lent as it was, `..-fixed` that two outcomes of one call are equal
 -- How to read it: n is the number that a function returns. The functions of the book return nothing and put five numbers into a lent row
--- `out`, of which the first is the refusal's. zaminuk_refusal, zaminuk_series, zaminuk_check, zaminuk_transfer and zaminuk_rescale have
--- the contracts of the functions behind them, so that the fields of `Demand1` are theirs; zaminuk_book_bodies has an equation for a contract.
+-- `out`, of which the first is the refusal's. zaminuk_refusal, zaminuk_series, zaminuk_check, zaminuk_transfer, zaminuk_rescale and
+-- zaminuk_sheet have the contracts of the functions behind them, so that the fields of `Demand1` are theirs; zaminuk_book_bodies has an equation for a contract.
 -- The theorem `from-c` is in proofs/FromC.antt.
 use mathlib.Core.Path.{_≡_}
 use mathlib.Core.Logic.{_≢_}

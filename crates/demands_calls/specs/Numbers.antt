@@ -17,6 +17,7 @@
 --   door_transfer::transfer                 0 to 8, 14          book_begin::begin                   0, 11
 --   book_parts::prime, period               0, 13               book_parts::list                    0, 11, 13, 14
 --   door_rescale::rescale                   0 to 8, 14          book_rows::write_rows               0 to 8, 11, 13, 14
+--   door_sheet::sheet                       0, 14               door_record::advance, in the state  0 to 9, 14, 100
 -- The other functions for C and Rust (crate capi) give the numbers of the functions behind them.
 -- That every such n is one of the row's numbers is `numbered` of `demand-1`.
 use mathlib.Core.Path.{_≡_}
@@ -45,6 +46,9 @@ use Rattle.door_compare.specs.declared.CompareAnswer.{CompareAnswer}
 use Rattle.door_compare.specs.Answer.{Refusals, Compares}
 use Rattle.door_transfer.specs.Transfer.{Transfers}
 use Rattle.door_rescale.specs.Rescale.{Rescales}
+use Rattle.walk_record.specs.declared.WalkRecord.{WalkRecord}
+use Rattle.door_record.specs.Advance.{Advances}
+use Rattle.door_sheet.specs.Sheet.{Sheet}
 use Rattle.book_body.specs.Body.{Body}
 use Rattle.book_body.specs.Code.{ListTells}
 use Rattle.book_write.specs.Write.{WriteTells}
@@ -93,6 +97,9 @@ pub data Gives : ℕ → List ℕ → ℕ → Type 0 where
   unit : {i p n : ℕ} {G H rows scratch rows′ scratch′ : List ℕ} (m : UnitAnswer)
       → Makes i p G H n rows scratch m rows′ scratch′ → Gives 8 (10 ∷ 11 ∷ 14 ∷ []) (m .refusal)
   rescale : {p i j n : ℕ} {G H rows rows′ : List ℕ} → Rescales p G H i j rows n rows′ → Gives 8 (14 ∷ []) n
+  -- ---- walk records: the answer of a sheet, and the state that a record is left in
+  sheet : {rs os : List WalkRecord} {b n : ℕ} → Sheet rs b n os → Gives 0 (14 ∷ []) n
+  advance : {b : ℕ} {r o : WalkRecord} → Advances b r o → Gives 9 (14 ∷ 100 ∷ []) (o .state)
   -- ---- two pairs
   pairs : {p n : ℕ} {G H G′ H′ : List ℕ} → Refusals p G H G′ H′ n → Gives 8 [] n
   compare : {p : ℕ} {G H G′ H′ : List ℕ} (a : CompareAnswer) → Compares p G H G′ H′ a → Gives 8 [] (a .refusal)

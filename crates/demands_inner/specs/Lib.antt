@@ -63,6 +63,9 @@
 --   door_check     check: checks-unique (door_check/proofs/Answer)
 --   door_step      step: answers-unique (door_step/proofs/Answers)
 --   door_walk      walk: walks-unique (walk_chain/proofs/Walk)
+--   walk_record    passed_over, unfit: decides-unique (base_answers/proofs/Tests); counted, marked, moved: an equation each
+--   door_record    advance: advances-unique (door_record/proofs/Unique)
+--   door_sheet     sheet: sheet-unique (door_sheet/proofs/Unique)
 --   door_period    from_order: from-order-unique (door_period/proofs/Order)
 --   door_unit      unit, unit_scaled: makes-unique (door_unit/proofs/Once)
 --   door_rescale   rescale: rescales-unique (door_rescale/proofs/Once)
@@ -95,8 +98,8 @@
 --   lister_print   put_made: placed-unique (base_lists/proofs/Puts)
 --   lister         answer, pass: answer-unique, passes-unique (lister/proofs/Once)
 --   capi_walk      put: puts-unique (capi_walk/proofs/Once)
---   capi           zaminuk_refusal, zaminuk_series, zaminuk_check, zaminuk_transfer, zaminuk_rescale: refusal-unique, answer-unique,
---                  checks-unique, transfers-unique, rescales-unique as above; zaminuk_order, zaminuk_step, zaminuk_walk,
+--   capi           zaminuk_refusal, zaminuk_series, zaminuk_check, zaminuk_transfer, zaminuk_rescale, zaminuk_sheet: refusal-unique,
+--                  answer-unique, checks-unique, transfers-unique, rescales-unique, sheet-unique as above; zaminuk_order, zaminuk_step, zaminuk_walk,
 --                  zaminuk_from_order, zaminuk_unit, zaminuk_unit_scaled, zaminuk_one_field: order-tells-unique, step-tells-unique,
 --                  walk-tells-unique, from-order-tells-unique, unit-tells-unique, one-field-tells-unique; zaminuk_book_check, _attest,
 --                  _write, _add:

@@ -1,3 +1,4 @@
 pub mod Smallest
 pub mod SameField
 pub mod Conventions
+pub mod Sheets
