@@ -2,10 +2,18 @@
 --   not-going    what is passed over is not open
 --   not-closed   a refusal is not closed
 --   low-refusal  1 to 8 are refusals
-use mathlib.Core.Logic.{_≢_, inl, inr}
-use Prim.Native.Nat.{ℕ, _≤_}
+--   none-passed  a number that is passed over by no test
+--   fit          a record that no test finds unfit
+--   counted-within counted-over counted-room   how many entries are read: never more than there are
+use mathlib.Core.Path.{_≡_, ap}
+use mathlib.Core.Bool.{Bool, true, false}
+use mathlib.Core.Logic.{_≢_, _⊎_, inl, inr}
+use Prim.Native.Nat.{ℕ, _*_, _≤_, _<_}
 use native.Mathlib.Omega.{arith}
-use Rattle.walk_record.specs.State.{going, closed, IsRefusal, Passed}
+use native.Mathlib.Decide.{decLe}
+use borrow.Author.Tests.{le-leb, lt-leb}
+use Rattle.walk_record.specs.State.{going, closed, IsRefusal, Passed, Unknown}
+use Rattle.walk_record.specs.Record.{most-steps, counted}
 
 pub not-going : {s : ℕ} → Passed s → s ≢ going
 not-going (inl a) e = omega arith
@@ -19,3 +27,32 @@ not-closed (inr a) e = omega arith
 pub low-refusal : {k : ℕ} → k ≢ 0 → k ≤ 8 → IsRefusal k
 low-refusal f l = inl (omega arith, omega arith)
 
+
+-- ---- the tests' numbers
+pub none-passed : {s : ℕ} → s ≢ closed → s ≢ 14 → (s ≡ 0) ⊎ (9 < s) → Passed s → ⊥
+none-passed f g h (inl e) = f e
+none-passed f g (inl z) (inr (inl (a, b))) = omega arith
+none-passed f g (inr l) (inr (inl (a, b))) = omega arith
+none-passed f g h (inr (inr e)) = g e
+
+pub fit : {s n d : ℕ} → s ≡ going → n ≤ most-steps → d ≤ 16 * n → Unknown s ⊎ ((most-steps < n) ⊎ (16 * n < d)) → ⊥
+fit z l d (inl (f, g)) = f z
+fit z l d (inr (inl k)) = omega arith
+fit z l d (inr (inr k)) = omega arith
+
+-- ---- how many entries are read
+abbrev if-within : ℕ → Bool → ℕ
+if-within n b = elim b [ true ↦ n | false ↦ 0 ]
+
+pub counted-within : (n : ℕ) → n ≤ 32 → counted n ≡ n
+counted-within n l = ap (if-within n) (le-leb n 32 l)
+
+pub counted-over : (n : ℕ) → 32 < n → counted n ≡ 0
+counted-over n l = ap (if-within n) (lt-leb n 32 l)
+
+-- never more than there are
+pub counted-room : (n : ℕ) → counted n ≤ 32
+counted-room n = elim (decLe n 32) [
+  | yes l ↦ let e = counted-within n l in omega arith
+  | no l ↦ let e = counted-over n (omega arith) in omega arith
+]

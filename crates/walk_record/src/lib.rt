@@ -36,7 +36,7 @@ pub fn passed_over(state: u32) -> bool
 
 // Whether a record that is not passed over is refused with 14.
 pub fn unfit(r: WalkRecord) -> bool
-    requires { ⌜ S.Passed (r .state) → ⊥ ⌝ }
+    requires { ⌜ (S.Passed (r .state) → ⊥) ⌝ }
     ensures { λ t. ⌜ Decides t (R.Unfit r) ⌝ }
 {
     let state = r.state;
