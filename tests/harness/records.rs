@@ -2,12 +2,16 @@
 use crate::api::{WalkRecord, OPEN};
 use crate::sheets::{advanced, answer, leaves, marked, same, walked, BUDGET, DONE, STEPS, TOO_MANY, UNKNOWN};
 use crate::vectors::{ensure, pattern, Tally, Verdict};
+use std::sync::OnceLock;
 
 /// Records at the order: periods 2 and 1, and two that are long.
 fn good() -> [WalkRecord; 4] {
-    let long = WalkRecord::start(29, &[3, 23, 10, 13, 27, 1], &[17, 4, 1]);
-    let [a, b] = [[0, 1, 0, 1], [4, 0, 0, 1]].map(|g| WalkRecord::start(5, &g, &[1]));
-    [a, b, WalkRecord::start(17, &[2, 12, 9, 1], &[5, 3, 5, 1]), long]
+    static ALL: OnceLock<[WalkRecord; 4]> = OnceLock::new();
+    *ALL.get_or_init(|| {
+        let [a, b] = [[0, 1, 0, 1], [4, 0, 0, 1]].map(|g| WalkRecord::start(5, &g, &[1]));
+        let [c, d] = [(17, &[2, 12, 9, 1][..], &[5, 3, 5, 1][..]), (29, &[3, 23, 10, 13, 27, 1], &[17, 4, 1])].map(|(p, g, h)| WalkRecord::start(p, g, h));
+        [a, b, c, d]
+    })
 }
 
 /// What becomes of one record, alone and between two others.
