@@ -8,9 +8,9 @@ use std::sync::OnceLock;
 fn good() -> [WalkRecord; 4] {
     static ALL: OnceLock<[WalkRecord; 4]> = OnceLock::new();
     *ALL.get_or_init(|| {
-        let [a, b] = [[0, 1, 0, 1], [4, 0, 0, 1]].map(|g| WalkRecord::start(5, &g, &[1]));
-        let [c, d] = [(17, &[2, 12, 9, 1][..], &[5, 3, 5, 1][..]), (29, &[3, 23, 10, 13, 27, 1], &[17, 4, 1])].map(|(p, g, h)| WalkRecord::start(p, g, h));
-        [a, b, c, d]
+        let [short, shorter] = [[0, 1, 0, 1], [4, 0, 0, 1]].map(|g| WalkRecord::start(5, &g, &[1]));
+        let long = WalkRecord::start(17, &[2, 12, 9, 1], &[5, 3, 5, 1]);
+        [short, shorter, long, WalkRecord::start(29, &[3, 23, 10, 13, 27, 1], &[17, 4, 1])]
     })
 }
 

@@ -185,7 +185,20 @@ fn together(before: &[WalkRecord], b: u64, c: u64) -> Verdict {
     Ok(())
 }
 
-fn some_sheet(n: &mut Numbers) -> Verdict {
+/// Adds to the records that were left open, closed, refused, passed over.
+fn tell_apart(before: &[WalkRecord], after: &[WalkRecord], seen: &mut [usize; 4]) {
+    for (r, s) in before.iter().zip(after) {
+        let kind = match (DONE.contains(&r.state), s.state) {
+            (true, _) => 3,
+            (_, OPEN) => 0,
+            (_, CLOSED) => 1,
+            _ => 2,
+        };
+        seen[kind] += 1;
+    }
+}
+
+fn some_sheet(n: &mut Numbers, seen: &mut [usize; 4]) -> Verdict {
     let count = if n.below(16) == 0 { 62 + n.below(5) } else { n.below(12) };
     let budget = if n.below(16) == 0 { BUDGET + 1 + n.below(2) } else { n.below(10) };
     let before: Vec<WalkRecord> = (0..count).map(|_| some_record(n)).collect();
@@ -197,6 +210,7 @@ fn some_sheet(n: &mut Numbers) -> Verdict {
     if no != 0 {
         return Ok(());
     }
+    tell_apart(&reversed, &after, seen);
     together(&before, budget, n.below(10))
 }
 
@@ -218,12 +232,17 @@ fn until_closed(n: &mut Numbers) -> Verdict {
     Ok(())
 }
 
+/// Random sheets; after some of them walks from the order, until they close.
 pub fn random(seed: u64, count: usize) -> (usize, usize) {
     let mut n = Numbers::new(seed);
     let mut t = Tally::new();
+    let mut seen = [0; 4];
     for i in 0..count {
-        let verdict = some_sheet(&mut n).and_then(|_| if i % 10 == 0 { until_closed(&mut n) } else { Ok(()) });
-        t.count(|| format!("sheet {}", i), verdict);
+        t.count(|| format!("sheet {}", i), some_sheet(&mut n, &mut seen));
+        if i % 10 == 0 {
+            t.count(|| format!("walks after sheet {}", i), until_closed(&mut n));
+        }
     }
+    println!("sheets, random: records left open {}, closed {}, refused {}, passed over {}", seen[0], seen[1], seen[2], seen[3]);
     t.done("sheets, random")
 }
