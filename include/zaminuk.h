@@ -110,7 +110,7 @@ typedef struct zaminuk_regulator { uint64_t half_degrees; } zaminuk_regulator;
 
 /* A walk that is under way: its field, the basis that it has reached, the steps taken so far and the sum of their degrees, its state. G is
    the first ng entries of g, H the first nh of h; those above are not read and stay. A count over 32 is refused as a list of over 32
-   entries: 3. Compare two records member by member: the bytes between the members mean nothing. */
+   entries: 3. Compare two records member by member: bytes that belong to no member mean nothing. */
 typedef struct zaminuk_walk_record {
     uint64_t p;
     uint64_t g[ZAMINUK_ENTRIES_MAX];
@@ -170,7 +170,7 @@ uint32_t zaminuk_walk(uint64_t p, const uint64_t *g, size_t gn, const uint64_t *
                       uint16_t rows[ZAMINUK_RECORD], uint64_t *steps, uint64_t *sum);
 
 /* A sheet: each of the records, in list order, walked on by at most `budget` steps. 14 for over 64 records or a budget over 1,000,000, with
-   nothing changed; else 0, and every record is what it would be in a sheet of its own:
+   nothing changed; else 0, and every record becomes what it would become in a sheet of its own:
    - Where its state is ZAMINUK_CLOSED or a refusal (1 to 9, 14), it stays as it is, whatever else it holds.
    - Else it may be bad: 1 to 8 for its field; then 14 for an unknown state, over 1,000,000,000 steps or a sum above 16 times the steps; then
      9 as zaminuk_check. The number of the first is put into its state, and nothing else of it changes. A budget of 0 marks it too.
