@@ -97,7 +97,7 @@ fn told(x: &Field, y: &Field, t: &Given) -> Vec<Told> {
         tried("check", &t.rows, |l| one(x.check(record(l)))),
         tried("step", &t.rows, |l| two(x.step(record(l)))),
         tried("walk", &t.rows, |l| three(x.walk(t.budget, record(l)))),
-        tried("sheet", &t.rows, |l| sheeted(x, t.budget, l)),
+        tried("sheet", &t.rows, |l| sheeted(x, t.budget % 16, l)),
         tried("from_order", &nothing, |_| three(x.from_order(t.budget))),
         tried("unit", &pattern(2 * c), |l| {
             let (rows, scratch) = l.split_at_mut(c);

@@ -219,15 +219,15 @@ fn until_closed(n: &mut Numbers) -> Verdict {
     let fields: Vec<Field> = (0..8).map(|_| some_field(n)).collect();
     let mut records: Vec<WalkRecord> = fields.iter().map(|x| WalkRecord::start(x.p, &x.g, &x.h)).collect();
     let starts = records.clone();
-    for _ in 0..20 {
+    for _ in 0..10 {
         records = walked(records, 16);
     }
     for ((x, r), start) in fields.iter().zip(&records).zip(&starts) {
-        let (no, period, regulator) = x.from_order(320);
+        let (no, period, regulator) = x.from_order(160);
         let told = if r.state == CLOSED { (0, r.steps, r.sum / 2) } else { (10, 0, 0) };
         ensure(told == (no, period, regulator), || format!("p {} G {:?} H {:?}: {:?} for {:?}", x.p, x.g, x.h, told, (no, period, regulator)))?;
         let closed = r.sum % 2 == 0 && r.basis == start.basis;
-        ensure(if no == 0 { closed } else { r.state == OPEN && r.steps == 320 }, || format!("ended in state {} after {} steps", r.state, r.steps))?;
+        ensure(if no == 0 { closed } else { r.state == OPEN && r.steps == 160 }, || format!("ended in state {} after {} steps", r.state, r.steps))?;
     }
     Ok(())
 }
@@ -239,7 +239,7 @@ pub fn random(seed: u64, count: usize) -> (usize, usize) {
     let mut seen = [0; 4];
     for i in 0..count {
         t.count(|| format!("sheet {}", i), some_sheet(&mut n, &mut seen));
-        if i % 10 == 0 {
+        if i % 15 == 0 {
             t.count(|| format!("walks after sheet {}", i), until_closed(&mut n));
         }
     }
