@@ -1,5 +1,6 @@
-/* The whole way in C: a field's order, walk, period, regulator and unit, by both conventions; its body; a book begun, added to, checked and
-   attested; and the parts of a body read back. Every buffer has a pattern before and behind it, which is looked at in the end.
+/* The whole way in C: a field's order, walk, period, regulator and unit, by both conventions; a sheet of fields walked side by side; a body; a
+   book begun, added to, checked and attested; and the parts of a body read back. Every buffer has a pattern before and behind it, which is
+   looked at in the end.
 
        cc -I include examples/whole_way.c target/staticlib/libcapi.a && ./a.out
 
@@ -17,6 +18,7 @@ GUARDED(uint16_t, rows, 6 * LENGTH);
 GUARDED(uint16_t, scratch, 6 * LENGTH);
 GUARDED(uint16_t, r, 8);
 GUARDED(uint16_t, w, 8);
+GUARDED(zaminuk_walk_record, sheet, 3);
 GUARDED(uint64_t, list, LENGTH);
 GUARDED(uint64_t, said, ZAMINUK_SAID);
 GUARDED(uint8_t, body, 200);
@@ -37,8 +39,8 @@ static int intact(const unsigned char *edge) {
 /* Fills the edges of every buffer, or looks whether they are as they were filled. */
 static int edges(int fill) {
     unsigned char *const all[] = {basis.low, basis.high, rows.low, rows.high, scratch.low, scratch.high, r.low, r.high, w.low, w.high,
-                                  list.low, list.high, said.low, said.high, body.low, body.high, again.low, again.high,
-                                  book.low, book.high};
+                                  sheet.low, sheet.high, list.low, list.high, said.low, said.high, body.low, body.high,
+                                  again.low, again.high, book.low, book.high};
     size_t i;
     int good = 1;
     for (i = 0; i < sizeof all / sizeof *all; i++) {
@@ -91,6 +93,42 @@ static void walk(field x) {
     printf("walk: refusal %u steps %u sum %u\n", (unsigned)no, (unsigned)steps, (unsigned)sum);
     no = zaminuk_from_order(x.p, x.g, x.gn, x.h, x.hn, 1000, &period, &regulator);
     printf("from the order: refusal %u period %u regulator %u\n", (unsigned)no, (unsigned)period.steps, (unsigned)regulator.half_degrees);
+}
+
+/* A record that stands at the order of a field; where that is refused, the refusal is its state. */
+static void start(zaminuk_walk_record *to, field x) {
+    size_t i;
+    to->p = x.p;
+    to->ng = x.gn;
+    to->nh = x.hn;
+    for (i = 0; i < x.gn; i++) to->g[i] = x.g[i];
+    for (i = 0; i < x.hn; i++) to->h[i] = x.h[i];
+    to->steps = to->sum = 0;
+    to->state = zaminuk_order(x.p, x.g, x.gn, x.h, x.hn, to->basis);
+}
+
+static void sheet_walked(uint64_t budget) {
+    size_t i;
+    uint32_t no = zaminuk_sheet(sheet.at, 3, budget);
+    printf("sheet: refusal %u\n", (unsigned)no);
+    for (i = 0; i < 3; i++)
+        printf("  state %u steps %u sum %u\n", (unsigned)sheet.at[i].state, (unsigned)sheet.at[i].steps, (unsigned)sheet.at[i].sum);
+}
+
+/* Two fields walked side by side, a step a sheet; the record between them is of no field, and is marked. A budget out of its rule changes
+   not a byte. */
+static void side_by_side(field x, field y) {
+    static zaminuk_walk_record before[3];
+    uint32_t no;
+    start(&sheet.at[0], x);
+    start(&sheet.at[1], x);
+    start(&sheet.at[2], y);
+    sheet.at[1].p = 6;
+    sheet_walked(1);
+    sheet_walked(1);
+    memcpy(before, sheet.at, sizeof before);
+    no = zaminuk_sheet(sheet.at, 3, ZAMINUK_BUDGET_MAX + 1);
+    printf("too large a budget: refusal %u, %s\n", (unsigned)no, memcmp(before, sheet.at, sizeof before) == 0 ? "nothing changed" : "CHANGED");
 }
 
 /* The unit, its body written in two ways, and the body added to the book. */
@@ -188,6 +226,10 @@ static void nothing(field x) {
     printf("  of norm one: %u", (unsigned)no);
     no = zaminuk_rescale(x.p, x.g, x.gn, x.h, x.hn, ZAMINUK_NORM_ONE, ZAMINUK_E0_MONIC, NULL, 0);
     printf(" turned: %u\n", (unsigned)no);
+    no = zaminuk_sheet(NULL, 0, 1);
+    printf("  sheet: %u", (unsigned)no);
+    no = zaminuk_sheet(NULL, 0, ZAMINUK_BUDGET_MAX + 1);
+    printf(" %u\n", (unsigned)no);
     zaminuk_book_begin(NULL, 0, said.at);
     told("  begun");
     zaminuk_book_check(NULL, 0, said.at);
@@ -214,6 +256,7 @@ int main(void) {
     shelve(second);
     walk(first);
     shelve(first);
+    side_by_side(first, second);
     of_norm_one(first);
     again_in_other_words(first, other);
     zaminuk_book_check(book.at, length, said.at);

@@ -2,20 +2,21 @@
 
    Lists. A list or slice is a pointer and a length. Coefficients stand lowest power first. A field is p, G, H. G and H may have zeros above
    their coefficients, up to 32 entries: such a list stands for the one without them, and every function answers as for that one. In the bytes
-   of a book they have none.
+   of a book they have none. A record of a sheet has its lists in itself, with room for 32 entries each.
    Refusals. Every call answers: 0, or the number of a refusal from 1 to 15, the first that applies (enum zaminuk_number). Nothing has to be
-   checked beforehand.
+   checked beforehand. What is refused of one record of a sheet stands in the state of that record.
    Outputs. What is handed over without const is written. Single numbers (degree, steps, sum, period, regulator, same, start, size) and all
-   five of `said` are written in every case; beside a refusal the numbers are 0. Arrays and slices (rows, r, w, scratch, out) are as they
-   were after a refusal, every byte of them, except that a walk refused with 10 leaves the basis reached, and tells steps and sum. With 0
-   only what a function says is changed in them; of `out` that is the front, as long as the result says.
+   five of `said` are written in every case; beside a refusal the numbers are 0. Arrays and slices (rows, r, w, scratch, out, records) are
+   as they were after a refusal, every byte of them, except that a walk refused with 10 leaves the basis reached, and tells steps and sum.
+   With 0 only what a function says is changed in them; of `out` that is the front, as long as the result says; of a record it is basis,
+   steps, sum and state, and its padding bytes mean nothing.
    Memory. A pointer must be aligned for its type and valid for as many items as its length or array says: to be read, and without const to
    be written. What is written may overlap nothing else that is handed over in the same call, neither an input nor another output: so the
    body that zaminuk_book_add adds may not lie in the slice of the book, also not behind the book. Inputs may be the same or overlap. With
    length 0 a pointer is not followed and may be NULL; a pointer that has no length is never NULL. Nothing else is asked of the caller.
    Stack. No call allocates. What it needs of the stack, by the frames in the machine code of this version: zaminuk_book_attest 176 KiB;
-   zaminuk_book_write_rows 100 KiB; zaminuk_rescale 64 KiB; zaminuk_book_check, .._ask, .._add and zaminuk_body_.. 34 KiB; zaminuk_unit and
-   zaminuk_unit_scaled 18 KiB; zaminuk_refusal 2 KiB; all others 14 KiB.
+   zaminuk_book_write_rows 100 KiB; zaminuk_rescale 64 KiB; zaminuk_book_check, .._ask, .._add and zaminuk_body_.. 34 KiB; zaminuk_unit,
+   zaminuk_unit_scaled and zaminuk_sheet 18 KiB; zaminuk_refusal 2 KiB; all others 14 KiB.
    Threads. Nothing is kept between calls and nothing is shared, so calls may run at the same time as long as none writes what another has.
    Platform. The library is x86-64 code for Linux (System V calling convention), and needs only memcpy and memset of the C library.
 
@@ -30,9 +31,9 @@ extern "C" {
 #endif
 
 #define ZAMINUK_VERSION_MAJOR 1
-#define ZAMINUK_VERSION_MINOR 2
+#define ZAMINUK_VERSION_MINOR 3
 #define ZAMINUK_VERSION_PATCH 0
-#define ZAMINUK_VERSION "1.2.0"
+#define ZAMINUK_VERSION "1.3.0"
 
 /* The limits. */
 #define ZAMINUK_P_MIN 5             /* p is a prime from here .. */
@@ -43,6 +44,8 @@ extern "C" {
 #define ZAMINUK_ROW 17              /* the coefficients of a row of a basis */
 #define ZAMINUK_RECORD 119          /* a basis: M0, M1, M2, N0, N1, N2, U, 17 coefficients each */
 #define ZAMINUK_BUDGET_MAX 1000000  /* the largest budget, and period of a body */
+#define ZAMINUK_SHEET_MAX 64        /* the most records of a sheet */
+#define ZAMINUK_STEPS_MAX 1000000000 /* the most steps of a record that is to be walked on */
 #define ZAMINUK_LONG_MAX 4096       /* the most coefficients of a series, of a row of a unit, of a list E0, E1, E2 */
 #define ZAMINUK_BOOK_MIN 6          /* the bytes of a book that has no bodies .. */
 #define ZAMINUK_BOOK_MAX 65536      /* .. and the most that a book may have */
@@ -66,7 +69,8 @@ enum zaminuk_number {
     ZAMINUK_NO_LINE = 12,           /* of the lister alone: text line malformed */
     ZAMINUK_MALFORMED = 13,         /* book or body malformed, with a reason */
     ZAMINUK_OUT_OF_RULE = 14,       /* lent lengths or budget out of their rule, no such entry, list or convention, pairs not of one field,
-                                       rows that are not a unit of positive degree so scaled with its inverse */
+                                       rows that are not a unit of positive degree so scaled with its inverse; over 64 records; of a
+                                       record: its state not known, over 1,000,000,000 steps, a sum above 16 times the steps */
     ZAMINUK_KNOWN = 15              /* field already in the book: an entry is of one field with the body */
 };
 
@@ -74,6 +78,12 @@ enum zaminuk_number {
 enum zaminuk_convention {
     ZAMINUK_E0_MONIC = 1,           /* E0 is monic */
     ZAMINUK_NORM_ONE = 2            /* the norm is 1 */
+};
+
+/* The states of a record. A state from 1 to 9, or 14, is the refusal of that number; any other than these is unknown. */
+enum zaminuk_state {
+    ZAMINUK_OPEN = 0,               /* it is to be walked on */
+    ZAMINUK_CLOSED = 100            /* its walk has come back */
 };
 
 /* The reasons of refusal 13. */
@@ -97,6 +107,41 @@ enum zaminuk_said {
 /* A number of steps, and a number of half degrees: two types, so that one does not pass for the other. */
 typedef struct zaminuk_period { uint64_t steps; } zaminuk_period;
 typedef struct zaminuk_regulator { uint64_t half_degrees; } zaminuk_regulator;
+
+/* A walk that is under way: its field, the basis that it has reached, the steps taken so far and the sum of their degrees, its state. G is
+   the first ng entries of g, H the first nh of h; those above are not read and stay. A count over 32 is refused as a list of over 32
+   entries: 3. Compare two records member by member: bytes that belong to no member mean nothing. */
+typedef struct zaminuk_walk_record {
+    uint64_t p;
+    uint64_t g[ZAMINUK_ENTRIES_MAX];
+    size_t ng;
+    uint64_t h[ZAMINUK_ENTRIES_MAX];
+    size_t nh;
+    uint16_t basis[ZAMINUK_RECORD];
+    uint64_t steps;
+    uint64_t sum;
+    uint32_t state;                 /* enum zaminuk_state, or the number of a refusal */
+} zaminuk_walk_record;
+
+/* The layout that the library knows, where the language can say it: C from C11 on, C++ from C++11 on. */
+#if defined(__cplusplus) && __cplusplus >= 201103L
+#define ZAMINUK_HOLDS(fact) static_assert(fact, #fact)
+#elif !defined(__cplusplus) && defined(__STDC_VERSION__) && __STDC_VERSION__ >= 201112L
+#define ZAMINUK_HOLDS(fact) _Static_assert(fact, #fact)
+#endif
+#ifdef ZAMINUK_HOLDS
+ZAMINUK_HOLDS(offsetof(zaminuk_walk_record, p) == 0);
+ZAMINUK_HOLDS(offsetof(zaminuk_walk_record, g) == 8);
+ZAMINUK_HOLDS(offsetof(zaminuk_walk_record, ng) == 264);
+ZAMINUK_HOLDS(offsetof(zaminuk_walk_record, h) == 272);
+ZAMINUK_HOLDS(offsetof(zaminuk_walk_record, nh) == 528);
+ZAMINUK_HOLDS(offsetof(zaminuk_walk_record, basis) == 536);
+ZAMINUK_HOLDS(offsetof(zaminuk_walk_record, steps) == 776);
+ZAMINUK_HOLDS(offsetof(zaminuk_walk_record, sum) == 784);
+ZAMINUK_HOLDS(offsetof(zaminuk_walk_record, state) == 792);
+ZAMINUK_HOLDS(sizeof(zaminuk_walk_record) == 800);
+#undef ZAMINUK_HOLDS
+#endif
 
 /* ---- fields ---- */
 
@@ -123,6 +168,17 @@ uint32_t zaminuk_step(uint64_t p, const uint64_t *g, size_t gn, const uint64_t *
    does not come back within the budget: rows then hold the basis reached. */
 uint32_t zaminuk_walk(uint64_t p, const uint64_t *g, size_t gn, const uint64_t *h, size_t hn, uint64_t budget,
                       uint16_t rows[ZAMINUK_RECORD], uint64_t *steps, uint64_t *sum);
+
+/* A sheet: each of the records, in list order, walked on by at most `budget` steps. 14 for over 64 records or a budget over 1,000,000, with
+   nothing changed; else 0, and every record becomes what it would become in a sheet of its own:
+   - Where its state is ZAMINUK_CLOSED or a refusal (1 to 9, 14), it stays as it is, whatever else it holds.
+   - Else it may be bad: 1 to 8 for its field; then 14 for an unknown state, over 1,000,000,000 steps or a sum above 16 times the steps; then
+     9 as zaminuk_check. The number of the first is put into its state, and nothing else of it changes. A budget of 0 marks it too.
+   - Else it is walked on as by zaminuk_walk: the basis is the one reached, the steps taken and their degrees are added to steps and sum. The
+     state is ZAMINUK_CLOSED where the walk came back, else it stays ZAMINUK_OPEN, and a later sheet goes on from there.
+   A record begins with the basis of zaminuk_order, steps 0 and sum 0. Once such a record is closed, its steps are the period and its sum is
+   twice the regulator. */
+uint32_t zaminuk_sheet(zaminuk_walk_record *records, size_t count, uint64_t budget);
 
 /* Period and regulator, by at most `budget` steps from the order. Twice the regulator is the least positive degree of a unit; with
    refusal 10 no unit has a degree from 1 to the budget. */

@@ -15,6 +15,12 @@ Traceback (most recent call last):
     ...
 zaminuk.Refused: 1: p < 5, p > 65,535 or p not prime
 
+Up to 64 fields are walked side by side, as far as wanted at a time:
+
+>>> walks = [x.start(), Field(5, [4, 0, 0, 1], [1]).start()]
+>>> [(r.state == CLOSED, r.steps, r.sum) for r in sheet(walks, 1)]
+[(False, 1, 3), (True, 1, 2)]
+
 A book of units is bytes:
 
 >>> book = Book.begin().add(Body.of(x, u)).add(Body.of(Field(5, [4, 0, 0, 1], [1])))
@@ -32,7 +38,9 @@ import struct
 import subprocess
 from collections import namedtuple
 
-__all__ = ["Refused", "Field", "Walk", "Unit", "Book", "Body", "refusal", "E0_MONIC", "NORM_ONE"]
+__all__ = [
+    "Refused", "Field", "Walk", "WalkRecord", "Unit", "Book", "Body", "refusal", "sheet", "E0_MONIC", "NORM_ONE", "OPEN", "CLOSED",
+]
 
 REFUSALS = {
     1: "p < 5, p > 65,535 or p not prime",
@@ -47,7 +55,8 @@ REFUSALS = {
     10: "no closing within the budget",
     11: "too little room",
     13: "book or body malformed",
-    14: "lent lengths or budget out of their rule, no such entry, list or convention, pairs not of one field, or rows not a unit so scaled",
+    14: "lent lengths or budget out of their rule, no such entry, list or convention, pairs not of one field, rows not a unit so scaled, "
+    "over 64 records, or state, steps or sum of a record out of their rule",
     15: "field already in the book",
 }
 REASONS = {1: "mark", 2: "contents", 3: "body rule", 4: "field refused", 5: "twice"}
@@ -55,6 +64,10 @@ REASONS = {1: "mark", 2: "contents", 3: "body rule", 4: "field refused", 5: "twi
 # The conventions: how a unit is scaled.
 E0_MONIC = 1
 NORM_ONE = 2
+
+# The states of a walk record; 1 to 9 and 14 are the refusals of these numbers, and any other is unknown.
+OPEN = 0
+CLOSED = 100
 
 RECORD = 119
 BUDGET = 1000000
@@ -91,7 +104,7 @@ class Refused(Exception):
 # As in serve.c, whose table has the same order.
 ENTRIES = (
     "refusal series order check step walk from_order unit one_field transfer book_check book_bodies book_ask book_attest book_write "
-    "book_add body_prime body_period body_list book_begin book_write_rows unit_scaled rescale"
+    "book_add body_prime body_period body_list book_begin book_write_rows unit_scaled rescale sheet"
 ).split()
 
 
@@ -182,6 +195,12 @@ def _trim(row):
     while row and row[-1] == 0:
         row.pop()
     return row
+
+
+def _basis(rows):
+    if len(rows) != RECORD:
+        raise ValueError("a basis is %d numbers" % RECORD)
+    return _shorts(rows)
 
 
 def _answer(number):
@@ -297,12 +316,7 @@ class Field:
             ...
         zaminuk.Refused: 9: rows are not the scaled reduced basis of a reduced ideal of this field
         """
-        _answer(_call("check", *self._field(), self._record(rows)))
-
-    def _record(self, rows):
-        if len(rows) != RECORD:
-            raise ValueError("a basis is %d numbers" % RECORD)
-        return bytearray(_shorts(rows))
+        _answer(_call("check", *self._field(), bytearray(_basis(rows))))
 
     def step(self, rows):
         """The next basis, and the degree of the m divided by.
@@ -312,7 +326,7 @@ class Field:
         >>> degree, x.step(rows)[1]
         (3, 1)
         """
-        block, degree = self._record(rows), bytearray(8)
+        block, degree = bytearray(_basis(rows)), bytearray(8)
         _answer(_call("step", *self._field(), block, degree))
         return _numbers(block, "H"), _numbers(degree, "Q")[0]
 
@@ -328,12 +342,21 @@ class Field:
         ...     e.number, e.reached.rows == x.step(x.order())[0], e.reached[1:]
         (10, True, (1, 3))
         """
-        block, steps, total = self._record(rows), bytearray(8), bytearray(8)
+        block, steps, total = bytearray(_basis(rows)), bytearray(8), bytearray(8)
         number = _call("walk", *self._field(), budget, block, steps, total) & 0xFFFFFFFF
         walk = Walk(_numbers(block, "H"), _numbers(steps, "Q")[0], _numbers(total, "Q")[0])
         if number:
             raise Refused(number, reached=walk if number == 10 else None)
         return walk
+
+    def start(self):
+        """A WalkRecord at the order, for a sheet.
+
+        >>> r = Field(5, [0, 1, 0, 1], [1]).start()
+        >>> r.G, r.H, r.steps, r.sum, r.state == OPEN
+        ([0, 1, 0, 1], [1], 0, 0, True)
+        """
+        return WalkRecord(self.p, list(self.G), list(self.H), self.order(), 0, 0, OPEN)
 
     def period_and_regulator(self, budget=BUDGET):
         """Period and regulator, by at most `budget` steps from the order."""
@@ -411,6 +434,55 @@ class Field:
         return self._unit(unit.period, unit.regulator, rows, c, unit.convention)
 
 
+# ---- sheets
+
+class WalkRecord(namedtuple("WalkRecord", "p G H rows steps sum state")):
+    """A walk that is under way: its field, the rows of the basis reached, the steps so far and the sum of their degrees, and its state: OPEN,
+    CLOSED or the number of a refusal. `Field.start` makes one. It does not change: a sheet makes new ones.
+    """
+
+    # C's layout: what is between the parts is left out.
+    _form = struct.Struct("<Q 32Q Q 32Q Q 238s 2x Q Q I 4x")
+
+    def _pack(self):
+        lists = [n for l in (self.G, self.H) for n in (*l[:32], *[0] * (32 - len(l)), len(l))]
+        return self._form.pack(self.p, *lists, _basis(self.rows), self.steps, self.sum, self.state)
+
+    def _after(self, block):
+        rows, steps, total, state = self._form.unpack(block)[-4:]
+        return self._replace(rows=_numbers(rows, "H"), steps=steps, sum=total, state=state)
+
+
+def sheet(records, budget=BUDGET):
+    """The records, each walked on by at most `budget` steps: a list of them. Raises refusal 14 for over 64 records or a budget over 1,000,000;
+    what is refused of one record is its state, and the others go on. Closed and refused records are passed over.
+
+    >>> x = Field(5, [0, 1, 0, 1], [1])
+    >>> bad = x.start()._replace(p=6)
+    >>> first = sheet([x.start(), bad], 1)
+    >>> [(r.steps, r.sum, r.state) for r in first]
+    [(1, 3, 0), (0, 0, 1)]
+    >>> [(r.steps, r.sum, r.state) for r in sheet(first, 1)], x.period_and_regulator()
+    ([(2, 4, 100), (0, 0, 1)], (2, 2))
+    >>> sheet(first, 1)[1] == first[1] == bad._replace(state=1), sheet(first, 1) == sheet([x.start(), bad], 2), sheet([])
+    (True, True, [])
+    >>> [r.state for r in sheet([x.start()._replace(**part) for part in ({"G": [1] * 33}, {"state": 10}, {"rows": [0] * 119}, {"sum": 1})], 0)]
+    [3, 14, 9, 14]
+    >>> for records, budget in ([bad] * 65, 1), ([bad] * 64, 1000001):
+    ...     try:
+    ...         sheet(records, budget)
+    ...     except Refused as e:
+    ...         e.number
+    14
+    14
+    """
+    records = list(records)
+    block = bytearray(b"".join(r._pack() for r in records))
+    _answer(_call("sheet", block, len(records), budget))
+    size = WalkRecord._form.size
+    return [r._after(block[i * size : (i + 1) * size]) for i, r in enumerate(records)]
+
+
 # ---- books
 
 class Body(bytes):
@@ -476,10 +548,10 @@ class Book(bytes):
     Traceback (most recent call last):
         ...
     zaminuk.Refused: 15: field already in the book
-    >>> book.body(1)
+    >>> book.body(1)                                # doctest: +ELLIPSIS
     Traceback (most recent call last):
         ...
-    zaminuk.Refused: 14: lent lengths or budget out of their rule, no such entry, list or convention, pairs not of one field, or rows not a unit so scaled
+    zaminuk.Refused: 14: lent lengths or budget out of their rule, no such entry, list or convention, ...
     """
 
     @classmethod

@@ -16,6 +16,7 @@ mod c {
         pub fn zaminuk_transfer(p: u64, g: *const u64, gn: usize, h: *const u64, hn: usize, g2: *const u64, g2n: usize, h2: *const u64, h2n: usize, rows: *mut u16, rn: usize) -> u32;
         pub fn zaminuk_unit_scaled(p: u64, g: *const u64, gn: usize, h: *const u64, hn: usize, budget: u64, convention: u32, rows: *mut u16, rn: usize, scratch: *mut u16, sn: usize, period: *mut u64, regulator: *mut u64) -> u32;
         pub fn zaminuk_rescale(p: u64, g: *const u64, gn: usize, h: *const u64, hn: usize, from: u32, to: u32, rows: *mut u16, rn: usize) -> u32;
+        pub fn zaminuk_sheet(records: *mut super::WalkRecord, count: usize, budget: u64) -> u32;
         pub fn zaminuk_book_check(book: *const u8, n: usize, said: *mut u64);
         pub fn zaminuk_book_bodies(book: *const u8, n: usize) -> usize;
         pub fn zaminuk_book_ask(book: *const u8, n: usize, i: usize, start: *mut usize, size: *mut usize, said: *mut u64);
@@ -43,6 +44,26 @@ pub struct Field {
     pub p: u64,
     pub g: Vec<u64>,
     pub h: Vec<u64>,
+}
+
+/// The states of a walk record; 1 to 9 and 14 are the refusals of these numbers, and any other is unknown.
+pub const OPEN: u32 = 0;
+pub const CLOSED: u32 = 100;
+
+/// A walk that is under way, laid out as in C: its field, the basis reached, steps and degree sum so far, its state. G is the first ng
+/// numbers of g, H the first nh of h.
+#[repr(C)]
+#[derive(Clone, Copy, PartialEq, Debug)]
+pub struct WalkRecord {
+    pub p: u64,
+    pub g: [u64; 32],
+    pub ng: usize,
+    pub h: [u64; 32],
+    pub nh: usize,
+    pub basis: Record,
+    pub steps: u64,
+    pub sum: u64,
+    pub state: u32,
 }
 
 /// What a call about a book says: refusal, inner reason, its entry, its other number, result.
@@ -155,6 +176,23 @@ impl Field {
     pub fn write_rows(&self, period: u64, rows: &[u16], out: &mut [u8]) -> Said {
         said(|o| unsafe { c::zaminuk_book_write_rows(self.p, self.g.as_ptr(), self.g.len(), self.h.as_ptr(), self.h.len(), period, rows.as_ptr(), rows.len(), out.as_mut_ptr(), out.len(), o) })
     }
+}
+
+impl WalkRecord {
+    /// A record that stands at the order of a field. Where the field is refused its state says so, and a sheet passes it over.
+    pub fn start(p: u64, g: &[u64], h: &[u64]) -> WalkRecord {
+        let mut r = WalkRecord { p, g: [0; 32], ng: g.len(), h: [0; 32], nh: h.len(), basis: [0; 119], steps: 0, sum: 0, state: OPEN };
+        for (room, l) in [(&mut r.g, g), (&mut r.h, h)] {
+            room.iter_mut().zip(l).for_each(|(to, from)| *to = *from);
+        }
+        r.state = Field { p, g: g.to_vec(), h: h.to_vec() }.order(&mut r.basis);
+        r
+    }
+}
+
+/// Walks each record of a sheet on by at most `budget` steps; 0 or the refusal of the call. Refusals of records are in their states.
+pub fn sheet(records: &mut [WalkRecord], budget: u64) -> u32 {
+    unsafe { c::zaminuk_sheet(records.as_mut_ptr(), records.len(), budget) }
 }
 
 /// Begins a book, one with no bodies, at the front of a slice; the result is its length.

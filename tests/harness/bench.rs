@@ -1,6 +1,6 @@
-// Measures what a customer waits for: steps of the walk, an opening, the unit and its rescaling, series, a full book. Baselines are walkers of
-// the same job that take p, G, H and a budget and print "N steps/s"; each is run beside ours, in one run.
-use crate::api::{self, Field};
+// Measures what a customer waits for: steps of the walk, a sheet, an opening, the unit and its rescaling, series, a full book. Baselines are
+// walkers of the same job that take p, G, H and a budget and print "N steps/s"; each is run beside ours, in one run.
+use crate::api::{self, Field, WalkRecord, CLOSED, OPEN};
 use crate::plain::Numbers;
 use crate::vectors::list;
 use std::process::Command;
@@ -77,6 +77,33 @@ fn walks(others: &[String]) {
     }
 }
 
+/// The seconds of a sheet, and of as many walks by calls of their own; both take the same steps.
+fn sheet_and_walks(starts: &[WalkRecord], fields: &[Field], budget: u64) -> (f64, f64) {
+    let (mut records, mut bases) = (starts.to_vec(), starts.iter().map(|r| r.basis).collect::<Vec<_>>());
+    let t = Instant::now();
+    assert_eq!(api::sheet(&mut records, budget), 0);
+    let sheet = t.elapsed().as_secs_f64();
+    let t = Instant::now();
+    let told: Vec<(u32, u64, u64)> = fields.iter().zip(bases.iter_mut()).map(|(x, rows)| x.walk(budget, rows)).collect();
+    let walks = t.elapsed().as_secs_f64();
+    for ((r, told), rows) in records.iter().zip(told).zip(bases) {
+        let state = if told.0 == 0 { CLOSED } else { OPEN };
+        assert!((r.state, r.steps, r.sum, r.basis) == (state, told.1, told.2, rows), "a sheet and walks differ");
+    }
+    (sheet, walks)
+}
+
+/// A sheet of 64 beside 64 walks of the same fields and budgets: the best of some rounds, in which they take turns.
+fn sheets() {
+    let fields: Vec<Field> = FIELDS.iter().cycle().take(64).map(|&(p, g, h)| Field { p, g: list(g), h: list(h) }).collect();
+    let starts: Vec<WalkRecord> = fields.iter().map(|x| WalkRecord::start(x.p, &x.g, &x.h)).collect();
+    for budget in [10, 100, 1000] {
+        let rounds = (0..ROUNDS).map(|_| sheet_and_walks(&starts, &fields, budget));
+        let (sheet, walks) = rounds.fold((f64::MAX, f64::MAX), |(a, b), (c, d)| (a.min(c), b.min(d)));
+        println!("a sheet of 64, budget {}: {:.1} ms; 64 walks {:.1} ms, ratio {:.3}", budget, 1000.0 * sheet, 1000.0 * walks, sheet / walks);
+    }
+}
+
 /// Opening a field: the tests for a square and a shared factor are most of it.
 fn openings() {
     let x = Field { p: 65519, g: list(FIELDS[8].1), h: list(FIELDS[8].2) };
@@ -139,6 +166,7 @@ fn books() {
 
 pub fn all(others: &[String]) {
     walks(others);
+    sheets();
     openings();
     units();
     series();

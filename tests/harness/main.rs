@@ -11,6 +11,8 @@ mod lister;
 mod padded;
 mod pairs;
 mod plain;
+mod records;
+mod sheets;
 mod shelves;
 mod units;
 mod vectors;
@@ -62,6 +64,8 @@ fn main() {
     jobs.push(Box::new(|| shelves::begun(4, 300)));
     jobs.push(Box::new(|| padded::random(5, 1000)));
     jobs.push(Box::new(|| conventions::random(6, 1000)));
+    jobs.push(Box::new(records::all));
+    jobs.push(Box::new(|| sheets::random(7, 300)));
     // It waits more than it works, so it goes first.
     jobs.insert(0, Box::new(doors::all));
     let (passed, failed) = side_by_side(jobs);

@@ -1,5 +1,5 @@
 // Lists with zeros above their degree: every call about a field tells and writes what it does for the lists without them.
-use crate::api::{Field, Record, Said};
+use crate::api::{sheet, Field, Record, Said, WalkRecord, OPEN};
 use crate::conventions::some_convention;
 use crate::pairs::{some_field, some_other};
 use crate::plain::{overlong, padded_field, refusal, some_input, unpad, Numbers};
@@ -55,6 +55,14 @@ struct Given {
     room: usize,
 }
 
+/// A sheet of one record of this field, with these rows for its basis: state, steps and sum; the rows are those of the record then.
+fn sheeted(x: &Field, budget: u64, rows: &mut [u16]) -> Vec<u64> {
+    let mut r = WalkRecord { basis: *record(rows), state: OPEN, ..WalkRecord::start(x.p, &x.g, &x.h) };
+    assert_eq!(sheet(std::slice::from_mut(&mut r), budget), 0);
+    rows.copy_from_slice(&r.basis);
+    vec![u64::from(r.state), r.steps, r.sum]
+}
+
 /// Mostly what belongs to the field, where it is accepted.
 fn given(n: &mut Numbers, x: &Field) -> Given {
     let (budget, k, c) = (n.below(100), n.below(40) as usize, n.below(48) as usize);
@@ -89,6 +97,7 @@ fn told(x: &Field, y: &Field, t: &Given) -> Vec<Told> {
         tried("check", &t.rows, |l| one(x.check(record(l)))),
         tried("step", &t.rows, |l| two(x.step(record(l)))),
         tried("walk", &t.rows, |l| three(x.walk(t.budget, record(l)))),
+        tried("sheet", &t.rows, |l| sheeted(x, t.budget % 16, l)),
         tried("from_order", &nothing, |_| three(x.from_order(t.budget))),
         tried("unit", &pattern(2 * c), |l| {
             let (rows, scratch) = l.split_at_mut(c);

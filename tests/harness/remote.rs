@@ -1,10 +1,11 @@
 // The C interface where the archive's x86-64 code cannot be linked: a process that has it (serve.c) runs under an emulator, and each
 // function here is a request to that process. serve.c says what requests and answers are.
 use self::Arg::{Given, Lent, Number};
+use super::WalkRecord;
 use std::cell::RefCell;
 use std::io::{Read, Write};
 use std::process::{Child, Command, Stdio};
-use std::{mem, slice};
+use std::{mem, ptr, slice};
 
 #[cfg(not(all(target_endian = "little", target_pointer_width = "64")))]
 compile_error!("words have 64 bits and stand in memory lowest byte first, here as in the process");
@@ -197,4 +198,32 @@ pub unsafe fn zaminuk_unit_scaled(p: u64, g: *const u64, gn: usize, h: *const u6
 #[rustfmt::skip]
 pub unsafe fn zaminuk_rescale(p: u64, g: *const u64, gn: usize, h: *const u64, hn: usize, from: u32, to: u32, rows: *mut u16, rn: usize) -> u32 {
     call(22, &mut [Number(p), lent(g, gn), count(gn), lent(h, hn), count(hn), Number(from.into()), Number(to.into()), given(rows, rn), count(rn)]) as u32
+}
+
+/// Puts the members of a record where it is to stand; what lies between them stays as it is there.
+unsafe fn put(r: &WalkRecord, to: *mut WalkRecord) {
+    ptr::addr_of_mut!((*to).p).write(r.p);
+    ptr::addr_of_mut!((*to).g).write(r.g);
+    ptr::addr_of_mut!((*to).ng).write(r.ng);
+    ptr::addr_of_mut!((*to).h).write(r.h);
+    ptr::addr_of_mut!((*to).nh).write(r.nh);
+    ptr::addr_of_mut!((*to).basis).write(r.basis);
+    ptr::addr_of_mut!((*to).steps).write(r.steps);
+    ptr::addr_of_mut!((*to).sum).write(r.sum);
+    ptr::addr_of_mut!((*to).state).write(r.state);
+}
+
+/// The bytes between a record's members have no value that could be sent, so the records go out and come back in words of their own.
+pub unsafe fn zaminuk_sheet(records: *mut WalkRecord, n: usize, budget: u64) -> u32 {
+    let each = mem::size_of::<WalkRecord>() / 8;
+    let records = slice::from_raw_parts_mut(records, n);
+    let mut words = vec![0x5A5A_5A5A_5A5A_5A5A_u64; n * each];
+    for (r, to) in records.iter().zip(words.chunks_exact_mut(each)) {
+        put(r, to.as_mut_ptr().cast());
+    }
+    let no = call(23, &mut [given(words.as_mut_ptr(), n * each), count(n), Number(budget)]) as u32;
+    for (r, from) in records.iter_mut().zip(words.chunks_exact(each)) {
+        *r = from.as_ptr().cast::<WalkRecord>().read();
+    }
+    no
 }

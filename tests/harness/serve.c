@@ -18,14 +18,14 @@ typedef word entry(word, word, word, word, word, word, word, word, word, word, w
 entry zaminuk_refusal, zaminuk_series, zaminuk_order, zaminuk_check, zaminuk_step, zaminuk_walk, zaminuk_from_order, zaminuk_unit,
     zaminuk_one_field, zaminuk_transfer, zaminuk_book_check, zaminuk_book_bodies, zaminuk_book_ask, zaminuk_book_attest,
     zaminuk_book_write, zaminuk_book_add, zaminuk_body_prime, zaminuk_body_period, zaminuk_body_list, zaminuk_book_begin,
-    zaminuk_book_write_rows, zaminuk_unit_scaled, zaminuk_rescale;
+    zaminuk_book_write_rows, zaminuk_unit_scaled, zaminuk_rescale, zaminuk_sheet;
 
 /* Places of this table are names: new entries come last. */
 static entry *const entries[] = {
     zaminuk_refusal, zaminuk_series, zaminuk_order, zaminuk_check, zaminuk_step, zaminuk_walk, zaminuk_from_order, zaminuk_unit,
     zaminuk_one_field, zaminuk_transfer, zaminuk_book_check, zaminuk_book_bodies, zaminuk_book_ask, zaminuk_book_attest,
     zaminuk_book_write, zaminuk_book_add, zaminuk_body_prime, zaminuk_body_period, zaminuk_body_list, zaminuk_book_begin,
-    zaminuk_book_write_rows, zaminuk_unit_scaled, zaminuk_rescale,
+    zaminuk_book_write_rows, zaminuk_unit_scaled, zaminuk_rescale, zaminuk_sheet,
 };
 
 enum { ENTRIES = sizeof entries / sizeof *entries, MOST = 16, ROOM = 1 << 21 };

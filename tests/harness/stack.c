@@ -37,6 +37,18 @@ static void compare(const char *name, size_t kib, size_t n) {
 static uint16_t basis[ZAMINUK_RECORD], rows[ROOM], scratch[ROOM], r[64], w[64];
 static uint64_t said[ZAMINUK_SAID], list[64], number, other;
 static uint8_t book[4096], body[512];
+static zaminuk_walk_record sheet[2];
+
+/* A record that is walked, and one whose field is refused. */
+static void fill(const uint64_t *g, size_t gn, const uint64_t *h, size_t hn) {
+    size_t i;
+    for (i = 0; i < gn; i++) sheet[0].g[i] = g[i];
+    for (i = 0; i < hn; i++) sheet[0].h[i] = h[i];
+    sheet[0].p = 83;
+    sheet[0].ng = gn;
+    sheet[0].nh = hn;
+    zaminuk_order(83, g, gn, h, hn, sheet[0].basis);
+}
 
 int main(void) {
     static const uint64_t g8[] = {58115, 44382, 38112, 29353, 59437, 36205, 42366, 2060, 1};
@@ -52,6 +64,10 @@ int main(void) {
     MEASURE("zaminuk_check", 14, zaminuk_check(83, g, 8, h, 2, basis));
     MEASURE("zaminuk_step", 14, zaminuk_step(83, g, 8, h, 2, basis, &number));
     MEASURE("zaminuk_walk", 14, zaminuk_walk(83, g, 8, h, 2, 20, basis, &number, &other));
+    /* It is opened each time: closed it would be passed over. */
+    fill(g, 8, h, 2);
+    MEASURE("zaminuk_sheet", 18, (sheet[0].state = sheet[1].state = ZAMINUK_OPEN, zaminuk_sheet(sheet, 2, 20)));
+    if (sheet[0].steps == 0 || sheet[1].state != ZAMINUK_NO_PRIME) failed++;
     MEASURE("zaminuk_from_order", 14, zaminuk_from_order(83, g, 8, h, 2, 20, &period, &regulator));
     MEASURE("zaminuk_unit_scaled", 18,
             zaminuk_unit_scaled(5, a, 4, one, 1, 20, ZAMINUK_NORM_ONE, rows, ROOM, scratch, ROOM, &period, &regulator));

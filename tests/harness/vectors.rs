@@ -1,6 +1,6 @@
 // Vector files by name. A file whose kind is not known is reported and skipped.
 use crate::api::{Field, Record};
-use crate::{books, conventions, lister, pairs, units, Job};
+use crate::{books, conventions, lister, pairs, sheets, units, Job};
 use std::fs;
 
 /// What a case says went wrong, or nothing.
@@ -283,6 +283,7 @@ fn job(path: String, kind: &str) -> Option<Job> {
         "pairs.txt" => pairs::pair_case,
         "e3-transfer.txt" => pairs::transfer_case,
         "books.txt" | "e1e3-books.txt" => return Some(Box::new(move || books::file(&path))),
+        "e2-sheet.txt" => return Some(Box::new(move || sheets::file(&path))),
         k if of_lister(k) && k.ends_with(".in") => return Some(Box::new(move || lister::file(&path))),
         k if of_lister(k) && k.ends_with(".out") => return None,
         _ => {
