@@ -5,12 +5,13 @@ use walk_record::counted;
 use walk_record::marked;
 use walk_record::moved;
 use walk_record::passed_over;
+use walk_record::unfit;
 ghost use mathlib.Core.Path.{_≡_};
 ghost use Rattle.field_open.specs.Padding.{unpad};
 ghost use Rattle.field_open.specs.Door.{Door};
 ghost use Rattle.walk_chain.specs.Walk.{Walks};
 ghost use Rattle.walk_record.specs.Record as R;
-ghost use Rattle.door_record.specs.Advance as A;
+ghost use Rattle.door_record.specs.Advance.{After, Advances};
 
 // The number of an unfit record: the refusal of its field, else 14.
 fn number_of_unfit(p: u64, g: [u64; 32], ng: usize, h: [u64; 32], nh: usize) -> u32
@@ -42,31 +43,41 @@ fn walk_from(
 // The record after the walk w from its basis.
 fn after(r: WalkRecord, w: WalkAnswer) -> WalkRecord
     requires { ⌜ R.MoveAsks r (w .steps) (w .sum) ⌝ }
-    ensures { λ o. ⌜ A.After r w o ⌝ }
+    ensures { λ o. ⌜ After r w o ⌝ }
 {
     let n = w.refusal;
+    let b = w.basis;
+    let l = w.steps;
+    let d = w.sum;
     if n == 0 {
-        return moved(r, w.basis, w.steps, w.sum, 100);
+        return moved(r, b, l, d, 100);
     }
     if n == 10 {
-        return moved(r, w.basis, w.steps, w.sum, 0);
+        return moved(r, b, l, d, 0);
     }
     marked(r, n)
 }
 
 // At most `budget` steps from a record that is open; a bad one gets its refusal's number into its state.
 pub fn advance(r: WalkRecord, budget: u64) -> WalkRecord
-    ensures { λ o. ⌜ A.Advances budget r o ⌝ }
+    ensures { λ o. ⌜ Advances budget r o ⌝ }
 {
-    let over = passed_over(r.state);
+    let state = r.state;
+    let over = passed_over(state);
     if over {
         return r;
     }
-    let bad = walk_record::unfit(r);
+    let p = r.p;
+    let g = r.g;
+    let ng = r.ng;
+    let h = r.h;
+    let nh = r.nh;
+    let bad = unfit(r);
     if bad {
-        let n = number_of_unfit(r.p, r.g, r.ng, r.h, r.nh);
+        let n = number_of_unfit(p, g, ng, h, nh);
         return marked(r, n);
     }
-    let w = walk_from(r.p, r.g, r.ng, r.h, r.nh, r.basis, budget);
+    let b = r.basis;
+    let w = walk_from(p, g, ng, h, nh, b, budget);
     after(r, w)
 }

@@ -45,14 +45,16 @@ abbrev if-within : ℕ → Bool → ℕ
 if-within n b = elim b [ true ↦ n | false ↦ 0 ]
 
 pub counted-within : (n : ℕ) → n ≤ 32 → counted n ≡ n
+unfolding counted
 counted-within n l = ap (if-within n) (le-leb n 32 l)
 
 pub counted-over : (n : ℕ) → 32 < n → counted n ≡ 0
+unfolding counted
 counted-over n l = ap (if-within n) (lt-leb n 32 l)
 
 -- never more than there are
-pub counted-room : (n : ℕ) → counted n ≤ 32
-counted-room n = elim (decLe n 32) [
-  | yes l ↦ let e = counted-within n l in omega arith
-  | no l ↦ let e = counted-over n (omega arith) in omega arith
+pub counted-room : (n : ℕ) {k : ℕ} → k ≡ counted n → k ≤ 32
+counted-room n e = elim (decLe n 32) [
+  | yes l ↦ let f = counted-within n l in omega arith
+  | no l ↦ let f = counted-over n (omega arith) in omega arith
 ]

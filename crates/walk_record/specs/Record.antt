@@ -1,5 +1,6 @@
 -- A walk record: a field, a basis, the steps and the degree sum so far, a state.
 --   most-steps     the most steps of a record that is walked on
+--   counted n      how many entries of an array of 32 are read where n are told: n, or none where that is over 32
 --   listed l n     the list that n entries of the array l give: the first n of them. A count over 32 gives none, which is refused with 3 as
 --                  a list of over 32 entries is
 --   listG listH    the lists of a record, as callers give them: zeros above the coefficients are allowed
@@ -20,7 +21,7 @@ use Rattle.walk_record.specs.State.{Unknown}
 abbrev pub most-steps : ℕ
 most-steps = 1000000000
 
-abbrev pub counted : ℕ → ℕ
+unfoldable pub counted : ℕ → ℕ
 counted n = elim (leb n entries) [ true ↦ n | false ↦ 0 ]
 
 abbrev pub listed : List ℕ → ℕ → List ℕ

@@ -1,16 +1,12 @@
-use Prim.Native.Nat.{ℕ, zero, suc, _≤_, _<_, _-_, _*_, _+_, _%_}
-use mathlib.Core.Path.{_≡_, _∙_, sym, ap, refl, subst}
-use mathlib.Core.List.{List, [], _∷_, _++_}
-use native.Mathlib.Omega.{arith}
-use native.Mathlib.Numerals.{add-one}
-use lib.ListN.{length, length-set, getD, set, replicate, take, drop}
+-- `number_of_unfit`: the field's refusal comes through its door; where there is none, 14.
+use mathlib.Core.Path.{refl, sym}
+use lib.Seq.{length-take-le}
 use borrow.Author.Needs.{needs}
+use Rattle.field_open.proofs.Door.{door-refused, door-goes}
+use Rattle.walk_record.proofs.States.{counted-room}
+use Rattle.door_record.proofs.Listed.{refusal-listed}
 use Rattle.door_record.proofs.number_of_unfit.Statement.{statement}
 use Rattle.door_record.proofs.number_of_unfit.Tie as tie
-use Rattle.door_record.proofs.number_of_unfit.Reads as reads
-use Rattle.door_record.proofs.number_of_unfit.Lts as lts
-use Rattle.field_open.proofs.refusal.Reads as refusal-reads
-use Rattle.walk_record.proofs.counted.Reads as counted-reads
 
 counted-requires : tie.Need-counted-requires
 counted-requires c κs = search needs
@@ -19,25 +15,29 @@ counted-requires-2 : tie.Need-counted-requires-2
 counted-requires-2 c κs = search needs
 
 array-share-prefix-g : tie.Need-array-share-prefix-g
-array-share-prefix-g c = search needs
+array-share-prefix-g c = let l = counted-room _ (c .before .counted .ensures) in search needs
 
 slice-aggregate-refusal : tie.Need-slice-aggregate-refusal
-slice-aggregate-refusal c = search needs
+slice-aggregate-refusal c = let l = counted-room _ (c .before .before .counted .ensures) in sym (length-take-le _ _ (search needs))
 
 array-share-prefix-h : tie.Need-array-share-prefix-h
-array-share-prefix-h c = search needs
+array-share-prefix-h c = let l = counted-room _ (c .before .counted2 .ensures) in search needs
 
 slice-aggregate-refusal-2 : tie.Need-slice-aggregate-refusal-2
-slice-aggregate-refusal-2 c = search needs
+slice-aggregate-refusal-2 c = let l = counted-room _ (c .before .before .counted2 .ensures) in sym (length-take-le _ _ (search needs))
 
 refusal-requires : tie.Need-refusal-requires
 refusal-requires c κs = search needs
 
 returns : tie.Need-returns
-returns c = search needs
+returns c =
+    let at2 = c .before .before .before .before in
+    door-goes (refusal-listed _ _ _ _ (at2 .before .counted .ensures) (at2 .counted2 .ensures) _ _ (c .before .refusal .ensures)) (c .if1 .taken) refl
 
 returns-2 : tie.Need-returns-2
-returns-2 c = search needs
+returns-2 c =
+    let at2 = c .before .before .before .before in
+    door-refused (refusal-listed _ _ _ _ (at2 .before .counted .ensures) (at2 .counted2 .ensures) _ _ (c .before .refusal .ensures)) (c .if1 .left) refl
 
 pub number-of-unfit-spec : {M : Type 1} → statement M
 number-of-unfit-spec =

@@ -1,8 +1,19 @@
--- `beyond`: each way out is one case.
-use mathlib.Core.Path.{refl}
-use mathlib.Core.Logic.{inl, inr}
-use native.Mathlib.Omega.{arith}
+-- `beyond`: over 64 records, or what the budget's test says.
+use mathlib.Core.Logic.{inl}
 use borrow.Author.Needs.{needs}
-use Rattle.base_answers.proofs.Limits.{over-yes, over-no}
+use Rattle.base_answers.proofs.Tests.{answer-yes}
+use Rattle.door_sheet.proofs.Bounds.{by-budget}
 use Rattle.door_sheet.proofs.beyond.Statement.{statement}
 use Rattle.door_sheet.proofs.beyond.Tie as tie
+
+returns : tie.Need-returns
+returns c = answer-yes (inl (search needs))
+
+over-budget-requires : tie.Need-over-budget-requires
+over-budget-requires c κs = search needs
+
+returns-2 : tie.Need-returns-2
+returns-2 c = by-budget _ _ _ (search needs) (c .over-budget .ensures)
+
+pub beyond-spec : {M : Type 1} → statement M
+beyond-spec = tie.close (tie.spec returns over-budget-requires returns-2)

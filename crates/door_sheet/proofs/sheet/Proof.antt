@@ -1,4 +1,4 @@
--- `sheet::sheet` meets its contract: a walk of its MIR, by hand. The borrow is opened once, before the loop, and closed once, after it. Each turn takes record i out of the row, copies it,
+-- `door_sheet::sheet` meets its contract: a walk of its MIR, by hand. The borrow is opened once, before the loop, and closed once, after it. Each turn takes record i out of the row, copies it,
 -- calls `advance` on it and puts what it returns in its place. All that the walk knows of `beyond` and of `advance` is that each meets its contract, and of a record only the laws of its row:
 -- no line names a field.
 --     exits       from what is had at exit to the contract, at an answer m and a last list os
