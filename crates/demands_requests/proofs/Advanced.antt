@@ -82,10 +82,10 @@ module _ (b : ℕ) (r : WalkRecord) where
   field-bad k q lo hi =
       let n = never (r .p) (listG r) (listH r) k q lo in record {
         field = field-refused (r .p) (listG r) (listH r) k q;
-        out-of-rule = neither (λ e. omega arith) (λ (A, x). n A);
-        no-record = neither (λ e. omega arith) (λ (A, x). n A);
-        stays = neither (λ e. omega arith) (λ (A, x). n A);
-        closes = neither (λ e. omega arith) (λ (A, x). n A);
+        out-of-rule = neither (λ e. omega arith) (λ x. n (x .0));
+        no-record = neither (λ e. omega arith) (λ x. n (x .0));
+        stays = neither (λ e. omega arith) (λ x. n (x .0));
+        closes = neither (λ e. omega arith) (λ x. n (x .0));
         only = inr (inr (inl (lo, omega arith)));
       }
 
@@ -93,9 +93,9 @@ module _ (b : ℕ) (r : WalkRecord) where
   record-bad u A = record {
     field = field-passed (r .p) (listG r) (listH r) 14 A (λ k lo hi e. omega arith);
     out-of-rule = both refl (A, inl u);
-    no-record = neither (λ e. omega arith) (λ (B, (f, l), x). f u);
-    stays = neither (λ e. omega arith) (λ (B, (f, l), x). f u);
-    closes = neither (λ e. omega arith) (λ (B, (f, l), x). f u);
+    no-record = neither (λ e. omega arith) (λ x. x .1 .0 u);
+    stays = neither (λ e. omega arith) (λ x. x .1 .0 u);
+    closes = neither (λ e. omega arith) (λ x. x .1 .0 u);
     only = inr (inr (inr refl));
   }
 
@@ -147,15 +147,15 @@ field-kept (advance.walked g u w h (advance.closed z e)) = parts e
 field-kept (advance.walked g u w h (advance.spent z e)) = parts e
 field-kept (advance.walked g u w h (advance.refused x y e)) = parts e
 
-marked-own : {r o : WalkRecord} {n : ℕ} → o ≡ marked r n → o ≡ marked r (o .state)
-marked-own {r} e = e ∙ ap (marked r) (sym (ap state e))
+marked-own : (r : WalkRecord) {o : WalkRecord} {n : ℕ} → o ≡ marked r n → o ≡ marked r (o .state)
+marked-own r e = e ∙ ap (marked r) (sym (ap state e))
 
 pub refused-marked : {b : ℕ} {r o : WalkRecord} → Advances b r o → IsRefusal (o .state) → o ≡ marked r (o .state)
-refused-marked {r = r} (advance.passed s e) c = marked-own {r} e
-refused-marked (advance.unfit g u d) c = door-out (λ k f l e. marked-own e) (λ A e. marked-own e) d
+refused-marked {r = r} (advance.passed s e) c = e ∙ ap (λ (x : WalkRecord). marked r (x .state)) (sym e)
+refused-marked {r = r} (advance.unfit g u d) c = door-out (λ k f l e. marked-own r e) (λ A e. marked-own r e) d
 refused-marked (advance.walked g u w h (advance.closed z e)) c = absurd (not-closed c (ap state e))
 refused-marked (advance.walked g u w h (advance.spent z e)) c = absurd (not-going (inr c) (ap state e))
-refused-marked (advance.walked g u w h (advance.refused x y e)) c = marked-own e
+refused-marked {r = r} (advance.walked g u w h (advance.refused x y e)) c = marked-own r e
 
 -- ---- zeros above the coefficients
 module _ {r r′ : WalkRecord} (s : OneField r r′) where
@@ -176,13 +176,13 @@ module _ {r r′ : WalkRecord} (s : OneField r r′) where
   unfit-back (inr (inr l)) = let e = s .steps in let d = s .sum in inr (inr (omega arith))
 
   marked-same : {o o′ : WalkRecord} {n : ℕ} → o ≡ marked r n → o′ ≡ marked r′ n → OneField o o′
-  marked-same {n = n} e f =
-      subst (λ x. OneField x _) (sym e) (subst (λ x. OneField (marked r n) x) (sym f)
+  marked-same {o′ = o′} {n} e f =
+      subst (λ x. OneField x o′) (sym e) (subst (λ x. OneField (marked r n) x) (sym f)
       (record { p = s .p; G = s .G; H = s .H; basis = s .basis; steps = s .steps; sum = s .sum; state = refl }))
 
-  moved-same : {o o′ : WalkRecord} {B : List ℕ} {n d k : ℕ} → o ≡ moved r B n d k → o′ ≡ moved r′ B n d k → OneField o o′
-  moved-same {B = B} {n} {d} {k} e f =
-      subst (λ x. OneField x _) (sym e) (subst (λ x. OneField (moved r B n d k) x) (sym f)
+  moved-same : {o o′ : WalkRecord} {B : List ℕ} (n d : ℕ) {k : ℕ} → o ≡ moved r B n d k → o′ ≡ moved r′ B n d k → OneField o o′
+  moved-same {o′ = o′} {B} n d {k} e f =
+      subst (λ x. OneField x o′) (sym e) (subst (λ x. OneField (moved r B n d k) x) (sym f)
       (record { p = s .p; G = s .G; H = s .H; basis = refl; steps = ap (λ m. m + n) (s .steps); sum = ap (λ m. m + d) (s .sum); state = refl }))
 
   -- what is so of the field and the basis of r′ is so of those of r
@@ -194,11 +194,11 @@ module _ {r r′ : WalkRecord} (s : OneField r r′) where
       (subst (λ B. P (r′ .p) (listG r′) (listH r′) B) (sym (s .basis)) x)))
 
   after-same : {o o′ : WalkRecord} (w : WalkAnswer) → After r w o → After r′ w o′ → OneField o o′
-  after-same w (advance.closed z e) (advance.closed z′ e′) = moved-same e e′
+  after-same w (advance.closed z e) (advance.closed z′ e′) = moved-same (w .steps) (w .sum) e e′
   after-same w (advance.closed z e) (advance.spent t e′) = absurd (omega arith)
   after-same w (advance.closed z e) (advance.refused f g e′) = absurd (f z)
   after-same w (advance.spent t e) (advance.closed z e′) = absurd (omega arith)
-  after-same w (advance.spent t e) (advance.spent t′ e′) = moved-same e e′
+  after-same w (advance.spent t e) (advance.spent t′ e′) = moved-same (w .steps) (w .sum) e e′
   after-same w (advance.spent t e) (advance.refused f g e′) = absurd (g t)
   after-same w (advance.refused f g e) (advance.closed z e′) = absurd (f z)
   after-same w (advance.refused f g e) (advance.spent t e′) = absurd (g t)

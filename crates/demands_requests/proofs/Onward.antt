@@ -34,8 +34,8 @@ use Rattle.demands_requests.proofs.Advanced.{state, named, passed-on}
 
 -- ---- the walk
 -- an answer but 10 is also that of a longer walk
-longer : {p n m : ℕ} {G H B : List ℕ} (w : WalkAnswer) → n + m ≤ most → Walks p G H n B w → w .refusal ≢ 10 → Walks p G H (n + m) B w
-longer {p} {n} {m} {G} {H} {B} w l h f = door-map (λ k e. e) go h
+longer : {p n : ℕ} (m : ℕ) {G H B : List ℕ} (w : WalkAnswer) → n + m ≤ most → Walks p G H n B w → w .refusal ≢ 10 → Walks p G H (n + m) B w
+longer {p} {n} m {G} {H} {B} w l h f = door-map (λ k e. e) go h
   where
     go : walk.Goes p G H n B w → walk.Goes p G H (n + m) B w
     go (walk.budget k e) = absurd (omega arith)
@@ -57,7 +57,7 @@ walks-on {p} {n} {G} {H} {B} w A l is h = go (h .goes (refusal-unique p G H (h .
 
 -- ---- one record
 -- of a record that a walk left open: only its steps can make it unfit
-module _ {b : ℕ} {r : WalkRecord} (f : Passed (r .state) → ⊥) (u : Unfit r → ⊥) (w : WalkAnswer) (h : Walks (r .p) (listG r) (listH r) b (r .basis) w)
+module _ {b : ℕ} (r : WalkRecord) (f : Passed (r .state) → ⊥) (u : Unfit r → ⊥) (w : WalkAnswer) (h : Walks (r .p) (listG r) (listH r) b (r .basis) w)
     (t : w .refusal ≡ 10) where
   abbrev left : WalkRecord
   left = moved r (w .basis) (w .steps) (w .sum) going
@@ -71,7 +71,7 @@ module _ {b : ℕ} {r : WalkRecord} (f : Passed (r .state) → ⊥) (u : Unfit r
   only-steps (inr (inr l)) = let k = light in let m : w .sum ≤ 16 * w .steps = walks-room w h .sum in absurd (omega arith)
 
   -- taken up again, it is the long walk
-  module _ {c : ℕ} {z : WalkRecord} (within : b + c ≤ most) (v : WalkAnswer) (k : Walks (r .p) (listG r) (listH r) c (w .basis) v) where
+  module _ {c : ℕ} (within : b + c ≤ most) (v : WalkAnswer) (k : Walks (r .p) (listG r) (listH r) c (w .basis) v) where
     both-walks : Walks (r .p) (listG r) (listH r) (b + c) (r .basis) (record { refusal = v .refusal; steps = b + v .steps; sum = w .sum + v .sum; basis = v .basis })
     both-walks = taken-up (r .p) (listG r) (listH r) b c (r .basis) w v within h t k
 
@@ -82,7 +82,7 @@ module _ {b : ℕ} {r : WalkRecord} (f : Passed (r .state) → ⊥) (u : Unfit r
         let d : (r .sum + w .sum) + v .sum ≡ r .sum + (w .sum + v .sum) = omega arith in
         λ i. record { p = r .p; g = r .g; ng = r .ng; h = r .h; nh = r .nh; basis = v .basis; steps = e i; sum = d i; state = s }
 
-    both-after : After left v z → Advances (b + c) r z
+    both-after : {z : WalkRecord} → After left v z → Advances (b + c) r z
     both-after (advance.closed q e) = advance.walked f u _ both-walks (advance.closed q (e ∙ both-moved closed))
     both-after (advance.spent q e) = advance.walked f u _ both-walks (advance.spent q (e ∙ both-moved going))
     both-after (advance.refused x y e) =
@@ -117,9 +117,9 @@ module _ {b : ℕ} {r : WalkRecord} (f : Passed (r .state) → ⊥) (u : Unfit r
       case (inr q) (advance.refused m n e) = n q
 
 -- the number that a walk refused with is a state that is passed over
-refused-passed : {b : ℕ} {r o : WalkRecord} (w : WalkAnswer) → Walks (r .p) (listG r) (listH r) b (r .basis) w → w .refusal ≢ 0 → w .refusal ≢ 10 → o ≡ marked r (w .refusal) →
+refused-passed : {b : ℕ} (r : WalkRecord) {o : WalkRecord} (w : WalkAnswer) → Walks (r .p) (listG r) (listH r) b (r .basis) w → w .refusal ≢ 0 → w .refusal ≢ 10 → o ≡ marked r (w .refusal) →
     Passed (o .state)
-refused-passed {b} {r} w h f g e =
+refused-passed {b} r w h f g e =
     subst Passed (sym (ap state e)) (inr (named (walk-tabled (r .p) (listG r) (listH r) b (r .basis) w h .only) f g))
 
 pub both-calls : {b c : ℕ} {r o z : WalkRecord} → b + c ≤ most → Advances b r o → Advances c o z → (o .state ≡ going → o .steps ≤ most-steps) → Advances (b + c) r z
@@ -129,13 +129,13 @@ both-calls {r = r} {o} l (advance.unfit f u d) y k =
     advance.unfit f u (door-map (λ n e. z ∙ e) (λ e. z ∙ e) d)
 both-calls {c = c} l (advance.walked f u w h (advance.closed q e)) y k =
     let z = passed-on (inl (ap state e)) y in
-    advance.walked f u w (longer w l h (λ t. omega arith)) (advance.closed q (z ∙ e))
+    advance.walked f u w (longer c w l h (λ t. omega arith)) (advance.closed q (z ∙ e))
 both-calls {b} {c} {r} {o} {z} l (advance.walked f u w h (advance.spent t e)) y k =
-    let m : left f u w h t .steps ≤ most-steps = subst (λ x. x .steps ≤ most-steps) e (k (ap state e)) in
-    both-left f u w h t l m (subst (λ x. Advances c x z) e y)
-both-calls {r = r} {o} l (advance.walked f u w h (advance.refused m n e)) y k =
-    let z = passed-on (refused-passed {r = r} w h m n e) y in
-    advance.walked f u w (longer w l h n) (advance.refused m n (z ∙ e))
+    let m : left r f u w h t .steps ≤ most-steps = subst (λ x. x .steps ≤ most-steps) e (k (ap state e)) in
+    both-left r f u w h t l m (subst (λ x. Advances c x z) e y)
+both-calls {c = c} {r} {o} l (advance.walked f u w h (advance.refused m n e)) y k =
+    let z = passed-on (refused-passed r w h m n e) y in
+    advance.walked f u w (longer c w l h n) (advance.refused m n (z ∙ e))
 
 pub goes-on : {b c : ℕ} {r o z : WalkRecord} → c ≤ most → Advances b r o → o .state ≡ going → Advances c o z → IsRefusal (z .state) →
     (most-steps < o .steps) × (z ≡ marked o 14)
@@ -143,8 +143,8 @@ goes-on l (advance.passed s e) q y x = absurd (not-going s (sym (ap state e) ∙
 goes-on l (advance.unfit f u d) q y x =
     absurd (door-out {C = ⊥} (λ n g m e. g (sym (ap state e) ∙ q)) (λ A e. let i : 14 ≡ 0 = sym (ap state e) ∙ q in omega arith) d)
 goes-on l (advance.walked f u w h (advance.closed m e)) q y x = let i : closed ≡ 0 = sym (ap state e) ∙ q in absurd (omega arith)
-goes-on {c = c} {z = z} l (advance.walked f u w h (advance.spent t e)) q y x =
-    subst (λ o. (most-steps < o .steps) × (z ≡ marked o 14)) (sym e) (next-refused f u w h t l (subst (λ o. Advances c o z) e y) x)
+goes-on {c = c} {r = r} {z = z} l (advance.walked f u w h (advance.spent t e)) q y x =
+    subst (λ o. (most-steps < o .steps) × (z ≡ marked o 14)) (sym e) (next-refused r f u w h t l (subst (λ o. Advances c o z) e y) x)
 goes-on l (advance.walked f u w h (advance.refused m n e)) q y x = absurd (m (sym (ap state e) ∙ q))
 
 -- ---- the chain from a basis

@@ -102,8 +102,8 @@ closes-of (closed′ q k) e = k
 pub sheets : Sheets
 sheets = record {
   tabled = λ h. tabled _ _ _ _ h;
-  each = λ h z x y. each-at _ _ _ (done h z .1) _ _ _ x y;
-  every = λ h z. each-length _ _ _ (done h z .1);
+  each = λ {rs} {os} {b} h z i r o x y. each-at b rs os (done h z .1) i r o x y;
+  every = λ {rs} {os} {b} h z. each-length b rs os (done h z .1);
   picked = picked;
   passed-over = λ a s. passed-on s a;
   advanced = advanced-tabled;

@@ -1,6 +1,7 @@
 -- Request E2: "It advances each walk record in the lent list by at most B steps, in list order. .. The outcome must be what the single calls
 -- give record by record."
 --   SheetTabled n b x      the table of `sheet`: exactly when it answers with the number x
+--   Field r, BasisOf r B   the field of r is accepted; B is a basis of it
 --   Fit b r                a record and a budget that 14 is not for
 --   AdvanceTabled b r s    the table of a record that is not passed over: exactly when its state is s afterwards
 --   At rs i r              the record number i of rs is r
@@ -39,23 +40,23 @@ pub record SheetTabled (n b x : ℕ) : Type 0 where
   pub passes : (x ≡ 0) ↔ (Over n b → ⊥)
   pub only : (x ≡ 0) ⊎ (x ≡ 14)
 
+abbrev pub Field : WalkRecord → Type 0
+Field r = Accepted (r .p) (listG r) (listH r)
+
+abbrev pub BasisOf : WalkRecord → List ℕ → Type 0
+BasisOf r B = IsRecord (r .p) (listG r) (listH r) B
+
 abbrev pub Fit : ℕ → WalkRecord → Type 0
 Fit b r = (Unfit r → ⊥) × (b ≤ most)
 
 -- "within a record 1 to 8, then 14, then 9"
 pub record AdvanceTabled (b : ℕ) (r : WalkRecord) (s : ℕ) : Type 0 where
-  abbrev Field : Type 0
-  Field = Accepted (r .p) (listG r) (listH r)
-
-  abbrev Basis : Type 0
-  Basis = IsRecord (r .p) (listG r) (listH r) (r .basis)
-
   pub field : FieldTabled (r .p) (listG r) (listH r) s
-  pub out-of-rule : (s ≡ 14) ↔ (Field × (Unfit r ⊎ (most < b)))
-  pub no-record : (s ≡ 9) ↔ (Field × Fit b r × (Basis → ⊥))
+  pub out-of-rule : (s ≡ 14) ↔ (Field r × (Unfit r ⊎ (most < b)))
+  pub no-record : (s ≡ 9) ↔ (Field r × Fit b r × (BasisOf r (r .basis) → ⊥))
   -- "A record that spends B without closing stays open"
-  pub stays : (s ≡ going) ↔ ((A : Field) × Fit b r × Basis × Open (setting A) (basisOf A (r .basis)) b)
-  pub closes : (s ≡ closed) ↔ ((A : Field) × Fit b r × Basis × ClosesWithin (setting A) (basisOf A (r .basis)) b)
+  pub stays : (s ≡ going) ↔ ((A : Field r) × Fit b r × BasisOf r (r .basis) × Open (setting A) (basisOf A (r .basis)) b)
+  pub closes : (s ≡ closed) ↔ ((A : Field r) × Fit b r × BasisOf r (r .basis) × ClosesWithin (setting A) (basisOf A (r .basis)) b)
   pub only : (s ≡ going) ⊎ Passed s
 
 abbrev pub At : List WalkRecord → ℕ → WalkRecord → Type 0
@@ -93,7 +94,7 @@ pub record Sheets : Type 0 where
   -- "The outcome must be what the single calls give record by record"
   pub each :
       {rs os : List WalkRecord} {b n : ℕ} → Sheet rs b n os → n ≡ 0 →
-      {i : ℕ} {r o : WalkRecord} → At rs i r → At os i o → Advances b r o
+      (i : ℕ) (r o : WalkRecord) → At rs i r → At os i o → Advances b r o
   pub every :
       {rs os : List WalkRecord} {b n : ℕ} → Sheet rs b n os → n ≡ 0 →
       length os ≡ length rs
@@ -131,17 +132,17 @@ pub record Sheets : Type 0 where
       (most-steps < o .steps) × (z ≡ marked o 14)
   -- a record stands in the chain from a basis of its field, and stays there
   pub begins :
-      {B : List ℕ} {r : WalkRecord} → IsRecord (r .p) (listG r) (listH r) B →
+      {B : List ℕ} {r : WalkRecord} → BasisOf r B →
       r .basis ≡ B → r .steps ≡ 0 → r .sum ≡ 0 → r .state ≡ going →
       Stands B r
   pub stands :
-      {B : List ℕ} {b : ℕ} {r o : WalkRecord} → Accepted (r .p) (listG r) (listH r) → IsRecord (r .p) (listG r) (listH r) B →
+      {B : List ℕ} {b : ℕ} {r o : WalkRecord} → Field r → BasisOf r B →
       b ≤ most → Stands B r → (r .state ≡ going → r .steps ≤ most-steps) →
       Advances b r o → Stands B o
   -- from the order: the first count at which the chain is back, and what `from_order` answers
   pub period :
       {B : List ℕ} {r : WalkRecord} → IsFirst (r .p) (listG r) (listH r) B → Stands B r → r .state ≡ closed →
-      (A : Accepted (r .p) (listG r) (listH r)) → BackFirst (setting A) (basisOf A B) (r .steps) (r .sum)
+      (A : Field r) → BackFirst (setting A) (basisOf A B) (r .steps) (r .sum)
   pub agrees :
       {B : List ℕ} {n : ℕ} {r : WalkRecord} (t : PeriodAnswer) → IsFirst (r .p) (listG r) (listH r) B → Stands B r → r .state ≡ closed →
       FromOrder (r .p) (listG r) (listH r) n t → t .refusal ≡ 0 →
