@@ -63,7 +63,7 @@
 --   door_check     check: checks-unique (door_check/proofs/Answer)
 --   door_step      step: answers-unique (door_step/proofs/Answers)
 --   door_walk      walk: walks-unique (walk_chain/proofs/Walk)
---   walk_record    passed_over, unfit: decides-unique (base_answers/proofs/Tests); counted, marked, moved: an equation each
+--   walk_record    passed_over, unfit, beyond: decides-unique (base_answers/proofs/Tests); counted, marked, moved: an equation each
 --   door_record    advance: advances-unique (door_record/proofs/Unique)
 --   door_sheet     sheet: sheet-unique (door_sheet/proofs/Unique)
 --   door_period    from_order: from-order-unique (door_period/proofs/Order)

@@ -11,10 +11,10 @@ use lib.ListN.{length}
 use Rattle.base_answers.specs.Limits.{most}
 use Rattle.walk_record.specs.declared.WalkRecord.{WalkRecord}
 use Rattle.walk_record.specs.State.{closed}
-use Rattle.walk_record.specs.Record.{listG, listH}
+use Rattle.walk_record.specs.Record.{Over, listG, listH}
 use Rattle.walk_chain.specs.Walk.{Closes}
 use Rattle.door_record.specs.Advance.{Advances}
-use Rattle.door_sheet.specs.Sheet.{Over, Each, Sheet, refused, walked}
+use Rattle.door_sheet.specs.Sheet.{Each, Sheet, refused, walked}
 use Rattle.demands.proofs.Tabled.{both, neither}
 use Rattle.demands.proofs.TakenUp.{closes-agrees}
 use Rattle.demands.proofs.Demand2.{closes-first}

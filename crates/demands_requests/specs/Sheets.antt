@@ -26,11 +26,11 @@ use Rattle.basis_field.specs.First.{IsFirst}
 use Rattle.walk_chain.specs.Walk.{Reaches, StaysOpen, Closes}
 use Rattle.walk_record.specs.declared.WalkRecord.{WalkRecord}
 use Rattle.walk_record.specs.State.{going, closed, IsRefusal, Passed}
-use Rattle.walk_record.specs.Record.{most-steps, listG, listH, marked, Unfit}
+use Rattle.walk_record.specs.Record.{most-steps, Over, listG, listH, marked, Unfit}
 use Rattle.door_period.specs.declared.PeriodAnswer.{PeriodAnswer}
 use Rattle.door_period.specs.Order.{FromOrder}
 use Rattle.door_record.specs.Advance.{Advances}
-use Rattle.door_sheet.specs.Sheet.{Over, Sheet}
+use Rattle.door_sheet.specs.Sheet.{Sheet}
 use Rattle.demands.specs.Tabled.{FieldTabled, ClosesWithin}
 use Rattle.demands.specs.Meaning.{BackFirst}
 

@@ -1,24 +1,15 @@
 -- What a sheet of walk records comes to (document 02, E2: "It advances each walk record in the lent list by at most B steps, in list order").
---   most-records     the most records of a sheet
---   Over n b         the sheet is refused: over 64 records, or a budget over 1,000,000
 --   Each b rs os     record by record, in list order, os is what the single call gives of rs; so the two lists are of one length
 --   Sheet rs b n os  the whole outcome: the answer n and the last content os of the list that was lent with rs in it. 14 and nothing changed
 --                    where the sheet is refused, else 0 and every record advanced
--- `sheet-unique` in proofs/Unique.antt: two outcomes that meet it are equal.
+-- `Over`, what a sheet is refused for, is in walk_record/specs/Record. `sheet-unique` in proofs/Unique.antt: two outcomes that meet it are equal.
 use mathlib.Core.Path.{_≡_}
-use mathlib.Core.Logic.{_⊎_}
 use mathlib.Core.List.{List, [], _∷_}
-use Prim.Native.Nat.{ℕ, _<_}
+use Prim.Native.Nat.{ℕ}
 use lib.ListN.{length}
-use Rattle.base_answers.specs.Limits.{most}
 use Rattle.walk_record.specs.declared.WalkRecord.{WalkRecord}
+use Rattle.walk_record.specs.Record.{Over}
 use Rattle.door_record.specs.Advance.{Advances}
-
-abbrev pub most-records : ℕ
-most-records = 64
-
-abbrev pub Over : ℕ → ℕ → Type 0
-Over n b = (most-records < n) ⊎ (most < b)
 
 abbrev pub Each : ℕ → List WalkRecord → List WalkRecord → Type 0
 Each b [] [] = Unit {0}

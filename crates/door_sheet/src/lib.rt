@@ -1,20 +1,9 @@
 // The sheet: each record of a lent list is copied out, advanced by value and stored back, in list order. All that decides anything about a
 // record stands in crate door_record.
-use base_answers::over_budget;
 use door_record::advance;
 use walk_record::WalkRecord;
-ghost use Rattle.base_answers.specs.Decides.{Decides};
+use walk_record::beyond;
 ghost use Rattle.door_sheet.specs.Sheet as S;
-
-// Whether a sheet of n records with this budget is refused.
-fn beyond(n: usize, budget: u64) -> bool
-    ensures { λ t. ⌜ Decides t (S.Over n budget) ⌝ }
-{
-    if n > 64 {
-        return true;
-    }
-    over_budget(budget)
-}
 
 // At most `budget` steps from each record: 0, or 14 with nothing changed. What a record is refused with stands in its state.
 pub fn sheet(records: &mut [WalkRecord], budget: u64) -> u32

@@ -1,5 +1,7 @@
 -- A walk record: a field, a basis, the steps and the degree sum so far, a state.
 --   most-steps     the most steps of a record that is walked on
+--   most-records   the most records of a sheet
+--   Over n b       a sheet of n records with the budget b is refused: over 64 records, or a budget over 1,000,000
 --   counted n      how many entries of an array of 32 are read where n are told: n, or none where that is over 32
 --   listed l n     the list that n entries of the array l give: the first n of them. A count over 32 gives none, which is refused with 3 as
 --                  a list of over 32 entries is
@@ -14,12 +16,19 @@ use mathlib.Core.List.{List}
 use Prim.Native.Nat.{ℕ, _+_, _*_, _^_, _<_}
 use lib.Dec.{leb}
 use lib.ListN.{take}
+use Rattle.base_answers.specs.Limits.{most}
 use Rattle.field_open.specs.Padding.{entries, unpad}
 use Rattle.walk_record.specs.declared.WalkRecord.{WalkRecord}
 use Rattle.walk_record.specs.State.{Unknown}
 
 abbrev pub most-steps : ℕ
 most-steps = 1000000000
+
+abbrev pub most-records : ℕ
+most-records = 64
+
+abbrev pub Over : ℕ → ℕ → Type 0
+Over n b = (most-records < n) ⊎ (most < b)
 
 unfoldable pub counted : ℕ → ℕ
 counted n = elim (leb n entries) [ true ↦ n | false ↦ 0 ]

@@ -1,4 +1,5 @@
 // A walk record by value: a field, a basis of it, how far its walk has come, and its state. Here what is told of a record without its field.
+use base_answers::over_budget;
 ghost use mathlib.Core.Path.{_≡_};
 ghost use Rattle.base_answers.specs.Decides.{Decides};
 ghost use Rattle.walk_record.specs.State as S;
@@ -80,4 +81,14 @@ pub fn moved(r: WalkRecord, basis: [u16; 119], steps: u64, sum: u64, state: u32)
     t.sum = d;
     t.state = state;
     t
+}
+
+// Whether a sheet of n records with this budget is refused.
+pub fn beyond(n: usize, budget: u64) -> bool
+    ensures { λ t. ⌜ Decides t (R.Over n budget) ⌝ }
+{
+    if n > 64 {
+        return true;
+    }
+    over_budget(budget)
 }

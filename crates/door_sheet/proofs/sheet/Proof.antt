@@ -63,12 +63,13 @@ use Rattle.door_record.proofs.advance.Symbol as advance-def
 use Rattle.door_record.proofs.advance.Symbol.{name as #advance}
 use Rattle.door_record.proofs.advance.Met as advance-thm
 use Rattle.door_sheet.specs.Sheet as S
-use Rattle.door_sheet.specs.Sheet.{Over, Sheet}
+use Rattle.walk_record.specs.Record.{Over}
+use Rattle.door_sheet.specs.Sheet.{Sheet}
 use Rattle.door_sheet.proofs.Turns.{Upto, upto-length, upto-next, upto-all}
-use Rattle.door_sheet.proofs.beyond as beyond
-use Rattle.door_sheet.proofs.beyond.Symbol as beyond-def
-use Rattle.door_sheet.proofs.beyond.Symbol.{name as #beyond}
-use Rattle.door_sheet.proofs.beyond.Met as beyond-thm
+use Rattle.walk_record.proofs.beyond as beyond
+use Rattle.walk_record.proofs.beyond.Symbol as beyond-def
+use Rattle.walk_record.proofs.beyond.Symbol.{name as #beyond}
+use Rattle.walk_record.proofs.beyond.Met as beyond-thm
 use Rattle.door_sheet.proofs.sheet.Key.{name as #sheet}
 use Rattle.door_sheet.proofs.sheet as sheet
 use Rattle.door_sheet.proofs.sheet.Statement as stated
@@ -357,5 +358,5 @@ sheet-spec 𝓤 H 𝓜 𝓖 𝓡 =
     entered 𝓤 H (tripleOf 𝓤 H (𝓖 .A) sheet.signature (sheet.spec 𝓤 H (𝓖 .A) (𝓜 .mem) (𝓡 .run)))
     (tables 𝓤 H 𝓜 𝓡 code.env .C) (tables 𝓤 H 𝓜 𝓡 code.env .Λ) #sheet code.function (code.unfolded 𝓤 H 𝓜 𝓡)
     (sheet-meets 𝓤 H (𝓖 .A) (givenOf 𝓤 H 𝓜 𝓖) (𝓜 .mem) (𝓡 .run) (tablesOf 𝓤 H 𝓜 (tables 𝓤 H 𝓜 𝓡 code.env))
-    (cited 𝓤 H (Asked 𝓤 H (𝓖 .A) (𝓜 .mem) (𝓡 .run)) 𝓜 𝓡 code.env #beyond beyond-def.routine code.calls-door-sheet·beyond (beyond-thm.met 𝓤 H 𝓜 𝓖 𝓡))
+    (cited 𝓤 H (Asked 𝓤 H (𝓖 .A) (𝓜 .mem) (𝓡 .run)) 𝓜 𝓡 code.env #beyond beyond-def.routine code.calls-walk-record·beyond (beyond-thm.met 𝓤 H 𝓜 𝓖 𝓡))
     (cited 𝓤 H (Advance 𝓤 H (𝓖 .A) (𝓜 .mem) (𝓡 .run)) 𝓜 𝓡 code.env #advance advance-def.routine code.calls-door-record·advance (advance-thm.met 𝓤 H 𝓜 𝓖 𝓡)))

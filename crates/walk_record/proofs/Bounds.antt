@@ -8,7 +8,7 @@ use Rattle.base_answers.specs.Decides.{Decides}
 use Rattle.base_answers.specs.Limits as limits
 use Rattle.base_answers.specs.Limits.{most}
 use Rattle.base_answers.proofs.Tests.{answer-yes, answer-no}
-use Rattle.door_sheet.specs.Sheet.{most-records, Over}
+use Rattle.walk_record.specs.Record.{most-records, Over}
 
 pub by-budget : (n b : ℕ) (t : Bool) → n ≤ most-records → limits.Over most b t → Decides t (Over n b)
 by-budget n b true l o = answer-yes (inr o)

@@ -2,9 +2,9 @@
 use mathlib.Core.Logic.{inl}
 use borrow.Author.Needs.{needs}
 use Rattle.base_answers.proofs.Tests.{answer-yes}
-use Rattle.door_sheet.proofs.Bounds.{by-budget}
-use Rattle.door_sheet.proofs.beyond.Statement.{statement}
-use Rattle.door_sheet.proofs.beyond.Tie as tie
+use Rattle.walk_record.proofs.Bounds.{by-budget}
+use Rattle.walk_record.proofs.beyond.Statement.{statement}
+use Rattle.walk_record.proofs.beyond.Tie as tie
 
 returns : tie.Need-returns
 returns c = answer-yes (inl (search needs))
