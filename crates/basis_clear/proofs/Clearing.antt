@@ -19,7 +19,8 @@ use Rattle.basis_parts.specs.Leaves.{PartAsks, Parted}
 use Rattle.basis_top.specs.Tops.{TopOfAsks, Topped}
 use Rattle.basis_clear.specs.Clear.{Pair, Rows, Room, CanceledAsks, CanceledGives, ClearYAsks, Clearing, Cleared, pair, swapIf}
 use Rattle.basis_top.specs.declared.Top.{Top}
-use Rattle.basis_parts.proofs.Laid.{zeros-row, zeros-at}
+use Rattle.math_rows.proofs.Tab.{zeros-at}
+use Rattle.poly_rows.proofs.Leaf.{zeros-row}
 use Rattle.basis_top.proofs.Tops.{part-lt, topped-up, topped-not, topped-most}
 
 -- what `part` asks, and what it gives
@@ -28,7 +29,7 @@ part-in μ r h = record { fine = r .fine; some = μ; hb = h .hb; hc = h .hc; fit
 
 -- zeros are a row of any length
 pub blank : {F : Frame} {top : ℕ} → Room F top → Short (F .m .p) (replicate 32 0) top
-blank {F} r = let b : 1 < F .m .p = r .fine .modulus .big in record { is-row = zeros-row (F .m .p) (omega arith); above = λ i u. zeros-at 32 i }
+blank {F} r = let b : 1 < F .m .p = r .fine .modulus .big in record { is-row = zeros-row (F .m .p) b; above = λ i u. zeros-at 32 i }
 
 pub part-below : {F : Frame} {e : Bool} {top : ℕ} {b c z : List ℕ} → Room F top → Parted F e b c top z → Cut z top
 part-below r o = record { size = o .short .is-row .size; fits = r .fits; above = o .short .above }

@@ -29,7 +29,7 @@ use Rattle.basis_lattice.specs.Lattice.{MemberAsks, Member}
 use Rattle.basis_closed.specs.Closed.{ClosedOnAsks, Keeps, element}
 use Rattle.basis_lattice.specs.declared.Lengths.{Lengths}
 use Rattle.basis_lattice.proofs.Elements.{quot-of, coords-from, times-g-is, times-h-is, times-gh-is}
-use Rattle.basis_lattice.proofs.Members.{carried}
+use Rattle.base_answers.proofs.Tests.{carried}
 
 pub product-short : {p : ℕ} (pr : Prime p) (n m : ℕ) {x y z : List ℕ} → Short p x (suc n) → Short p y m → Product p x y z → Short p z (n + m)
 product-short {p} pr n m hx hy hz = let ρ = reading p pr in row-short ρ (n + m) (hz .is-row) (d.lt-eq (ρ .𝓥) (lt-mul-sharp (ρ .𝓥) (short-lt ρ hx) (short-lt ρ hy)) (sym (hz .law pr)))

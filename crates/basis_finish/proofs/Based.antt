@@ -33,7 +33,7 @@ use Rattle.basis_top.specs.Tops.{LeadOfAsks, Led}
 use Rattle.basis_clear.specs.Clear.{Pair, ClearYAsks}
 use Rattle.basis_reduce.specs.Reduction.{Ends, Reduced}
 use Rattle.basis_store.specs.declared.Factors.{Factors}
-use Rattle.basis_parts.proofs.Laid.{zeros-at}
+use Rattle.math_rows.proofs.Tab.{zeros-at}
 use Rattle.basis_clear.proofs.Clearing.{part-in, rows-of}
 use Rattle.basis_store.specs.Levels.{Monic}
 use Rattle.basis_store.specs.Place.{off, padded, ElementAsks, PlacedAt, FilledAsks, Filled}

@@ -5,7 +5,7 @@
 --   member-first, member-second, member-of, member-in   and the three divisions
 use mathlib.Core.Path.{_≡_, sym, ap, ap₂, _∙_, subst}
 use mathlib.Core.Logic.{_≢_}
-use mathlib.Core.Bool.{Bool, true}
+use mathlib.Core.Bool.{true}
 use mathlib.Core.List.{List, [], _∷_}
 use Prim.Native.Nat.{ℕ, suc, _+_, _*_, _<_, _≤_}
 use native.Mathlib.Omega.{arith}
@@ -29,7 +29,6 @@ use Rattle.poly_rows.proofs.Lengths.{size-below, size-of, inverts-has}
 use Rattle.poly_lent.specs.Sized.{BothInAsks, BothInGives}
 use Rattle.poly_divide.specs.Divide.{LessInGives, DivideInGives}
 use Rattle.poly_lent.proofs.Mixing.{size-cut}
-use Rattle.base_answers.specs.Decides.{Decides}
 use Rattle.basis_record.specs.Seven.{Seven}
 use Rattle.basis_lattice.specs.Coordinates.{ElementAsks, OuterGives}
 use Rattle.basis_lattice.specs.Lattice.{InsideAsks, InsideAt, MemberAt}
@@ -164,7 +163,3 @@ module _ {p : ℕ} (pr : Prime p) where
         α-poly = m .quotients .α-poly;
         U-α = ap₂ (λ β γ. row ρ va ⊕ ⊖ (β ⊗ row ρ (b .m0) ⊕ γ ⊗ row ρ (b .n0))) (first m .1 m) (second m .1) ∙ m .quotients .U-α;
       }
-
--- the last answer is that of the last division
-pub carried : {o : Bool} {A B : Type 0} → (A → B) → (B → A) → Decides o A → Decides o B
-carried f g h = record { yes! = λ e. f (h .yes! e); no! = λ e b. h .no! e (g b) }

@@ -1,35 +1,20 @@
 -- Rows that a loop fills from the front with numbers of given classes mod p.
---   zeros-row, zeros-size      the row of zeros that such a loop starts from
 --   Laid p n f l i             the first i of n places hold the classes f, the rest are 0
 --   laid-short, laid-row       what that is at the end
 --   Swept p n f l₀ l i         the invariant of a loop that starts from l₀: the rest is as it was
 --   swept-start, swept-more, swept-laid
 use mathlib.Core.Path.{_≡_, refl, sym, ap, _∙_}
 use mathlib.Core.List.{List}
-use Prim.Native.Nat.{ℕ, zero, suc, _+_, _<_, _≤_}
+use Prim.Native.Nat.{ℕ, _+_, _<_, _≤_}
 use native.Mathlib.Omega.{arith}
 use native.Mathlib.Decide.{decLt, ℕ-discrete}
-use lib.ListN.{length, getD, set, length-set, replicate, List·getD-eq-default}
+use lib.ListN.{length, getD, set, length-set, List·getD-eq-default}
 use lib.Seq.{getD-set-same, getD-set-other}
-use Rattle.math_ring.specs.Ring.{Ops, CRing}
 use Rattle.math_fp.specs.Fp.{Prime}
-use Rattle.math_valued.specs.Val.{Valued}
-use Rattle.math_rows.specs.Reading.{Reading}
 use Rattle.math_rows.specs.Made.{reading}
-use Rattle.math_rows.specs.Row.{Row, Size, row, psum, coefs}
+use Rattle.math_rows.specs.Row.{Row, row, psum, coefs}
 use Rattle.math_rows.proofs.Rows.{row-32, psum-ext}
 use Rattle.basis_parts.specs.Frame.{Short}
-
-pub zeros-at : (n i : ℕ) → _≡_ {A = ℕ} (getD (replicate n 0) i 0) 0
-zeros-at zero i = refl
-zeros-at (suc n) zero = refl
-zeros-at (suc n) (suc i) = zeros-at n i
-
-pub zeros-row : (p : ℕ) → 0 < p → Row p (replicate 32 0)
-zeros-row p h = record { size = refl; each = λ i. let e : _≡_ {A = ℕ} (getD (replicate 32 0) i 0) 0 = zeros-at 32 i in omega arith }
-
-pub zeros-size : Size (replicate 32 0) 0
-zeros-size = record { fits = omega arith; above = λ i l. zeros-at 32 i; top = λ l. absurd (omega arith) }
 
 -- one entry of a row is set
 pub set-row : (p : ℕ) (l : List ℕ) (i v : ℕ) → Row p l → v < p → Row p (set l i v)

@@ -25,7 +25,7 @@ use Rattle.poly_lent.specs.Sized.{BothInAsks, BothInGives}
 use Rattle.poly_lent.proofs.Mixing.{size-cut}
 use Rattle.basis_record.specs.Record.{part}
 use Rattle.basis_parts.specs.Frame.{Short}
-use Rattle.basis_parts.proofs.Laid.{zeros-at}
+use Rattle.math_rows.proofs.Tab.{zeros-at}
 use Rattle.basis_record.specs.Store.{StoredAsks, Stored}
 use Rattle.basis_store.specs.Levels.{RowZeroAsks, Leveled}
 use Rattle.basis_store.specs.Place.{StoreElementAsks, padded, Placed, FilledAsks}

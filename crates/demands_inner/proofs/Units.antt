@@ -8,16 +8,12 @@
 use mathlib.Core.Path.{_≡_, refl, sym, ap, _∙_}
 use mathlib.Core.Bool.{Bool, true, false}
 use mathlib.Core.List.{List}
-use Prim.Native.Nat.{ℕ, _<_}
-use native.Mathlib.Omega.{arith}
+use Prim.Native.Nat.{ℕ}
 use Rattle.base_answers.proofs.Tests.{decides-unique}
-use Rattle.math_valued.specs.Polynomial.{IsUnit}
-use Rattle.math_valued.proofs.Polynomial.{const-unit}
 use Rattle.math_rows.specs.Made.{reading}
 use Rattle.math_rows.proofs.Unique.{cast-inj, const-inj}
 use Rattle.math_chain.proofs.Scaling.{scale-unique}
 use Rattle.math_chain.proofs.Unit.{positive-weight}
-use Rattle.field_open.specs.Refusal.{Accepted}
 use Rattle.basis_record.specs.Record.{setting}
 use Rattle.field_roots.proofs.Only.{series-of-unique}
 use Rattle.field_series.specs.declared.OpenedField.{OpenedField}
@@ -25,6 +21,7 @@ use Rattle.field_fill.specs.Fill.{Room, Grown}
 use Rattle.unit_make.specs.Making.{MakeAsks, Making}
 use Rattle.unit_finish.specs.Rows.{six, HoldsUnit}
 use Rattle.unit_finish.proofs.Rows.{rows-unique}
+use Rattle.unit_scale.proofs.Invertible.{constant-unit}
 use Rattle.unit_scale.specs.Scale.{NoConvention, constant, FactorAsks, Factors, TurnAsks, Turns}
 use Rattle.unit_scale.proofs.Turned.{turned-unique}
 use Rattle.unit_check.specs.Check.{IsUnitAsks, IsUnitGives}
@@ -42,12 +39,6 @@ no-convention-unique n true true h k = refl
 no-convention-unique n true false h (way, e) = absurd (h way e)
 no-convention-unique n false true (way, e) k = absurd (k way e)
 no-convention-unique n false false h k = refl
-
--- a number other than 0 is a constant with an inverse
-constant-unit : {p : ℕ} {G H : List ℕ} (A : Accepted p G H) (s : ℕ) → s < p → 0 < s → IsUnit (setting A .𝓥) (constant A s)
-constant-unit {p} A s u v =
-    let ρ = reading p (A .prime) in
-    const-unit (ρ .𝓥) (constant A s) (ρ .cast s, (λ z. let e : s ≡ 0 = ρ .cast-small s u z in omega arith), ρ .𝓥 .const-lead (ρ .cast s))
 
 -- one constant scales
 pub factor-unique : {f : OpenedField} {no c : ℕ} {rows : List ℕ} (s s′ : ℕ) → FactorAsks f no c rows → Factors f no c rows s → Factors f no c rows s′ → s ≡ s′

@@ -113,12 +113,14 @@ module _ (b : ℕ) (r : WalkRecord) where
           no-record =
               let q = c .refuses 9 (inl (omega arith, omega arith)) in
               (λ e. let (A, l, x) = t .no-record .0 (q .0 e) in (A, (f, l), x), λ (A, (g, l), x). q .1 (t .no-record .1 (A, l, x)));
-          stays =
-              (λ e. let (A, l, x, y) = t .no-closing .0 (c .stays .0 e) in (A, (f, l), x, y),
-              λ (A, (g, l), x, y). c .stays .1 (t .no-closing .1 (A, l, x, y)));
-          closes =
-              (λ e. let (A, l, x, y) = t .passes .0 (c .closes .0 e) in (A, (f, l), x, y),
-              λ (A, (g, l), x, y). c .closes .1 (t .passes .1 (A, l, x, y)));
+          stays = (
+            λ e. let (A, l, x, y) = t .no-closing .0 (c .stays .0 e) in (A, (f, l), x, y),
+            λ (A, (g, l), x, y). c .stays .1 (t .no-closing .1 (A, l, x, y)),
+          );
+          closes = (
+            λ e. let (A, l, x, y) = t .passes .0 (c .closes .0 e) in (A, (f, l), x, y),
+            λ (A, (g, l), x, y). c .closes .1 (t .passes .1 (A, l, x, y)),
+          );
           only = c .known;
         }
       where

@@ -7,14 +7,13 @@ use mathlib.Core.Logic.{_≢_}
 use mathlib.Core.Bool.{Bool, true, false}
 use mathlib.Core.List.{List}
 use Prim.Native.Nat.{ℕ, _/_, _<_}
-use native.Mathlib.Omega.{arith}
 use lib.ListN.{length}
 use Rattle.base_answers.specs.Limits.{SixRows}
 use Rattle.base_answers.proofs.Limits.{six-at, six-none, six-unique}
 use Rattle.math_ring.specs.Ring.{Ops}
 use Rattle.math_ring.proofs.Laws as rg
 use Rattle.math_valued.specs.Polynomial.{polys, IsUnit}
-use Rattle.math_valued.proofs.Polynomial.{P-path, const-unit}
+use Rattle.math_valued.proofs.Polynomial.{P-path}
 use Rattle.math_rows.specs.Reading.{Reading}
 use Rattle.math_rows.specs.Made.{reading}
 use Rattle.math_rows.proofs.Unique.{cast-inj, const-inj}
@@ -28,6 +27,7 @@ use Rattle.basis_record.specs.Record.{setting}
 use Rattle.field_series.specs.Keeps.{Kept}
 use Rattle.field_series.specs.declared.OpenedField.{OpenedField}
 use Rattle.unit_finish.specs.Rows.{six, HoldsUnit}
+use Rattle.unit_scale.proofs.Invertible.{constant-unit}
 use Rattle.unit_scale.specs.Scale.{constant, FactorAsks, Factors}
 use Rattle.door_rescale.specs.Rescale.{ScaledRows}
 use Rattle.door_rescale.specs.Test.{MisscaledAsks, Misscaled, Unfit}
@@ -61,14 +61,11 @@ module _ {p : ℕ} {G H : List ℕ} (A : Accepted p G H) where
   only-one : (s : ℕ) → s < p → constant A s ≡ 1ₚ → s ≡ 1
   only-one s l e = cast-inj ρ s 1 l (A .prime .big) (const-inj ρ (ρ .cast s) (ρ .cast 1) (ap (λ z. z .0) (e ∙ sym one-is)))
 
-  constant-unit : (s : ℕ) → 0 < s → s < p → IsUnit (S .𝓥) (constant A s)
-  constant-unit s u l = const-unit (S .𝓥) (constant A s) (ρ .cast s, (λ z. let o : s ≡ 0 = ρ .cast-small s l z in absurd (omega arith)), ρ .𝓥 .const-lead (ρ .cast s))
-
   scaled-one : (k : Convention) (c s : ℕ) (rows : List ℕ) → 0 < s → s < p → HoldsUnit p G H c rows →
       Scaled S k (sc S (constant A s) ⊗ six A c 0 rows) → Scaled S k (six A c 0 rows) → s ≡ 1
   scaled-one k c s rows u l h x y =
       let (e, w) = positive-weight S k (h .unit A) in
-      only-one s l (scale-unique S k (six A c 0 rows) (constant A s) 1ₚ w (constant-unit s u l) one-unit x (subst (Scaled S k) (sym (rg.one-mul (O S) (six A c 0 rows))) y))
+      only-one s l (scale-unique S k (six A c 0 rows) (constant A s) 1ₚ w (constant-unit A s l u) one-unit x (subst (Scaled S k) (sym (rg.one-mul (O S) (six A c 0 rows))) y))
 
 module _ {f : OpenedField} {i c s : ℕ} {rows : List ℕ} (t : MisscaledAsks f i c rows) (x : Factors f i c rows s) where
   pub off-one : s ≢ 1 → Misscaled f i c rows true

@@ -3,7 +3,7 @@
 --   large                  a unit of positive degree: Y and Z lie below 0, and E0 has the degree of E
 --   inverse-cof cof-inverse   F = cof(E)/N(E), and where N(E) is a unit that is the inverse
 --   inverse-has inverse-unique   the inverse has the opposite degree, and it is one
---   closing-unit closing-norm   the product at a closing has an inverse, and its norm is a unit
+--   closing-unit    the product at a closing has an inverse
 --   unit-made              the unit as it is computed
 --   unit-exists unit-unique   the unit of document 01 exists and is one; `unit-degree`: deg E0 = d, and d is even
 --   unit-positive unit-rescaled   it is a unit of positive degree, and scaled by another convention it is the unit of that one
@@ -37,7 +37,7 @@ use Rattle.math_chain.specs.Convention.{Convention, e0-monic, Cubes, Sca
 use Rattle.math_chain.specs.Unit.{Invertible, UnitOf}
 use Rattle.math_chain.proofs.Scaling.{weigh, scale-unique, monic-exists, weight, one-scaling}
 use Rattle.math_chain.proofs.Walk.{same-products, closing-unique, chain-room}
-use Rattle.math_chain.proofs.Passed.{Passed, passed, bottoms-deg, product-unique, product-scaled}
+use Rattle.math_chain.proofs.Passed.{Passed, passed, bottoms-deg, product-scaled}
 
 module _ (S : Setting) where
   open Setting S using (𝓥)
@@ -144,12 +144,6 @@ module _ (S : Setting) where
           inverse = solve-by (O S) (var 0 :* var 1 :* (var 2 :* var 3)) one (hyp (var 0 :* var 2) (var 1 :* var 3) one ∷ hyp (minus one) one (var 0 :* var 2) ∷ []) tt (sc S s ∷ p .E ∷ sc S s′ ∷ F ∷ []) (e, (ap (sc S) u ∙ sc-mul S s s′, tt));
         },
       )
-
-  -- the product's norm is a unit, so a constant that is not 0
-  pub closing-norm : (B₀ : Basis S) → Start S B₀ → {l n : ℕ} {B : Basis S} (c : Closing S B₀ l n B) (E : O S .El) → Product S (c .chain) E → IsUnit 𝓥 (norm S E)
-  closing-norm B₀ st c E p =
-      let (F, e) = closing-unit B₀ st c in
-      norm-unit E F (ap (λ t. t ⊗ F) (product-unique S (c .chain) E (passed S B₀ st (c .chain) .E) p (passed S B₀ st (c .chain) .product)) ∙ e)
 
   -- the unit as it is computed: the product, scaled, and its cofactor over its norm
   pub unit-made : (k : Convention) (B₀ : Basis S) → Start S B₀ → {l n : ℕ} {B : Basis S} (c : Closing S B₀ l n B) (E₁ : O S .El) (s ν : P S) → Product S (c .chain) E₁ → IsUnit 𝓥 s → Scaled S k (sc S s ⊗ E₁) →

@@ -1,7 +1,6 @@
 -- Lists and lines: reading and printing are each other's inverse, and a line reads in at most one way.
 --   list-is-text      a text that reads as the list l is list-text l
 --   text-listed       list-text l, of one or more numbers below 100,000, reads as l
---   line-is-text      a line that reads as p, G, H is line-text p G H
 --   text-reads        line-text p G H, of such numbers and not too long, reads as p, G, H
 --   reads-unique      a line reads in at most one way
 --   reads-room        the lists of a line have at most 126 numbers
@@ -17,7 +16,7 @@ use Rattle.text_cut.proofs.Cuts.{Free, pieces-some}
 use Rattle.text_number.specs.Grammar.{value, Numeral, Number, Listed}
 use Rattle.text_read.specs.Grammar.{field, Reads}
 use Rattle.text_number.proofs.Values.{value-text}
-use Rattle.text_number.proofs.Inverse.{text-numeral, text-number, numeral-text, number-is-text, number-below}
+use Rattle.text_number.proofs.Inverse.{text-numeral, text-number, numeral-text, number-below}
 use Rattle.text_number.proofs.Joins.{pieces-join, join-pieces, join-long, join-free}
 use Rattle.text_number.proofs.Lists.{listed-length, entry-value}
 use Rattle.text_read.proofs.Parts.{reads-of}
@@ -80,14 +79,6 @@ three-of (a ∷ b ∷ c ∷ d ∷ ps) h = absurd (omega arith)
 
 pub line-parts : {line : List ℕ} {p : ℕ} {G H : List ℕ} → Reads line p G H → line ≡ join semicolon (field line 0 ∷ field line 1 ∷ field line 2 ∷ [])
 line-parts {line} r = sym (join-pieces semicolon line) ∙ ap (join semicolon) (three-of (pieces semicolon line) (r .three))
-
-pub line-is-text : {line : List ℕ} {p : ℕ} {G H : List ℕ} → Reads line p G H → line ≡ line-text p G H
-unfolding line-text
-line-is-text {line} {p} {G} {H} r =
-    line-parts r
-    ∙ ap (λ (z : List ℕ). join semicolon (z ∷ field line 1 ∷ field line 2 ∷ [])) (number-is-text (r .first))
-    ∙ ap (λ (z : List ℕ). join semicolon (number-text p ∷ z ∷ field line 2 ∷ [])) (list-is-text (r .second))
-    ∙ ap (λ (z : List ℕ). join semicolon (number-text p ∷ list-text G ∷ z ∷ [])) (list-is-text (r .third))
 
 pub reads-unique : {line : List ℕ} {p : ℕ} {G H : List ℕ} {p' : ℕ} {G' H' : List ℕ} → Reads line p G H → Reads line p' G' H' → (p ≡ p') × (G ≡ G') × (H ≡ H')
 reads-unique a b =

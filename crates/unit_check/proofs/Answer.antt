@@ -25,7 +25,7 @@ use Rattle.field_series.specs.Keeps.{Kept}
 use Rattle.field_series.specs.declared.OpenedField.{OpenedField}
 use Rattle.basis_record.specs.Record.{setting, polyOf}
 use Rattle.basis_field.proofs.Keeps as keeps
-use Rattle.basis_lattice.proofs.Members.{carried}
+use Rattle.base_answers.proofs.Tests.{carried}
 use Rattle.unit_inverse.specs.Inverse.{element}
 use Rattle.unit_finish.specs.Rows.{six}
 use Rattle.unit_finish.proofs.Rows.{cut-below}

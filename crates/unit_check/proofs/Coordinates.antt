@@ -17,7 +17,7 @@ use Rattle.base_lists.proofs.Puts.{Around, around-cut}
 use Rattle.math_fp.specs.Fp.{Prime}
 use Rattle.math_rows.specs.Made.{reading}
 use Rattle.math_rows.specs.Row.{row}
-use Rattle.basis_lattice.proofs.Members.{carried}
+use Rattle.base_answers.proofs.Tests.{carried}
 use Rattle.poly_mix.specs.Mixing.{MixAsks, Mixed}
 use Rattle.poly_mix.proofs.Mixing.{whole}
 use Rattle.poly_products.specs.Products.{TimesAsks, Times}

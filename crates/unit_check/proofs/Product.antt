@@ -20,7 +20,7 @@ use Rattle.math_rows.specs.Reading.{Reading}
 use Rattle.math_rows.specs.Made.{reading}
 use Rattle.math_rows.specs.Row.{row}
 use Rattle.math_rows.proofs.Rows.{const-zero}
-use Rattle.basis_lattice.proofs.Members.{carried}
+use Rattle.base_answers.proofs.Tests.{carried}
 use Rattle.unit_inverse.specs.Inverse.{element}
 use Rattle.unit_inverse.proofs.Inverting.{row-one}
 use Rattle.unit_check.specs.Code.{CoordinateAsks, coordinateOf, CoordinateGives, ProductAsks, ProductGives}

@@ -4,3 +4,4 @@ pub mod Scales
 pub mod Turning
 pub mod Turned
 pub mod Named
+pub mod Invertible

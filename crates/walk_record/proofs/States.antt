@@ -27,7 +27,6 @@ not-closed (inr a) e = omega arith
 pub low-refusal : {k : ℕ} → k ≢ 0 → k ≤ 8 → IsRefusal k
 low-refusal f l = inl (omega arith, omega arith)
 
-
 -- ---- the tests' numbers
 pub none-passed : {s : ℕ} → s ≢ closed → s ≢ 14 → (s ≡ 0) ⊎ (9 < s) → Passed s → ⊥
 none-passed f g h (inl e) = f e

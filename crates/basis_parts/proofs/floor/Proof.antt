@@ -1,7 +1,8 @@
 -- `basis_parts::floor` meets its contract: `floor_in`, into zeros.
 use native.Mathlib.Omega.{arith}
 use Prim.Native.Nat.{_<_}
-use Rattle.basis_parts.proofs.Laid.{zeros-row, zeros-at}
+use Rattle.math_rows.proofs.Tab.{zeros-at}
+use Rattle.poly_rows.proofs.Leaf.{zeros-row}
 use borrow.Author.Needs.{needs}
 use Rattle.basis_parts.proofs.floor.Statement.{statement}
 use Rattle.basis_parts.proofs.floor.Tie as tie

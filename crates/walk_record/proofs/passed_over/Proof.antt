@@ -1,6 +1,5 @@
 -- `passed_over`: each way out by its number.
 use mathlib.Core.Logic.{inl, inr}
-use native.Mathlib.Omega.{arith}
 use Rattle.base_answers.proofs.Tests.{answer-yes, answer-no}
 use Rattle.walk_record.proofs.States.{none-passed}
 use borrow.Author.Needs.{needs}

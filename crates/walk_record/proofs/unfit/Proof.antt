@@ -1,6 +1,5 @@
 -- `unfit`: each way out is one of the three, or none.
 use mathlib.Core.Logic.{inl, inr}
-use native.Mathlib.Omega.{arith}
 use Rattle.base_answers.proofs.Tests.{answer-yes, answer-no}
 use Rattle.walk_record.proofs.States.{fit}
 use borrow.Author.Needs.{needs}
