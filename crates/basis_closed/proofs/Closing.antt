@@ -39,7 +39,7 @@ use Rattle.basis_record.proofs.Sevens.{every}
 use Rattle.basis_lattice.specs.Coordinates.{LengthsOfAsks, Found}
 use Rattle.basis_closed.specs.Closed.{ClosedUnderRAndWAsks, Under, ClosedOnAsks, Keeps, Kept, Closed, element}
 use Rattle.basis_lattice.specs.declared.Lengths.{Lengths}
-use Rattle.basis_lattice.proofs.Members.{carried}
+use Rattle.base_answers.proofs.Tests.{carried}
 
 abbrev zeros : List ℕ
 zeros = replicate 32 0
