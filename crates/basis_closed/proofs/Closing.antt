@@ -33,13 +33,12 @@ use Rattle.math_ideals.proofs.Sizes.{O-path}
 use Rattle.math_ideals.specs.Element.{times-r, times-w}
 use Rattle.field_open.specs.Refusal.{Accepted}
 use Rattle.basis_record.specs.Record.{setting, polyOf}
-use Rattle.base_answers.proofs.Tests.{answer-no, decides-unique}
+use Rattle.base_answers.proofs.Tests.{answer-no, decides-unique, carried}
 use Rattle.basis_record.specs.Seven.{Seven, rowsOf, Holds}
 use Rattle.basis_record.proofs.Sevens.{every}
 use Rattle.basis_lattice.specs.Coordinates.{LengthsOfAsks, Found}
 use Rattle.basis_closed.specs.Closed.{ClosedUnderRAndWAsks, Under, ClosedOnAsks, Keeps, Kept, Closed, element}
 use Rattle.basis_lattice.specs.declared.Lengths.{Lengths}
-use Rattle.base_answers.proofs.Tests.{carried}
 
 abbrev zeros : List ℕ
 zeros = replicate 32 0

@@ -23,13 +23,12 @@ use Rattle.math_ideals.specs.Element.{times-r, times-w}
 use Rattle.field_open.specs.Refusal.{Accepted}
 use Rattle.basis_record.specs.Record.{setting}
 use Rattle.base_answers.specs.Decides.{Decides}
-use Rattle.base_answers.proofs.Tests.{answer-no}
+use Rattle.base_answers.proofs.Tests.{answer-no, carried}
 use Rattle.basis_record.specs.Seven.{Seven, rowsOf, Holds}
 use Rattle.basis_lattice.specs.Lattice.{MemberAsks, Member}
 use Rattle.basis_closed.specs.Closed.{ClosedOnAsks, Keeps, element}
 use Rattle.basis_lattice.specs.declared.Lengths.{Lengths}
 use Rattle.basis_lattice.proofs.Elements.{quot-of, coords-from, times-g-is, times-h-is, times-gh-is}
-use Rattle.base_answers.proofs.Tests.{carried}
 
 pub product-short : {p : ℕ} (pr : Prime p) (n m : ℕ) {x y z : List ℕ} → Short p x (suc n) → Short p y m → Product p x y z → Short p z (n + m)
 product-short {p} pr n m hx hy hz = let ρ = reading p pr in row-short ρ (n + m) (hz .is-row) (d.lt-eq (ρ .𝓥) (lt-mul-sharp (ρ .𝓥) (short-lt ρ hx) (short-lt ρ hy)) (sym (hz .law pr)))

@@ -17,7 +17,7 @@ use Rattle.num_mod.specs.declared.Modulus.{Modulus}
 use Rattle.math_rows.specs.Reading.{Reading}
 use Rattle.math_rows.specs.Made.{reading}
 use Rattle.math_rows.specs.Row.{Size, row}
-use Rattle.math_rows.proofs.Tab.{length-tab, at-tab}
+use Rattle.math_rows.proofs.Tab.{length-tab, at-tab, zeros-at}
 use Rattle.poly_rows.specs.Leaf.{Cut}
 use Rattle.poly_cross.specs.Cross.{ScaleInAsks, ScaleInGives}
 use Rattle.poly_rows.proofs.Lengths.{size-below, short-up, short-cut, scaled-short}
@@ -25,7 +25,6 @@ use Rattle.poly_lent.specs.Sized.{BothInAsks, BothInGives}
 use Rattle.poly_lent.proofs.Mixing.{size-cut}
 use Rattle.basis_record.specs.Record.{part}
 use Rattle.basis_parts.specs.Frame.{Short}
-use Rattle.math_rows.proofs.Tab.{zeros-at}
 use Rattle.basis_record.specs.Store.{StoredAsks, Stored}
 use Rattle.basis_store.specs.Levels.{RowZeroAsks, Leveled}
 use Rattle.basis_store.specs.Place.{StoreElementAsks, padded, Placed, FilledAsks}

@@ -9,7 +9,7 @@ use Prim.Native.Nat.{ℕ, _+_, _-_}
 use native.Mathlib.Omega.{arith}
 use lib.ListN.{length}
 use Rattle.base_answers.specs.Decides.{Decides}
-use Rattle.base_answers.proofs.Tests.{answer-no}
+use Rattle.base_answers.proofs.Tests.{answer-no, carried}
 use Rattle.base_lists.specs.Pieces.{cut, between}
 use Rattle.base_lists.proofs.Trims.{sized}
 use Rattle.math_triple.specs.Tri.{mulT}
@@ -25,7 +25,6 @@ use Rattle.field_series.specs.Keeps.{Kept}
 use Rattle.field_series.specs.declared.OpenedField.{OpenedField}
 use Rattle.basis_record.specs.Record.{setting, polyOf}
 use Rattle.basis_field.proofs.Keeps as keeps
-use Rattle.base_answers.proofs.Tests.{carried}
 use Rattle.unit_inverse.specs.Inverse.{element}
 use Rattle.unit_finish.specs.Rows.{six}
 use Rattle.unit_finish.proofs.Rows.{cut-below}

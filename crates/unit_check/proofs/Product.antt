@@ -8,7 +8,7 @@ use mathlib.Core.List.{List, [], _∷_}
 use Prim.Native.Nat.{ℕ, _+_, _*_, _-_, _<_, _≤_}
 use native.Mathlib.Omega.{arith}
 use lib.ListN.{length}
-use Rattle.base_answers.proofs.Tests.{answer-no}
+use Rattle.base_answers.proofs.Tests.{answer-no, carried}
 use Rattle.base_lists.specs.Pieces.{cut, between}
 use Rattle.base_lists.proofs.Pieces.{length-cut}
 use Rattle.math_ring.specs.Ring.{Ops}
@@ -20,7 +20,6 @@ use Rattle.math_rows.specs.Reading.{Reading}
 use Rattle.math_rows.specs.Made.{reading}
 use Rattle.math_rows.specs.Row.{row}
 use Rattle.math_rows.proofs.Rows.{const-zero}
-use Rattle.base_answers.proofs.Tests.{carried}
 use Rattle.unit_inverse.specs.Inverse.{element}
 use Rattle.unit_inverse.proofs.Inverting.{row-one}
 use Rattle.unit_check.specs.Code.{CoordinateAsks, coordinateOf, CoordinateGives, ProductAsks, ProductGives}

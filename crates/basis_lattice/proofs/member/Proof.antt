@@ -1,8 +1,7 @@
 -- `basis_lattice::member` meets its contract: three divisions, and what each leaves.
 use mathlib.Core.Path.{refl}
 use native.Mathlib.Omega.{arith}
-use Rattle.base_answers.proofs.Tests.{answer-no}
-use Rattle.base_answers.proofs.Tests.{carried}
+use Rattle.base_answers.proofs.Tests.{answer-no, carried}
 use Rattle.basis_lattice.proofs.Members.{member-first, member-second, member-of, member-in}
 use Rattle.basis_lattice.proofs.member.Statement.{statement}
 use Rattle.basis_lattice.proofs.member.Tie as tie
