@@ -1,4 +1,5 @@
 -- Demand 3: the three basis elements times all minima passed fill the order.
+--   over-then              an ideal over a lattice, divided further: the divisors multiply
 --   over-step over-start   E · (Λ/U) = O goes on to E m, and starts with 1
 --   Passed passed          the product E of the m passed lies in the order, has the degree sum as its degree, and E · (Λ/U) = O
 --   Spans spans            so E, E m, E n lie in the order, span it, and their determinant is a unit, a constant that is not 0
@@ -23,9 +24,9 @@ use Rattle.math_valued.proofs.Compare.{lt-unscale, lt-mul-sharp}
 use Rattle.math_valued.proofs.Polynomial.{degree}
 use Rattle.math_ideals.specs.Setting.{Roots, Setting, P}
 use Rattle.math_ideals.specs.Element.{O, sc, el-r, el-w, ev}
-use Rattle.math_ideals.specs.Ideal.{Basis}
+use Rattle.math_ideals.specs.Ideal.{Basis, In}
 use Rattle.math_ideals.specs.Basis.{Good}
-use Rattle.math_ideals.specs.Next.{Next, At, Start}
+use Rattle.math_ideals.specs.Next.{Over, Next, Whole, At, Start}
 use Rattle.math_ideals.proofs.Sizes.{scE, ev-sc, sc-cancel}
 use Rattle.math_ideals.proofs.Values.{ev-mul, ev-one, Q-one}
 use Rattle.math_ideals.proofs.Lattice.{in-M, in-N, sc-mul}
@@ -55,35 +56,34 @@ module _ (S : Setting) where
   abbrev R : CRing
   R = polys 𝓥
 
-  -- ---- E · (Λ/U) = O goes on to E′ = E m
-  pub over-step : {n : ℕ} (B B′ : Basis S) (E : O S .El) → Has 𝓥 (B .U .0) n → At S B E → Next S B B′ → (E′ : O S .El) × (E ⊗ B .M ≡ sc S (B .U) ⊗ E′) × At S B′ E′
-  over-step B B′ E hU over next = (
-    E′,
-    e₀,
-    record {
-      into = λ v iv.
-          let (u, iu, e₁) = next .into v iv in
-          let (z, t, e₂) = over .into u iu in
-          (z, tt, same u v z e₁ e₂);
-      onto = λ z t.
-          let (u, iu, e₂) = over .onto z tt in
-          let (v, iv, e₁) = next .onto u iu in
-          (v, iv, same u v z e₁ e₂);
-    },
-  )
+  -- ---- E · (Λ/U) = Λ₀ and φ · (Λ′/U′) = Λ: then E φ/U · (Λ′/U′) = Λ₀, whatever the lattice Λ₀
+  pub over-then :
+      {n : ℕ} (Λ₀ : O S .El → Type 0) (B B′ : Basis S) (E φ E′ : O S .El) → Has 𝓥 (B .U .0) n → E ⊗ φ ≡ sc S (B .U) ⊗ E′ →
+      Over S Λ₀ E B → Over S (In S B) φ B′ →
+      Over S Λ₀ E′ B′
+  over-then Λ₀ B B′ E φ E′ hU e₀ over next = record {
+    into = λ v iv.
+        let (u, iu, e₁) = next .into v iv in
+        let (z, t, e₂) = over .into u iu in
+        (z, t, same u v z e₁ e₂);
+    onto = λ z t.
+        let (u, iu, e₂) = over .onto z t in
+        let (v, iv, e₁) = next .onto u iu in
+        (v, iv, same u v z e₁ e₂);
+  }
     where
-      E′ : O S .El
-      E′ = over .into (B .M) (in-M S B) .0
-
-      e₀ : E ⊗ B .M ≡ sc S (B .U) ⊗ E′
-      e₀ = over .into (B .M) (in-M S B) .2
-
-      same : (u v z : O S .El) → B .M ⊗ v ≡ sc S (B′ .U) ⊗ u → E ⊗ u ≡ sc S (B .U) ⊗ z → E′ ⊗ v ≡ sc S (B′ .U) ⊗ z
+      same : (u v z : O S .El) → φ ⊗ v ≡ sc S (B′ .U) ⊗ u → E ⊗ u ≡ sc S (B .U) ⊗ z → E′ ⊗ v ≡ sc S (B′ .U) ⊗ z
       same u v z e₁ e₂ =
           let U = var 0 in let U′ = var 1 in let M = var 2 in let A = var 3 in let A′ = var 4 in let u′ = var 5 in let v′ = var 6 in let z′ = var 7 in
           sc-cancel S (B .U) (E′ ⊗ v) (sc S (B′ .U) ⊗ z) hU
           (solve-by (O S) (U :* (A′ :* v′)) (U :* (U′ :* z′)) (hyp (minus v′) (A :* M) (U :* A′) ∷ hyp A (M :* v′) (U′ :* u′) ∷ hyp U′ (A :* u′) (U :* z′) ∷ []) tt
-          (sc S (B .U) ∷ sc S (B′ .U) ∷ B .M ∷ E ∷ E′ ∷ u ∷ v ∷ z ∷ []) (e₀, (e₁, (e₂, tt))))
+          (sc S (B .U) ∷ sc S (B′ .U) ∷ φ ∷ E ∷ E′ ∷ u ∷ v ∷ z ∷ []) (e₀, (e₁, (e₂, tt))))
+
+  -- E · (Λ/U) = O goes on to E′ = E m
+  pub over-step : {n : ℕ} (B B′ : Basis S) (E : O S .El) → Has 𝓥 (B .U .0) n → At S B E → Next S B B′ → (E′ : O S .El) × (E ⊗ B .M ≡ sc S (B .U) ⊗ E′) × At S B′ E′
+  over-step B B′ E hU over next =
+      let (E′, t, e) = over .into (B .M) (in-M S B) in
+      (E′, e, over-then (Whole S) B B′ E (B .M) E′ hU e over next)
 
   pub over-start : (B : Basis S) → Start S B → At S B 1ₒ
   over-start B st = record {

@@ -1,7 +1,8 @@
 -- The next ideal is one, it is reduced, and it has one basis.
 --   ev-M norm-M      the value of m has the degree of X(m), and the norm of M is not 0
 --   poly-only        only polynomials have all sizes at most 0 in the next ideal
---   next-ideal       what is the next of an ideal is an ideal
+--   over-ideal       an ideal divided by an element that cancels is an ideal
+--   next-ideal       so the next of an ideal is one
 --   next-reduced     and it is reduced
 --   over-same        E · (Λ′/U′) = Λ settles the ideal of B′ where E cancels
 --   next-same next-unique   so a basis has one next
@@ -93,17 +94,34 @@ module _ (S : Setting) where
           cancel-O S (B .M) v _ (norm-M B good s .1)
           (e ∙ ap (λ t. sc S (B′ .U) ⊗ t) f ∙ ring₃ (O S) (λ u b m. u :* (b :* m) := m :* (u :* b)) tt (sc S (B′ .U)) (sc S β) (B .M) ∙ ap (λ t. B .M ⊗ t) (sym (sc-mul S (B′ .U) β)))
 
-  -- closed under r and w, as the old one is, since M cancels
-  pub next-ideal : (B B′ : Basis S) → Good S B → Next S B B′ → B′ .U .0 ≢ 𝟎 → det S B′ .0 ≢ 𝟎 → Ideal S B′
-  next-ideal B B′ good next nz rank = record { U≢ = nz; rank = rank; one = in-U S B′; only = only-of-rank S B′ nz rank; by-r = closed (el-r S) (good .ideal .by-r); by-w = closed (el-w S) (good .ideal .by-w) }
+  -- an ideal divided by an element that cancels: closed under r and w, as the ideal is
+  pub over-ideal :
+      (B B′ : Basis S) → Ideal S B → (E : O S .El) → ((x y : O S .El) → E ⊗ x ≡ E ⊗ y → x ≡ y) → Over S (In S B) E B′ →
+      B′ .U .0 ≢ 𝟎 → det S B′ .0 ≢ 𝟎 →
+      Ideal S B′
+  over-ideal B B′ ideal E cancel over nz rank = record {
+    U≢ = nz;
+    rank = rank;
+    one = in-U S B′;
+    only = only-of-rank S B′ nz rank;
+    by-r = closed (el-r S) (ideal .by-r);
+    by-w = closed (el-w S) (ideal .by-w);
+  }
     where
       closed : (x : O S .El) → ((u : O S .El) → In S B u → In S B (x ⊗ u)) → (v : O S .El) → In S B′ v → In S B′ (x ⊗ v)
       closed x h v i =
-          let (u, iu, e) = next .into v i in
-          let (v′, i′, e′) = next .onto (x ⊗ u) (h u iu) in
-          subst (In S B′) (cancel-O S (B .M) v′ (x ⊗ v) (norm-M B good (small S B good) .1)
+          let (u, iu, e) = over .into v i in
+          let (v′, i′, e′) = over .onto (x ⊗ u) (h u iu) in
+          subst (In S B′) (cancel v′ (x ⊗ v)
           (solve-by (O S) (var 0 :* var 1) (var 0 :* (var 2 :* var 3)) (hyp one (var 0 :* var 1) (var 4 :* (var 2 :* var 5)) ∷ hyp (minus (var 2)) (var 0 :* var 3) (var 4 :* var 5) ∷ []) tt
-          (B .M ∷ v′ ∷ x ∷ v ∷ sc S (B′ .U) ∷ u ∷ []) (e′, (e, tt)))) i′
+          (E ∷ v′ ∷ x ∷ v ∷ sc S (B′ .U) ∷ u ∷ []) (e′, (e, tt)))) i′
+
+  -- M cancels
+  cancel-M : (B : Basis S) → Good S B → (x y : O S .El) → B .M ⊗ x ≡ B .M ⊗ y → x ≡ y
+  cancel-M B good x y = cancel-O S (B .M) x y (norm-M B good (small S B good) .1)
+
+  pub next-ideal : (B B′ : Basis S) → Good S B → Next S B B′ → B′ .U .0 ≢ 𝟎 → det S B′ .0 ≢ 𝟎 → Ideal S B′
+  next-ideal B B′ good = over-ideal B B′ (good .ideal) (B .M) (cancel-M B good)
 
   -- so the next ideal is reduced
   pub next-reduced : (B B′ : Basis S) → Good S B → Next S B B′ → B′ .U .0 ≢ 𝟎 → det S B′ .0 ≢ 𝟎 → ReducedBasis S B′ → Reduced S B′
@@ -132,7 +150,7 @@ module _ (S : Setting) where
 
   -- The relation `Next` settles the ideal, and so its scaled reduced basis.
   pub next-same : (B B′ B″ : Basis S) → Good S B → Next S B B′ → Next S B B″ → Same S B′ B″
-  next-same B B′ B″ good = over-same (In S B) (B .M) (λ x y. cancel-O S (B .M) x y (norm-M B good (small S B good) .1)) B′ B″
+  next-same B B′ B″ good = over-same (In S B) (B .M) (cancel-M B good) B′ B″
 
   pub next-unique : (B B′ B″ : Basis S) → Good S B → Good S B′ → Good S B″ → Next S B B′ → Next S B B″ → B′ ≡ B″
   next-unique B B′ B″ good g′ g″ n′ n″ = good-unique S B′ B″ g′ g″ (next-same B B′ B″ good n′ n″)
