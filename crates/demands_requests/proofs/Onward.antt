@@ -29,7 +29,7 @@ use Rattle.door_record.specs.Advance as advance
 use Rattle.door_record.specs.Advance.{After, Advances}
 use Rattle.demands.proofs.Cases.{walk-closed, walk-spent, walk-reaches, walk-stays}
 use Rattle.demands.proofs.Tabled.{walk-tabled}
-use Rattle.demands_requests.specs.Sheets.{Stands, open′, closed′}
+use Rattle.demands_requests.specs.Sheets.{Stands, still-open, has-closed}
 use Rattle.demands_requests.proofs.Advanced.{state, named, passed-on}
 
 -- ---- the walk
@@ -150,7 +150,7 @@ goes-on l (advance.walked f u w h (advance.refused m n e)) q y x = absurd (m (sy
 -- ---- the chain from a basis
 pub begins : {B : List ℕ} {r : WalkRecord} → IsRecord (r .p) (listG r) (listH r) B → r .basis ≡ B → r .steps ≡ 0 → r .sum ≡ 0 → r .state ≡ going → Stands B r
 begins {B} {r} is e s d q =
-    open′ q
+    still-open q
     (record {
       is-record = subst (IsRecord (r .p) (listG r) (listH r)) (sym e) is;
       chain = λ A.
@@ -165,11 +165,11 @@ module _ {B : List ℕ} {b : ℕ} {r : WalkRecord} (A : Accepted (r .p) (listG r
   after-stands : {o : WalkRecord} (w : WalkAnswer) → Walks (r .p) (listG r) (listH r) b (r .basis) w → After r w o → Stands B o
   after-stands w h (advance.closed z e) =
       let k = walk-closed (r .p) b (listG r) (listH r) (r .basis) w h z .closes in
-      subst (Stands B) (sym e) (closed′ refl (closes-then reaches is none k))
+      subst (Stands B) (sym e) (has-closed refl (closes-then reaches is none k))
   after-stands w h (advance.spent t e) =
       let k = walk-reaches (r .p) b (listG r) (listH r) (r .basis) w h (inr t) in
       let m = walk-stays (r .p) b (listG r) (listH r) (r .basis) w h t in
-      subst (Stands B) (sym e) (open′ refl (reaches-then reaches k) (stays-then reaches is none k m))
+      subst (Stands B) (sym e) (still-open refl (reaches-then reaches k) (stays-then reaches is none k m))
   after-stands {o} w h (advance.refused f g e) = absurd (case (walks-on w A l (reaches .is-record) h))
     where
       case : (w .refusal ≡ 0) ⊎ (w .refusal ≡ 10) → ⊥
@@ -185,5 +185,5 @@ module _ {B : List ℕ} {b : ℕ} {r : WalkRecord} (A : Accepted (r .p) (listG r
 
 pub stands : {B : List ℕ} {b : ℕ} {r o : WalkRecord} → Accepted (r .p) (listG r) (listH r) → IsRecord (r .p) (listG r) (listH r) B → b ≤ most → Stands B r →
     (r .state ≡ going → r .steps ≤ most-steps) → Advances b r o → Stands B o
-stands A is l (open′ q reaches none) k a = open-stands A is l reaches none q (k q) a
-stands {B} A is l (closed′ q c) k a = subst (Stands B) (sym (passed-on (inl q) a)) (closed′ q c)
+stands A is l (still-open q reaches none) k a = open-stands A is l reaches none q (k q) a
+stands {B} A is l (has-closed q c) k a = subst (Stands B) (sym (passed-on (inl q) a)) (has-closed q c)

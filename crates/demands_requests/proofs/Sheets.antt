@@ -11,14 +11,14 @@ use lib.ListN.{length}
 use Rattle.base_answers.specs.Limits.{most}
 use Rattle.walk_record.specs.declared.WalkRecord.{WalkRecord}
 use Rattle.walk_record.specs.State.{closed}
-use Rattle.walk_record.specs.Record.{Over, listG, listH}
+use Rattle.walk_record.specs.Record.{Beyond, listG, listH}
 use Rattle.walk_chain.specs.Walk.{Closes}
 use Rattle.door_record.specs.Advance.{Advances}
 use Rattle.door_sheet.specs.Sheet.{Each, Sheet, refused, walked}
 use Rattle.demands.proofs.Tabled.{both, neither}
 use Rattle.demands.proofs.TakenUp.{closes-agrees}
 use Rattle.demands.proofs.Demand2.{closes-first}
-use Rattle.demands_requests.specs.Sheets.{SheetTabled, At, Picked, GoesOn, Stands, open′, closed′, Sheets}
+use Rattle.demands_requests.specs.Sheets.{SheetTabled, At, Picked, GoesOn, Stands, still-open, has-closed, Sheets}
 use Rattle.demands_requests.proofs.Advanced.{passed-on, advanced-tabled, refused-marked, field-kept, padded}
 use Rattle.demands_requests.proofs.Onward.{both-calls, goes-on, begins, stands}
 
@@ -37,7 +37,7 @@ tabled rs os b n (walked g e s) = record {
   only = inl e;
 }
 
-done : {rs os : Rs} {b n : ℕ} → Sheet rs b n os → n ≡ 0 → (Over (length rs) b → ⊥) × Each b rs os
+done : {rs os : Rs} {b n : ℕ} → Sheet rs b n os → n ≡ 0 → (Beyond (length rs) b → ⊥) × Each b rs os
 done (refused v e f) z = absurd (omega arith)
 done (walked g e s) z = (g, s)
 
@@ -81,7 +81,7 @@ picked {rs} {os} {qs} {zs} {b} h z is l x y =
     let e = picked-length rs is qs x in
     walked (out g e) refl (each-picked b rs os s is qs zs x y)
   where
-    out : (Over (length rs) b → ⊥) → length qs ≡ length is → Over (length qs) b → ⊥
+    out : (Beyond (length rs) b → ⊥) → length qs ≡ length is → Beyond (length qs) b → ⊥
     out g e (inl k) = omega arith
     out g e (inr k) = g (inr k)
 
@@ -91,13 +91,13 @@ together {b} {c} {rs = rs} {os} {zs} l h z k y on =
     let (g′, t) = done k y in
     walked (out g) refl (each-together b c l rs os zs s t on)
   where
-    out : (Over (length rs) b → ⊥) → Over (length rs) (b + c) → ⊥
+    out : (Beyond (length rs) b → ⊥) → Beyond (length rs) (b + c) → ⊥
     out g (inl x) = g (inl x)
     out g (inr x) = omega arith
 
 closes-of : {B : List ℕ} {r : WalkRecord} → Stands B r → r .state ≡ closed → Closes (r .p) (listG r) (listH r) B (r .steps) (r .sum) (r .basis)
-closes-of (open′ q x y) e = absurd (omega arith)
-closes-of (closed′ q k) e = k
+closes-of (still-open q x y) e = absurd (omega arith)
+closes-of (has-closed q k) e = k
 
 pub sheets : Sheets
 sheets = record {

@@ -26,7 +26,7 @@ use Rattle.basis_field.specs.First.{IsFirst}
 use Rattle.walk_chain.specs.Walk.{Reaches, StaysOpen, Closes}
 use Rattle.walk_record.specs.declared.WalkRecord.{WalkRecord}
 use Rattle.walk_record.specs.State.{going, closed, IsRefusal, Passed}
-use Rattle.walk_record.specs.Record.{most-steps, Over, listG, listH, marked, Unfit}
+use Rattle.walk_record.specs.Record.{most-steps, Beyond, listG, listH, marked, Unfit}
 use Rattle.door_period.specs.declared.PeriodAnswer.{PeriodAnswer}
 use Rattle.door_period.specs.Order.{FromOrder}
 use Rattle.door_record.specs.Advance.{Advances}
@@ -36,8 +36,8 @@ use Rattle.demands.specs.Meaning.{BackFirst}
 
 -- "Refusals: 14 for over 64 records or B out of its rule, with nothing changed"
 pub record SheetTabled (n b x : ℕ) : Type 0 where
-  pub out-of-rule : (x ≡ 14) ↔ Over n b
-  pub passes : (x ≡ 0) ↔ (Over n b → ⊥)
+  pub out-of-rule : (x ≡ 14) ↔ Beyond n b
+  pub passes : (x ≡ 0) ↔ (Beyond n b → ⊥)
   pub only : (x ≡ 0) ⊎ (x ≡ 14)
 
 abbrev pub Field : WalkRecord → Type 0
@@ -74,11 +74,11 @@ abbrev pub GoesOn : List WalkRecord → Type 0
 GoesOn rs = (i : ℕ) (r : WalkRecord) → At rs i r → r .state ≡ going → r .steps ≤ most-steps
 
 pub data Stands (B : List ℕ) (r : WalkRecord) : Type 0 where
-  open′ :
+  still-open :
       r .state ≡ going →
       Reaches (r .p) (listG r) (listH r) B (r .steps) (r .sum) (r .basis) → StaysOpen (r .p) (listG r) (listH r) B (r .steps) →
       Stands B r
-  closed′ : r .state ≡ closed → Closes (r .p) (listG r) (listH r) B (r .steps) (r .sum) (r .basis) → Stands B r
+  has-closed : r .state ≡ closed → Closes (r .p) (listG r) (listH r) B (r .steps) (r .sum) (r .basis) → Stands B r
 
 pub record OneField (r r′ : WalkRecord) : Type 0 where
   pub p : r .p ≡ r′ .p

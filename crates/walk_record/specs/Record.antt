@@ -1,15 +1,15 @@
 -- A walk record: a field, a basis, the steps and the degree sum so far, a state.
 --   most-steps     the most steps of a record that is walked on
 --   most-records   the most records of a sheet
---   Over n b       a sheet of n records with the budget b is refused: over 64 records, or a budget over 1,000,000
+--   Beyond n b     a sheet of n records with the budget b is refused: over 64 records, or a budget over 1,000,000
 --   counted n      how many entries of an array of 32 are read where n are told: n, or none where that is over 32
 --   listed l n     the list that n entries of the array l give: the first n of them. A count over 32 gives none, which is refused with 3 as
 --                  a list of over 32 entries is
 --   listG listH    the lists of a record, as callers give them: zeros above the coefficients are allowed
 --   marked r s     r with the state s, nothing else changed
---   moved r B n d s   r with the basis B, n steps and the degrees d more, and the state s; its field is as it was
+--   moved r B n d s  r with the basis B, n steps and the degrees d more, and the state s; its field is as it was
 --   Unfit r        what 14 is for: a state unknown, over 1,000,000,000 steps, a degree sum above 16 times the steps
---   MoveAsks r n d    what `moved` asks: the sums of steps and of degrees are numbers of 64 bits
+--   MoveAsks r n d   what `moved` asks: the sums of steps and of degrees are numbers of 64 bits
 use mathlib.Core.Logic.{_⊎_}
 use mathlib.Core.Bool.{true, false}
 use mathlib.Core.List.{List}
@@ -27,8 +27,8 @@ most-steps = 1000000000
 abbrev pub most-records : ℕ
 most-records = 64
 
-abbrev pub Over : ℕ → ℕ → Type 0
-Over n b = (most-records < n) ⊎ (most < b)
+abbrev pub Beyond : ℕ → ℕ → Type 0
+Beyond n b = (most-records < n) ⊎ (most < b)
 
 unfoldable pub counted : ℕ → ℕ
 counted n = elim (leb n entries) [ true ↦ n | false ↦ 0 ]

@@ -85,7 +85,7 @@ pub fn moved(r: WalkRecord, basis: [u16; 119], steps: u64, sum: u64, state: u32)
 
 // Whether a sheet of n records with this budget is refused.
 pub fn beyond(n: usize, budget: u64) -> bool
-    ensures { λ t. ⌜ Decides t (R.Over n budget) ⌝ }
+    ensures { λ t. ⌜ Decides t (R.Beyond n budget) ⌝ }
 {
     if n > 64 {
         return true;

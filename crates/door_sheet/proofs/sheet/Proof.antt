@@ -63,7 +63,7 @@ use Rattle.door_record.proofs.advance.Symbol as advance-def
 use Rattle.door_record.proofs.advance.Symbol.{name as #advance}
 use Rattle.door_record.proofs.advance.Met as advance-thm
 use Rattle.door_sheet.specs.Sheet as S
-use Rattle.walk_record.specs.Record.{Over}
+use Rattle.walk_record.specs.Record.{Beyond}
 use Rattle.door_sheet.specs.Sheet.{Sheet}
 use Rattle.door_sheet.proofs.Turns.{Upto, upto-length, upto-next, upto-all}
 use Rattle.walk_record.proofs.beyond as beyond
@@ -98,10 +98,10 @@ fails : (t : Bool) → (T t → ⊥) → t ≡ false
 fails true f = absurd (f tt)
 fails false _ = refl
 
-is-over : (n b : ℕ) (t : Bool) → Decides t (Over n b) → T t → Over n b
+is-over : (n b : ℕ) (t : Bool) → Decides t (Beyond n b) → T t → Beyond n b
 is-over n b t d h = d .yes! (holds t h)
 
-is-within : (n b : ℕ) (t : Bool) → Decides t (Over n b) → T (not t) → Over n b → ⊥
+is-within : (n b : ℕ) (t : Bool) → Decides t (Beyond n b) → T (not t) → Beyond n b → ⊥
 is-within n b t d h = d .no! (fails t (λ a. both t a h))
   where
     both : (u : Bool) → T u → T (not u) → ⊥
@@ -143,8 +143,8 @@ module _ {M : Type 1} (𝓤 : URA M) (H : Heap 𝓤) (A : Atoms 𝓤) (mem : Mem
   abbrev Advance : Contract 𝓤
   Advance = tripleOf 𝓤 H A advance.signature (advance.spec 𝓤 H A mem run)
 
-  asked-of : (n b : ℕ) (t : Bool) → ent 𝓤 (ensured 𝓤 H A beyond.ended (beyond.clauses 𝓤 H A mem run) tt (n, (b, tt)) tt t) (fact 𝓤 (Decides t (Over n b)))
-  asked-of n b t = exE 𝓤 _ (λ ws. snd∗ 𝓤 (sem 𝓤 H A (lasts beyond.ended tt (n, (b, tt)) ws)) (fact 𝓤 (Decides t (Over n b))))
+  asked-of : (n b : ℕ) (t : Bool) → ent 𝓤 (ensured 𝓤 H A beyond.ended (beyond.clauses 𝓤 H A mem run) tt (n, (b, tt)) tt t) (fact 𝓤 (Decides t (Beyond n b)))
+  asked-of n b t = exE 𝓤 _ (λ ws. snd∗ 𝓤 (sem 𝓤 H A (lasts beyond.ended tt (n, (b, tt)) ws)) (fact 𝓤 (Decides t (Beyond n b))))
 
   advance-of : (r : WalkRecord) (b : ℕ) (z : WalkRecord) → ent 𝓤 (ensured 𝓤 H A advance.ended (advance.clauses 𝓤 H A mem run) tt (r, (b, tt)) tt z) (fact 𝓤 (Advances b r z))
   advance-of r b z = exE 𝓤 _ (λ ws. snd∗ 𝓤 (sem 𝓤 H A (lasts advance.ended tt (r, (b, tt)) ws)) (fact 𝓤 (Advances b r z)))
@@ -192,7 +192,7 @@ module _ {M : Type 1} (𝓤 : URA M) (H : Heap 𝓤) (A : Atoms 𝓤) (W : Given
       qed W (‵ (R .own r (v ∷ [])) ∷ []) ∵ nothing ! $ owned ! u64 (Is u64) (uint-makes 𝓤 H A W w64) c _ (refl, c-fits) $ fjoin ! $ move ! (1 ∷ 0 ∷ []) $ fjoin ! $
       nothing ! $ join ! $ frame ! $ nothing ! $ done !
 
-  module _ (𝓣 : Tables 𝓤 H) (known : Triple 𝓤 (𝓣 .C #advance) (Advance 𝓤 H A mem run)) (room : Room R n) (fits : Over n c → ⊥) (l₀ l₁ l₂ l₃ l₄ l₅ l₆ l₇ l₈ l₉ l₁₀ l₁₁ : ℕ) where
+  module _ (𝓣 : Tables 𝓤 H) (known : Triple 𝓤 (𝓣 .C #advance) (Advance 𝓤 H A mem run)) (room : Room R n) (fits : Beyond n c → ⊥) (l₀ l₁ l₂ l₃ l₄ l₅ l₆ l₇ l₈ l₉ l₁₀ l₁₁ : ℕ) where
     abbrev C : Calls 𝓤 H
     C = 𝓣 .C
 
@@ -323,7 +323,7 @@ module _ {M : Type 1} (𝓤 : URA M) (H : Heap 𝓤) (A : Atoms 𝓤) (W : Given
       nothing ! $ use1 W (raw (Asked 𝓤 H A mem run .pre to-beyond)) (goes-beyond (room .0)) $
       calls-at ! (fmOf 𝓤 H (W .laws) 𝓣) (Asked 𝓤 H A mem run) known-beyond to-beyond (and-then ! (load ! (from ! (stop !)) (look ! 17 refl)) (and-then ! (load ! (from ! (stop !)) (look ! 19 refl)) (no-more !))) (λ v.
       use1 W (later (some (λ (t : Bool). (‵ ftrue ⊛ ‵ (bool .own t (v ∷ []))) ⊛ raw (ensured 𝓤 H A beyond.ended (beyond.clauses 𝓤 H A mem run) tt (n, (c, tt)) tt t)))) (id⊢ 𝓤 _) $ await ! tt $ pick ! (λ t.
-      split ! $ move ! (1 ∷ []) $ use1 W (raw (fact 𝓤 (Decides t (Over n c)))) (asked-of 𝓤 H A mem run n c t) $ heard ! (Decides t (Over n c)) (λ told. split ! $ drop ! $
+      split ! $ move ! (1 ∷ []) $ use1 W (raw (fact 𝓤 (Decides t (Beyond n c)))) (asked-of 𝓤 H A mem run n c t) $ heard ! (Decides t (Beyond n c)) (λ told. split ! $ drop ! $
       facts ! bool (Is bool) (shows 𝓤 H A bool) t (v ∷ []) (λ is.
       land ! (from ! (stop !)) (init ! 10 refl (bool-lawful 𝓤 H A W .typed t _ is .0)) $
       rewrite ! 10 (λ (u : Val). ‵ (fat fullShare tyBool l₆ 0 u)) (ap only is) refl $
