@@ -3,11 +3,10 @@
 --   goes-on           what is left open is refused next for its steps alone
 --   begins, stands    a record stands in the chain from a basis of its field, and stays there
 use mathlib.Core.Path.{_≡_, refl, sym, ap, _∙_, subst}
-use mathlib.Core.Logic.{_≢_, _⊎_, inl, inr}
+use mathlib.Core.Logic.{_≢_, inl, inr}
 use mathlib.Core.List.{List}
 use Prim.Native.Nat.{ℕ, _+_, _*_, _≤_, _<_}
 use native.Mathlib.Omega.{arith}
-use native.Mathlib.Decide.{decLe}
 use Rattle.base_answers.specs.Limits.{most}
 use Rattle.field_open.specs.Refusal.{Accepted}
 use Rattle.field_open.proofs.Door.{door-out, door-map}
@@ -23,7 +22,7 @@ use Rattle.walk_chain.proofs.TakenUp.{reaches-then, stays-then, closes-then, ta
 use Rattle.walk_chain.proofs.Room.{reaches-room, walks-room}
 use Rattle.walk_record.specs.declared.WalkRecord.{WalkRecord}
 use Rattle.walk_record.specs.State.{going, closed, IsRefusal, Passed}
-use Rattle.walk_record.proofs.States.{not-going, not-closed, low-refusal}
+use Rattle.walk_record.proofs.States.{not-going, not-closed, low-refusal, within}
 use Rattle.walk_record.specs.Record.{most-steps, listG, listH, marked, moved, Unfit}
 use Rattle.door_record.specs.Advance as advance
 use Rattle.door_record.specs.Advance.{After, Advances}
@@ -46,14 +45,14 @@ longer {p} {n} m {G} {H} {B} w l h f = door-map (λ k e. e) go h
     go (walk.spent k a c) = absurd (f (c .number))
 
 -- from a basis of an accepted field, with a budget within its rule, it closes or spends its budget
-walks-on : {p n : ℕ} {G H B : List ℕ} (w : WalkAnswer) → Accepted p G H → n ≤ most → IsRecord p G H B → Walks p G H n B w → (w .refusal ≡ 0) ⊎ (w .refusal ≡ 10)
-walks-on {p} {n} {G} {H} {B} w A l is h = go (h .goes (refusal-unique p G H (h .no) 0 (h .first) (accepted-none p G H A)))
+never-refused : {p n : ℕ} {G H B : List ℕ} (w : WalkAnswer) → Accepted p G H → n ≤ most → IsRecord p G H B → Walks p G H n B w → w .refusal ≢ 0 → w .refusal ≢ 10 → ⊥
+never-refused {p} {n} {G} {H} {B} w A l is h f g = go (h .goes (refusal-unique p G H (h .no) 0 (h .first) (accepted-none p G H A)))
   where
-    go : walk.Goes p G H n B w → (w .refusal ≡ 0) ⊎ (w .refusal ≡ 10)
-    go (walk.budget k e) = absurd (omega arith)
-    go (walk.no-record k a e) = absurd (a is)
-    go (walk.closed k a c) = inl (c .number)
-    go (walk.spent k a c) = inr (c .number)
+    go : walk.Goes p G H n B w → ⊥
+    go (walk.budget k e) = omega arith
+    go (walk.no-record k a e) = a is
+    go (walk.closed k a c) = f (c .number)
+    go (walk.spent k a c) = g (c .number)
 
 -- ---- one record
 -- of a record that a walk left open: only its steps can make it unfit
@@ -62,13 +61,16 @@ module _ {b : ℕ} (r : WalkRecord) (f : Passed (r .state) → ⊥) (u : Unfit r
   abbrev left : WalkRecord
   left = moved r (w .basis) (w .steps) (w .sum) going
 
-  light : r .sum ≤ 16 * r .steps
-  light = elim (decLe (r .sum) (16 * r .steps)) [ yes l ↦ l | no l ↦ absurd (u (inr (inr (omega arith)))) ]
+  field : Accepted (r .p) (listG r) (listH r)
+  field = walk-tabled (r .p) (listG r) (listH r) b (r .basis) w h .no-closing .0 t .0
+
+  reached : IsRecord (r .p) (listG r) (listH r) (w .basis)
+  reached = walk-reaches (r .p) b (listG r) (listH r) (r .basis) w h (inr t) .is-record
 
   only-steps : Unfit left → most-steps < left .steps
   only-steps (inl (a, g)) = absurd (a refl)
   only-steps (inr (inl l)) = l
-  only-steps (inr (inr l)) = let k = light in let m : w .sum ≤ 16 * w .steps = walks-room w h .sum in absurd (omega arith)
+  only-steps (inr (inr l)) = let k = within r u .1 in let m : w .sum ≤ 16 * w .steps = walks-room w h .sum in absurd (omega arith)
 
   -- taken up again, it is the long walk
   module _ {c : ℕ} (within : b + c ≤ most) (v : WalkAnswer) (k : Walks (r .p) (listG r) (listH r) c (w .basis) v) where
@@ -85,14 +87,7 @@ module _ {b : ℕ} (r : WalkRecord) (f : Passed (r .state) → ⊥) (u : Unfit r
     both-after : {z : WalkRecord} → After left v z → Advances (b + c) r z
     both-after (advance.closed q e) = advance.walked f u _ both-walks (advance.closed q (e ∙ both-moved closed))
     both-after (advance.spent q e) = advance.walked f u _ both-walks (advance.spent q (e ∙ both-moved going))
-    both-after (advance.refused x y e) =
-        let A = walk-tabled (r .p) (listG r) (listH r) b (r .basis) w h .no-closing .0 t .0 in
-        let is = walk-reaches (r .p) b (listG r) (listH r) (r .basis) w h (inr t) .is-record in
-        absurd (neither-of (walks-on v A (omega arith) is k))
-      where
-        neither-of : (v .refusal ≡ 0) ⊎ (v .refusal ≡ 10) → ⊥
-        neither-of (inl q) = x q
-        neither-of (inr q) = y q
+    both-after (advance.refused x y e) = absurd (never-refused v field (omega arith) reached k x y)
 
   both-left : {c : ℕ} {z : WalkRecord} → b + c ≤ most → left .steps ≤ most-steps → Advances c left z → Advances (b + c) r z
   both-left l k (advance.passed s e) = absurd (not-going s refl)
@@ -102,19 +97,11 @@ module _ {b : ℕ} (r : WalkRecord) (f : Passed (r .state) → ⊥) (u : Unfit r
   -- refused next: for its steps, with 14
   next-refused : {c : ℕ} {z : WalkRecord} → c ≤ most → Advances c left z → IsRefusal (z .state) → (most-steps < left .steps) × (z ≡ marked left 14)
   next-refused l (advance.passed s e) x = absurd (not-going s refl)
-  next-refused {z = z} l (advance.unfit g y d) x =
-      let A = walk-tabled (r .p) (listG r) (listH r) b (r .basis) w h .no-closing .0 t .0 in
-      (only-steps y, d .goes (refusal-unique (r .p) (listG r) (listH r) (d .no) 0 (d .first) (accepted-none (r .p) (listG r) (listH r) A)))
-  next-refused {c} {z} l (advance.walked g y v k a) x =
-      let A = walk-tabled (r .p) (listG r) (listH r) b (r .basis) w h .no-closing .0 t .0 in
-      let is = walk-reaches (r .p) b (listG r) (listH r) (r .basis) w h (inr t) .is-record in
-      absurd (case (walks-on v A l is k) a)
-    where
-      case : (v .refusal ≡ 0) ⊎ (v .refusal ≡ 10) → After left v z → ⊥
-      case q (advance.closed n e) = not-closed x (ap state e)
-      case q (advance.spent n e) = not-going (inr x) (ap state e)
-      case (inl q) (advance.refused m n e) = m q
-      case (inr q) (advance.refused m n e) = n q
+  next-refused l (advance.unfit g y d) x =
+      (only-steps y, d .goes (refusal-unique (r .p) (listG r) (listH r) (d .no) 0 (d .first) (accepted-none (r .p) (listG r) (listH r) field)))
+  next-refused l (advance.walked g y v k (advance.closed n e)) x = absurd (not-closed x (ap state e))
+  next-refused l (advance.walked g y v k (advance.spent n e)) x = absurd (not-going (inr x) (ap state e))
+  next-refused l (advance.walked g y v k (advance.refused m n e)) x = absurd (never-refused v field l reached k m n)
 
 -- the number that a walk refused with is a state that is passed over
 refused-passed : {b : ℕ} (r : WalkRecord) {o : WalkRecord} (w : WalkAnswer) → Walks (r .p) (listG r) (listH r) b (r .basis) w → w .refusal ≢ 0 → w .refusal ≢ 10 → o ≡ marked r (w .refusal) →
@@ -170,11 +157,7 @@ module _ {B : List ℕ} {b : ℕ} {r : WalkRecord} (A : Accepted (r .p) (listG r
       let k = walk-reaches (r .p) b (listG r) (listH r) (r .basis) w h (inr t) in
       let m = walk-stays (r .p) b (listG r) (listH r) (r .basis) w h t in
       subst (Stands B) (sym e) (still-open refl (reaches-then reaches k) (stays-then reaches is none k m))
-  after-stands {o} w h (advance.refused f g e) = absurd (case (walks-on w A l (reaches .is-record) h))
-    where
-      case : (w .refusal ≡ 0) ⊎ (w .refusal ≡ 10) → ⊥
-      case (inl q) = f q
-      case (inr q) = g q
+  after-stands w h (advance.refused f g e) = absurd (never-refused w A l (reaches .is-record) h f g)
 
   open-stands : {o : WalkRecord} → r .state ≡ going → r .steps ≤ most-steps → Advances b r o → Stands B o
   open-stands q k (advance.passed s e) = absurd (not-going s q)

@@ -3,10 +3,8 @@
 --   unfit-marked  an unfit one is marked with the number that was found
 use mathlib.Core.Path.{_≡_, ap, _∙_}
 use mathlib.Core.List.{List}
-use mathlib.Core.Logic.{inl, inr}
-use Prim.Native.Nat.{ℕ, _*_, _≤_}
+use Prim.Native.Nat.{ℕ}
 use native.Mathlib.Omega.{arith}
-use native.Mathlib.Decide.{decLe}
 use Rattle.field_open.specs.Door.{Door}
 use Rattle.field_open.proofs.Door.{door-map}
 use Rattle.walk_chain.specs.declared.WalkAnswer.{WalkAnswer}
@@ -14,13 +12,13 @@ use Rattle.walk_chain.specs.Walk.{Walks}
 use Rattle.walk_chain.proofs.Room.{walks-room}
 use Rattle.walk_record.specs.declared.WalkRecord.{WalkRecord}
 use Rattle.walk_record.specs.State.{Passed}
-use Rattle.walk_record.specs.Record.{most-steps, listG, listH, marked, Unfit, MoveAsks}
+use Rattle.walk_record.proofs.States.{within}
+use Rattle.walk_record.specs.Record.{listG, listH, marked, Unfit, MoveAsks}
 use Rattle.door_record.specs.Advance.{Advances, unfit}
 
 pub fits : (r : WalkRecord) {p b : ℕ} {G H B : List ℕ} (w : WalkAnswer) → (Unfit r → ⊥) → Walks p G H b B w → MoveAsks r (w .steps) (w .sum)
 fits r w f h =
-    let a : r .steps ≤ most-steps = elim (decLe (r .steps) most-steps) [ yes l ↦ l | no l ↦ absurd (f (inr (inl (omega arith)))) ] in
-    let s : r .sum ≤ 16 * r .steps = elim (decLe (r .sum) (16 * r .steps)) [ yes l ↦ l | no l ↦ absurd (f (inr (inr (omega arith)))) ] in
+    let (a, s) = within r f in
     let n = walks-room w h .steps in
     let d = walks-room w h .sum in
     record { steps = omega arith; sum = omega arith }

@@ -3,7 +3,7 @@
 --   not-closed   a refusal is not closed
 --   low-refusal  1 to 8 are refusals
 --   none-passed  a number that is passed over by no test
---   fit          a record that no test finds unfit
+--   fit, within  a record that no test finds unfit; the limits that one which is not unfit keeps
 --   counted-within counted-over counted-room   how many entries are read: never more than there are
 use mathlib.Core.Path.{_≡_, ap}
 use mathlib.Core.Bool.{Bool, true, false}
@@ -13,7 +13,8 @@ use native.Mathlib.Omega.{arith}
 use native.Mathlib.Decide.{decLe}
 use borrow.Author.Tests.{le-leb, lt-leb}
 use Rattle.walk_record.specs.State.{going, closed, IsRefusal, Passed, Unknown}
-use Rattle.walk_record.specs.Record.{most-steps, counted}
+use Rattle.walk_record.specs.declared.WalkRecord.{WalkRecord}
+use Rattle.walk_record.specs.Record.{most-steps, counted, Unfit}
 
 pub not-going : {s : ℕ} → Passed s → s ≢ going
 not-going (inl a) e = omega arith
@@ -38,6 +39,12 @@ pub fit : {s n d : ℕ} → s ≡ going → n ≤ most-steps → d ≤ 16 * n �
 fit z l d (inl (f, g)) = f z
 fit z l d (inr (inl k)) = omega arith
 fit z l d (inr (inr k)) = omega arith
+
+pub within : (r : WalkRecord) → (Unfit r → ⊥) → (r .steps ≤ most-steps) × (r .sum ≤ 16 * r .steps)
+within r f = (
+  elim (decLe (r .steps) most-steps) [ yes l ↦ l | no l ↦ absurd (f (inr (inl (omega arith)))) ],
+  elim (decLe (r .sum) (16 * r .steps)) [ yes l ↦ l | no l ↦ absurd (f (inr (inr (omega arith)))) ],
+)
 
 -- ---- how many entries are read
 abbrev if-within : ℕ → Bool → ℕ

@@ -11,7 +11,8 @@ use mathlib.Core.Bool.{Bool, true, false, not}
 use mathlib.Core.List.{List, [], _∷_}
 use Prim.Native.Nat.{ℕ, zero, suc, _+_, _*_, _≤_, _<_, _^_}
 use native.Mathlib.Omega.{arith}
-use native.Mathlib.Nat.{add-zero, add-suc, zero-add, lt-suc-self, lt-irrefl, lt-of-le-of-lt}
+use native.Mathlib.Numerals.{add-one}
+use native.Mathlib.Nat.{add-zero, zero-add, lt-suc-self, lt-irrefl, lt-of-le-of-lt}
 use lib.ListN.{length, getD, set}
 use lib.Dec.{T, ltb, lt→ltb, ltb→lt, lit<, lit≤}
 use lib.WfN.{Nat·lt-wfRel}
@@ -111,9 +112,6 @@ is-within n b t d h = d .no! (fails t (λ a. both t a h))
 -- a number that the code writes down, held to the one that the proof means
 same : (k : ℕ) → k ≡ k
 same k = refl
-
-one-more : (i : ℕ) → i + 1 ≡ suc i
-one-more i = add-suc i zero ∙ ap suc (add-zero i)
 
 left-less : (i t k : ℕ) → i + suc t ≡ k → i < k
 left-less i t k e = omega arith
@@ -252,13 +250,13 @@ module _ {M : Type 1} (𝓤 : URA M) (H : Heap 𝓤) (A : Atoms 𝓤) (W : Given
         -- [the row; _4; _5; _7; _8; _9; _10; _11; the frame]
         assigns-last ! (bin ! (load ! (from ! (stop !)) (look ! 1 refl)) (lit ! tt) (record { fits = next-fits })) (from ! (stop !)) (store ! 1 refl (tt, record { fits = next-fits })) $
         forget ! 2 refl $ forget ! 3 refl $ forget ! 4 refl $ forget ! 5 refl $ forget ! 6 refl $ forget ! 7 refl $
-        rewrite ! 1 (λ (j : ℕ). ‵ (fat fullShare word l₄ 0 (vint w64 j))) (one-more i) refl $ by ! (k z goes))))))
+        rewrite ! 1 (λ (j : ℕ). ‵ (fat fullShare word l₄ 0 (vint w64 j))) (add-one i) refl $ by ! (k z goes))))))
       where
         at-fits : i * 800 < 2 ^ 64
         at-fits = bytes-fit i n (2 ^ 63) (2 ^ 64) less (room .1) (lit≤ tt)
 
         next-fits : i + 1 < 2 ^ 64
-        next-fits = subst (λ (j : ℕ). j < 2 ^ 64) (sym (one-more i)) (lt-of-le-of-lt less (room .0))
+        next-fits = subst (λ (j : ℕ). j < 2 ^ 64) (sym (add-one i)) (lt-of-le-of-lt less (room .0))
 
     -- the turn that leaves the loop, and the rest of the body: the borrow is closed at the list as it is now
     ends : (i : ℕ) (ys : Rs) (X : SProp 𝓤) → i ≡ n → Upto c i xs ys → ent 𝓤 (⋆ 𝓤 H A (At i ys)) (Wp 𝓤 H C Λ En mirs.turn-1 (afterTurn 𝓤 H X Left))
