@@ -1,13 +1,15 @@
 // What every answer is made of. Here a period and a regulator: two kinds of numbers that must never be handed over for each other.
 // In specs/ tests (Decides), tables of refusals (Stage), what a book's answer says (Said) and the limits (Limits), whose tests stand here.
+#![tactic(auto)]
+
 ghost use Rattle.base_answers.specs.Limits.{most, longest, Over, NoSixRows};
 
 // A number of steps.
-#[derive(Drop)]
+#[derive(Clone, Copy)]
 pub struct Period(pub u64);
 
 // A number of half degrees.
-#[derive(Drop)]
+#[derive(Clone, Copy)]
 pub struct Regulator(pub u64);
 
 // Whether a budget is over 1,000,000.

@@ -1,4 +1,6 @@
 // Lists of numbers: pieces of them, trimming, and the test for a list of coefficients, also one with zeros above it.
+#![tactic(auto)]
+
 ghost use Rattle.std.specs.Prelude.{◌≡◌};
 ghost use Rattle.base_lists.specs.Coefficients.{ListLength};
 ghost use Rattle.base_lists.specs.Padding.{Unpadded};

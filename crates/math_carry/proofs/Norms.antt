@@ -8,7 +8,7 @@ use Rattle.math_valued.specs.Degree.{Leads}
 use Rattle.math_valued.proofs.Degree.{cancel}
 use Rattle.math_valued.proofs.Polynomial.{P_path}
 use Rattle.math_ideals.specs.Setting.{Roots, Setting, at}
-use Rattle.math_ideals.specs.Element.{Y, Z, norm}
+use Rattle.math_ideals.specs.Element.{Y, norm}
 use Rattle.math_ideals.proofs.Form.{has_two}
 use Rattle.math_ideals.proofs.Values.{Q, Q_yz, ev_Q}
 use Rattle.math_chain.specs.Convention.{Convention, e0_monic, norm_one, Scaled}

@@ -12,7 +12,7 @@ use Prim.Native.Nat.{ℕ, zero, suc, ◌≤◌, ◌<◌, ◌+◌ as ◌+ⁿ◌}
 use native.Mathlib.Omega.{arith}
 use Rattle.math_ring.proofs.Laws as rg
 use Rattle.math_ring.specs.Ring.{CRing}
-use Rattle.math_ring.proofs.Solve.{var, one, zer, minus, ◌:+◌, ◌:*◌, ◌:=◌, solve, ring₁}
+use Rattle.math_ring.proofs.Solve.{var, zer, minus, ◌:+◌, ◌:*◌, ◌:=◌, solve, ring₁}
 use Rattle.math_valued.specs.Degree.{HasDeg, Has, Lt}
 use Rattle.math_valued.specs.Polynomial.{polys}
 use Rattle.math_valued.proofs.Degree as d

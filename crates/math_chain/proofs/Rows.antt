@@ -27,7 +27,7 @@ use Rattle.math_ideals.proofs.Sizes.{sc_e, two_a, two_b, two_c, three_a}
 use Rattle.math_ideals.proofs.Values.{Q, Q_yz, ev_Q}
 use Rattle.math_ideals.proofs.Form.{has_two, has_three, form_below}
 use Rattle.math_ideals.proofs.Lattice.{in_M, in_N}
-use Rattle.math_ideals.proofs.Norm.{F, F_deg, yz_of, Below, below_of}
+use Rattle.math_ideals.proofs.Norm.{F_deg, yz_of, Below, below_of}
 use Rattle.math_ideals.proofs.Degrees.{Small, small, lt_off}
 use Rattle.math_chain.specs.Chain.{Chain}
 use Rattle.math_chain.specs.Convention.{Convention}

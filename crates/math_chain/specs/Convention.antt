@@ -5,7 +5,7 @@
 --   OneScaling k E   there is exactly one constant s other than 0 for which s E is scaled by k
 -- Theorems, over both conventions (proofs/Scaling): a unit of positive degree has one scaling (`one_scaling`), where each constant has a
 -- cube root, `Cubes`; two scalings of one unit are equal (`scale_unique`).
-use Rattle.std.specs.Prelude.{◌≡◌, ◌≢◌, ℕ, ◌<◌}
+use Rattle.std.specs.Prelude.{◌≡◌, ℕ, ◌<◌}
 use Rattle.math_ring.specs.Ring.{CRing}
 use Rattle.math_valued.specs.Degree.{Has, Leads}
 use Rattle.math_valued.specs.Polynomial.{polys, IsUnit}

@@ -13,7 +13,7 @@ use Prim.Native.Nat.{ℕ, ◌+◌, ◌*◌, ◌-◌, ◌/◌, ◌%◌, ◌<◌}
 use native.Mathlib.Nat.{mod-eq_of_lt, mod-add-div, div-eq_of_eq-mul_right}
 use native.Mathlib.Omega.{arith}
 use native.Mathlib.Decide.{dec_lt}
-use Rattle.math_ring.specs.Ring.{CRing, nat}
+use Rattle.math_ring.specs.Ring.{nat}
 use Rattle.math_ring.proofs.Solve.{var, lit, one, zer, minus, ◌:+◌, ◌:-◌, ◌:*◌, hyp, solve, solve_by}
 use Rattle.math_ring.specs.Power.{pow}
 use Rattle.math_ring.proofs.Power.{pow-suc, pow_add, pow_mul, pow_1}

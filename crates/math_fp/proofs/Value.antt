@@ -7,7 +7,6 @@ use mathlib.Core.Path.{◌≡◌, refl, sym, ap, ◌∙◌}
 use Prim.Native.Nat.{ℕ, suc, ◌+◌, ◌*◌, ◌-◌, ◌%◌, ◌^◌, ◌<◌}
 use native.Mathlib.Nat.{mod-eq_of_lt, mod-lt, mod-mod, mul-one, mul_comm, mul_assoc, pow-suc}
 use native.Mathlib.Omega.{arith}
-use Rattle.math_ring.specs.Ring.{CRing}
 use Rattle.math_ring.specs.Power.{pow}
 use Rattle.math_ring.proofs.Power.{pow_add, mul_pow}
 use Rattle.math_fp.specs.Fp.{F, Prime, cls, pow_mod, third}

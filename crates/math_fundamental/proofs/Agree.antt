@@ -12,7 +12,6 @@ use Rattle.math_valued.specs.Polynomial.{polys, IsUnit}
 use Rattle.math_ideals.specs.Setting.{Setting, P}
 use Rattle.math_ideals.specs.Element.{O, sc, ev, norm}
 use Rattle.math_chain.specs.Convention.{Convention, Scaled}
-use Rattle.math_chain.specs.Unit.{Invertible}
 use Rattle.math_chain.proofs.Scaling.{scaled_out, scale_unique}
 use Rattle.math_fundamental.specs.Smallest.{Least, LeastDegree, Smallest}
 use Rattle.math_fundamental.proofs.Units.{norm_invertible, same_degree}

@@ -81,7 +81,7 @@ module _ (S : Setting) where
   pub form_top : {y z : L.El} {p q : ℕ} {b : K.El} (j : ℕ) → HasDeg 𝓥 y p q → Lead z (j +ⁿ p) q b → (m : ℕ) × HasDeg 𝓥 (form y z) ((m +ⁿ p) +ⁿ (m +ⁿ p)) (q +ⁿ q)
   form_top {y} {z} {p} {q} zero h g = (0, form_has (𝓥.lead_move (0 +ⁿ p) q h.2 (omega arith)) g (inl h.1))
   form_top {y} {z} {p} {q} {b} (suc j) h g = elim (𝓥.field.dec b 0ᵏ) [
-    | yes e ↦ let (c, k) = 𝓥.lead_down (d.lead_eq 𝓥 g refl e) in form_top j h (𝓥.lead_move (j +ⁿ p) q k (omega arith))
+    | yes e ↦ let (c, k) = 𝓥.lead_down (d.lead_eq 𝓥 g refl e) in form_top {b = c} j h (𝓥.lead_move (j +ⁿ p) q k (omega arith))
     | no e ↦ (suc j, form_has (𝓥.lead_up (suc j +ⁿ p) q h.2 (omega arith)) g (inr e))
   ]
 

@@ -19,11 +19,11 @@ use Rattle.math_ring.proofs.Laws as r
 use Rattle.math_ring.proofs.Power.{pow-suc, mul_pow}
 use Rattle.math_ring.proofs.Solve.{var, one, zer, minus, ◌:+◌, ◌:*◌, hyp, solve, solve_by}
 use Rattle.math_laurent.specs.Series.{Ser, tail, cons, up, const_s, mul_s, sops}
-use Rattle.math_laurent.specs.Laurent.{Lau, mk, mk_up, lau_ind, up_add, up_mul, mul_up, lops, const, t}
+use Rattle.math_laurent.specs.Laurent.{Lau, mk, mk_up, lau_ind, up_add, lops, const, t}
 use Rattle.math_laurent.specs.Degree.{coef}
 use Rattle.math_laurent.specs.Polynomial.{IsPoly, poly}
 use Rattle.math_laurent.specs.Derivative.{tilt, D}
-use Rattle.math_laurent.proofs.Series.{up_zero}
+use Rattle.math_laurent.proofs.Series.{up_zero, up_mul, mul_up}
 use Rattle.math_laurent.proofs.Laurent.{laurent, lau_ind2, add_mk, mul_mk, const_mul, const_zero}
 use Rattle.math_laurent.proofs.Coef.{coef_in, coef_out, coef_move, coef_zero}
 use Rattle.math_laurent.proofs.Polynomial.{zero-IsPoly, const-IsPoly, t-IsPoly, add-IsPoly, mul-IsPoly}
@@ -42,6 +42,15 @@ module _ (R : CRing) where
   D_mk : (d : ℕ) (f : Ser R) → D R (mk R d f) ≡ mk R d (up R (tilt R (ν d) f))
   unfolding D
   D_mk d f = refl
+
+  -- tilted by one more, a series that is moved up is the tilted one moved up: so D does not depend on d
+  pub tilt_up : (d : ℕ) (f : Ser R) → up R (tilt R (nat R.ops d) f) ≡ tilt R (nat R.ops (suc d)) (up R f)
+  unfolding cons nat
+  tilt_up d f = fun_ext at
+    where
+      at : (n : ℕ) → up R (tilt R (nat R.ops d) f) n ≡ tilt R (nat R.ops (suc d)) (up R f) n
+      at zero = sym (r.mul-zero R _)
+      at (suc n) = solve R ((var 0 :+ minus (var 1)) :* var 2) ((one :+ var 0 :+ minus (one :+ var 1)) :* var 2) tt (nat R.ops d ∷ nat R.ops n ∷ f n ∷ [])
 
   -- ---- sums and products
   tilt_add : (a : R.El) (f g : Ser R) → tilt R a ((sops R).add f g) ≡ (sops R).add (tilt R a f) (tilt R a g)

@@ -13,7 +13,7 @@ use Rattle.math_ring.specs.Ring.{Laws, CRing, nat}
 use Rattle.math_ring.proofs.Laws as r
 use Rattle.math_laurent.specs.Series.{Ser, cons, zero_s, up, ups, const_s, mul_s, sops}
 use Rattle.math_laurent.specs.Laurent.{Lau, mk, mk_up, lau_ind, add_l, mul_l, neg_l, lops, const, t}
-use Rattle.math_laurent.proofs.Series.{series, slaws, const_mul_at, up_zero, ups_add}
+use Rattle.math_laurent.proofs.Series.{series, slaws, conv_mul, const_mul_at, up_zero, ups_add}
 
 module _ (R : CRing) where
   -- any offset that is larger will do
@@ -29,7 +29,7 @@ module _ (R : CRing) where
   -- ---- the operations
   pub mul_mk : (d : ℕ) (f : Ser R) (e : ℕ) (g : Ser R) → mul_l R (mk R d f) (mk R e g) ≡ mk R (d + e) (mul_s R f g)
   unfolding mul_l
-  mul_mk d f e g = refl
+  mul_mk d f e g = ap (mk R (d + e)) (conv_mul R f g)
 
   pub add_mk : (d : ℕ) (f g : Ser R) → add_l R (mk R d f) (mk R d g) ≡ mk R d ((sops R).add f g)
   unfolding add_l

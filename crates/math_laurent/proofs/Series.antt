@@ -1,6 +1,8 @@
 -- The ring of power series. Each law is one induction on the index, with the series general.
 --   series R     the ring
 --   mul_right    the product's recursion from the right: (f g)(n + 1) = f(n + 1) g(0) + (f · tail g)(n)
+--   conv_mul     so the product of Laurent series is made of the product here
+--   up_mul ..    multiplication by s goes through the product
 --   mul_ends     (f g)(n + 1) = f(0) g(n + 1) + f(n + 1) g(0) + inner f g n, and `inner` asks only for the coefficients 1 .. n
 --   mul_sum      (f g)(n) = Σ f(i) g(n − i) over i ≤ n
 --   mul_local    (f g)(n) asks only for the coefficients 0 .. n
@@ -13,8 +15,8 @@ use native.Mathlib.Nat as N
 use native.Mathlib.Omega.{arith}
 use Rattle.math_ring.specs.Ring.{Laws, CRing}
 use Rattle.math_ring.proofs.Laws as r
-use Rattle.math_laurent.specs.Series.{Ser, tail, after, cons, zero_s, up, ups, const_s, scale_s, keep, mul_s, sops}
-use Rattle.math_laurent.specs.Laurent.{up_add, up_mul, mul_up}
+use Rattle.math_laurent.specs.Series.{Ser, tail, after, cons, zero_s, up, ups, const_s, scale_s, keep, mul_s, conv, sops}
+use Rattle.math_laurent.specs.Laurent.{up_add}
 
 module _ (R : CRing) where
   open R.ops use {add as ◌+◌, mul as ◌*◌, neg as -◌, 𝟎, 𝟏}
@@ -57,6 +59,35 @@ module _ (R : CRing) where
   pub mul_right : (f g : Ser R) (n : ℕ) → mul_s R f g (suc n) ≡ f (suc n) * g 0 + mul_s R f (tail g) n
   mul_right f g zero = rw (mul_next f g 0, mul_first (tail f) g, mul_first f (tail g)) (add_comm _ _)
   mul_right f g (suc n) = rw (mul_next f g (suc n), mul_right (tail f) g n, mul_next f (tail g) n) (r.add_left_comm R _ _ _)
+
+  pub conv_mul : (f g : Ser R) → conv R f g ≡ mul_s R f g
+  unfolding conv
+  conv_mul f g = fun_ext (at f g)
+    where
+      at : (f g : Ser R) (n : ℕ) → conv R f g n ≡ mul_s R f g n
+      at f g zero = sym (mul_first f g)
+      at f g (suc n) = ap (◌+◌ (f (suc n) * g 0)) (at f (tail g) n) ∙ sym (mul_right f g n)
+
+  pub up_mul : (f g : Ser R) → mul_s R (up R f) g ≡ up R (mul_s R f g)
+  unfolding cons mul_s
+  up_mul f g = fun_ext at
+    where
+      at : (n : ℕ) → mul_s R (up R f) g n ≡ up R (mul_s R f g) n
+      at zero = r.zero_mul' R (g 0)
+      at (suc n) = ap (λ x. R.ops.add x (mul_s R f g n)) (r.zero_mul' R (g (suc n))) ∙ r.zero_add' R (mul_s R f g n)
+
+  mul_up_at : (f g : Ser R) (n : ℕ) → mul_s R f (up R g) (suc n) ≡ mul_s R f g n
+  unfolding cons mul_s
+  mul_up_at f g zero = ap (R.ops.add (R.ops.mul (f 0) (g 0))) (r.mul-zero R (f 1)) ∙ R.laws.add-zero (R.ops.mul (f 0) (g 0))
+  mul_up_at f g (suc n) = ap (R.ops.add (R.ops.mul (f 0) (g (suc n)))) (mul_up_at (tail f) g n)
+
+  pub mul_up : (f g : Ser R) → mul_s R f (up R g) ≡ up R (mul_s R f g)
+  unfolding cons mul_s
+  mul_up f g = fun_ext at
+    where
+      at : (n : ℕ) → mul_s R f (up R g) n ≡ up R (mul_s R f g) n
+      at zero = r.mul-zero R (f 0)
+      at (suc n) = mul_up_at f g n
 
   mul_comm_at : (f g : Ser R) (n : ℕ) → mul_s R f g n ≡ mul_s R g f n
   mul_comm_at f g zero = simp (mul_first, mul_comm)
@@ -186,8 +217,8 @@ module _ (R : CRing) where
   pub ups_mul : (m n : ℕ) (f g : Ser R) → mul_s R (ups R m f) (ups R n g) ≡ ups R (Nt.◌+◌ m n) (mul_s R f g)
   unfolding ups
   ups_mul zero zero f g = refl
-  ups_mul zero (suc n) f g = mul_up R f (ups R n g) ∙ ap (up R) (ups_mul zero n f g) ∙ ap (λ z. ups R z (mul_s R f g)) (sym (N.add-suc 0 n))
-  ups_mul (suc m) n f g = up_mul R (ups R m f) (ups R n g) ∙ ap (up R) (ups_mul m n f g) ∙ ap (λ z. ups R z (mul_s R f g)) (sym (N.suc-add m n))
+  ups_mul zero (suc n) f g = mul_up f (ups R n g) ∙ ap (up R) (ups_mul zero n f g) ∙ ap (λ z. ups R z (mul_s R f g)) (sym (N.add-suc 0 n))
+  ups_mul (suc m) n f g = up_mul (ups R m f) (ups R n g) ∙ ap (up R) (ups_mul m n f g) ∙ ap (λ z. ups R z (mul_s R f g)) (sym (N.suc-add m n))
 
   pub ups_inj : (n : ℕ) (f g : Ser R) → ups R n f ≡ ups R n g → f ≡ g
   ups_inj n f g e = fun_ext (λ i. sym (ups_high n i f) ∙ ap (λ h. h (Nt.◌+◌ n i)) e ∙ ups_high n i g)

@@ -22,14 +22,12 @@ module _ (R : CRing) where
   abbrev pub tilt : R.El → Ser R → Ser R
   tilt a f = λ i. (a + - nat R.ops i) * f i
 
-  pub tilt_up : (d : ℕ) (f : Ser R) → up R (tilt (nat R.ops d) f) ≡ tilt (nat R.ops (suc d)) (up R f)
-  unfolding cons nat
-  tilt_up d f = fun_ext at
-    where
-      at : (n : ℕ) → up R (tilt (nat R.ops d) f) n ≡ tilt (nat R.ops (suc d)) (up R f) n
-      at zero = sym (r.mul-zero R _)
-      at (suc n) = solve R ((var 0 :+ minus (var 1)) :* var 2) ((one :+ var 0 :+ minus (one :+ var 1)) :* var 2) tt (nat R.ops d ∷ nat R.ops n ∷ f n ∷ [])
-
+  -- the value does not depend on d, since tilted by one more a series that is moved up is the tilted one moved up: `tilt_up` in proofs/Derivative
   unfoldable pub D : Lau R → Lau R
+  unfolding cons nat
   D = lau_rec R Quot-set (λ d f. mk R d (up R (tilt (nat R.ops d) f)))
-      (λ d f. mk_up R d (up R (tilt (nat R.ops d) f)) ∙ ap (λ g. mk R (suc d) (up R g)) (tilt_up d f))
+      (λ d f. mk_up R d (up R (tilt (nat R.ops d) f)) ∙ ap (λ g. mk R (suc d) (up R g)) (fun_ext (at d f)))
+    where
+      at : (d : ℕ) (f : Ser R) (n : ℕ) → up R (tilt (nat R.ops d) f) n ≡ tilt (nat R.ops (suc d)) (up R f) n
+      at d f zero = sym (r.mul-zero R _)
+      at d f (suc n) = solve R ((var 0 :+ minus (var 1)) :* var 2) ((one :+ var 0 :+ minus (one :+ var 1)) :* var 2) tt (nat R.ops d ∷ nat R.ops n ∷ f n ∷ [])

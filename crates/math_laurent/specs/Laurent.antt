@@ -9,13 +9,12 @@ use Rattle.std.specs.Prelude.{◌≡◌}
 use Rattle.std.proofs.Math.Path.{refl, sym, ap, ap₂, fun_ext}
 use Rattle.std.proofs.Common.{◌∙◌}
 use mathlib.Core.HLevel.{→_set}
-use mathlib.Core.Quot
 use mathlib.Core.Quot.{Quot, sound, Quot-set, lift, ind}
 use Prim.Native.Nat.{ℕ, zero, suc, ◌+◌}
 use Rattle.std.proofs.Math.Nat as N
 use Rattle.math_ring.specs.Ring.{Ops, CRing}
 use Rattle.math_ring.proofs.Laws as r
-use Rattle.math_laurent.specs.Series.{Ser, tail, cons, up, ups, const_s, zero_s, mul_s, sops}
+use Rattle.math_laurent.specs.Series.{Ser, tail, cons, up, ups, const_s, zero_s, conv, sops}
 
 module _ (R : CRing) where
   abbrev pub Step : ℕ × Ser R → ℕ × Ser R → Type 0
@@ -66,26 +65,26 @@ module _ (R : CRing) where
       at zero = sym (r.neg_zero R)
       at (suc n) = refl
 
-  pub up_mul : (f g : Ser R) → mul_s R (up R f) g ≡ up R (mul_s R f g)
-  unfolding cons mul_s
-  up_mul f g = fun_ext at
+  up_conv_at : (f g : Ser R) (n : ℕ) → conv R (up R f) g (suc n) ≡ conv R f g n
+  unfolding cons conv
+  up_conv_at f g zero = ap (R.ops.add (R.ops.mul (f 0) (g 0))) (r.zero_mul' R (g 1)) ∙ R.laws.add-zero (R.ops.mul (f 0) (g 0))
+  up_conv_at f g (suc n) = ap (R.ops.add (R.ops.mul (f (suc n)) (g 0))) (up_conv_at f (tail g) n)
+
+  pub up_conv : (f g : Ser R) → conv R (up R f) g ≡ up R (conv R f g)
+  unfolding cons conv
+  up_conv f g = fun_ext at
     where
-      at : (n : ℕ) → mul_s R (up R f) g n ≡ up R (mul_s R f g) n
+      at : (n : ℕ) → conv R (up R f) g n ≡ up R (conv R f g) n
       at zero = r.zero_mul' R (g 0)
-      at (suc n) = ap (λ x. R.ops.add x (mul_s R f g n)) (r.zero_mul' R (g (suc n))) ∙ r.zero_add' R (mul_s R f g n)
+      at (suc n) = up_conv_at f g n
 
-  mul_up_at : (f g : Ser R) (n : ℕ) → mul_s R f (up R g) (suc n) ≡ mul_s R f g n
-  unfolding cons mul_s
-  mul_up_at f g zero = ap (R.ops.add (R.ops.mul (f 0) (g 0))) (r.mul-zero R (f 1)) ∙ R.laws.add-zero (R.ops.mul (f 0) (g 0))
-  mul_up_at f g (suc n) = ap (R.ops.add (R.ops.mul (f 0) (g (suc n)))) (mul_up_at (tail f) g n)
-
-  pub mul_up : (f g : Ser R) → mul_s R f (up R g) ≡ up R (mul_s R f g)
-  unfolding cons mul_s
-  mul_up f g = fun_ext at
+  pub conv_up : (f g : Ser R) → conv R f (up R g) ≡ up R (conv R f g)
+  unfolding cons conv
+  conv_up f g = fun_ext at
     where
-      at : (n : ℕ) → mul_s R f (up R g) n ≡ up R (mul_s R f g) n
+      at : (n : ℕ) → conv R f (up R g) n ≡ up R (conv R f g) n
       at zero = r.mul-zero R (f 0)
-      at (suc n) = mul_up_at f g n
+      at (suc n) = ap (λ x. R.ops.add x (conv R f g n)) (r.mul-zero R (f (suc n))) ∙ r.zero_add' R (conv R f g n)
 
   -- ---- the operations
   pub add_left : (d : ℕ) (f : Ser R) (e : ℕ) (g : Ser R)
@@ -102,9 +101,9 @@ module _ (R : CRing) where
   add_l = lau_rec2 Quot-set (λ d f e g. mk (d + e) ((sops R).add (ups R e f) (ups R d g))) add_left add_right
 
   unfoldable pub mul_l : Lau → Lau → Lau
-  mul_l = lau_rec2 Quot-set (λ d f e g. mk (d + e) (mul_s R f g))
-      (λ d f e g. mk_up _ _ ∙ ap₂ mk (sym (N.suc-add d e)) (sym (up_mul f g)))
-      (λ d f e g. mk_up _ _ ∙ ap₂ mk (sym (N.add-suc d e)) (sym (mul_up f g)))
+  mul_l = lau_rec2 Quot-set (λ d f e g. mk (d + e) (conv R f g))
+      (λ d f e g. mk_up _ _ ∙ ap₂ mk (sym (N.suc-add d e)) (sym (up_conv f g)))
+      (λ d f e g. mk_up _ _ ∙ ap₂ mk (sym (N.add-suc d e)) (sym (conv_up f g)))
 
   unfoldable pub neg_l : Lau → Lau
   neg_l = lau_rec Quot-set (λ d f. mk d ((sops R).neg f)) (λ d f. mk_up _ _ ∙ ap (mk (suc d)) (up_neg f))

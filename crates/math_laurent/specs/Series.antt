@@ -7,7 +7,9 @@
 --   scale_s a f  a f
 --   keep n f    the first n coefficients of f, zeros after them
 --   mul_s f g    the product, by recursion on the index: (f g)(0) = f(0) g(0), (f g)(n + 1) = f(0) g(n + 1) + (tail f · g)(n)
+--   conv f g    the same product by recursion from the right: (f g)(0) = f(0) g(0), (f g)(n + 1) = f(n + 1) g(0) + (f · tail g)(n)
 --   sops R      the operations of the ring of series
+-- The Laurent series take `conv`, the ring of power series takes `mul_s`, and `conv_mul` in proofs/Series says that the two are one.
 -- In proofs/Series: the laws of a ring (`series R`), the product as a sum Σ f(i) g(n − i), and which coefficients a product asks for.
 use Rattle.std.specs.Prelude.{ℕ, zero, suc}
 use Rattle.math_ring.specs.Ring.{Ops, CRing}
@@ -55,6 +57,10 @@ module _ (R : CRing) where
   unfoldable pub mul_s : Ser → Ser → Ser
   mul_s f g zero = f 0 * g 0
   mul_s f g (suc n) = f 0 * g (suc n) + mul_s (tail f) g n
+
+  unfoldable pub conv : Ser → Ser → Ser
+  conv f g zero = f 0 * g 0
+  conv f g (suc n) = f (suc n) * g 0 + conv f (tail g) n
 
   abbrev pub sops : Ops Ser
   sops = record {

@@ -1,7 +1,7 @@
 -- Powers in a commutative ring, the binomial theorem, and Frobenius: (x + y)^p = x^p + y^p wherever p, and with it every
 -- C(p, k) strictly inside the row, is 0. Assumes nothing.
 use mathlib.Core.Path.{◌≡◌, refl, sym, ap, ap₂, ◌∙◌}
-use mathlib.Core.List.{List, [], ◌∷◌}
+use mathlib.Core.List.{[], ◌∷◌}
 use Prim.Native.Nat.{ℕ, zero, suc, ◌<◌, ◌≤◌}
 use Prim.Native.Nat as N
 use native.Mathlib.Nat as M

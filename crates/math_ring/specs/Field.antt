@@ -1,6 +1,6 @@
 -- A discrete field: a commutative ring whose equality is decided, where what is not 0 has an inverse.
 use Rattle.std.specs.Prelude.{◌≡◌, ◌≢◌}
-use Rattle.math_ring.specs.Ring.{Ops, CRing}
+use Rattle.math_ring.specs.Ring.{CRing}
 
 pub record Field (R : CRing) : Type 0 where
   pub dec : Discrete R.El

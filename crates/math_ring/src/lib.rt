@@ -1,1 +1,2 @@
 // Mathematics alone: commutative rings, and the solver of their identities.
+#![tactic(auto)]

@@ -13,7 +13,7 @@ use Prim.Native.Nat as N
 use native.Mathlib.Nat.{mod-eq_of_lt}
 use native.Mathlib.Omega.{arith}
 use Rattle.math_ring.proofs.Laws as r
-use Rattle.math_ring.specs.Ring.{CRing, nat}
+use Rattle.math_ring.specs.Ring.{nat}
 use Rattle.math_fp.specs.Fp.{F, Prime}
 use Rattle.math_fp.proofs.Ring.{F_path}
 use Rattle.math_fp.proofs.Field.{Fld, ppos}

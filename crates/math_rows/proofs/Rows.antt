@@ -5,12 +5,11 @@ use mathlib.Core.Logic.{◌≢◌}
 use mathlib.Core.List.{List, [], ◌∷◌}
 use Prim.Native.Nat.{ℕ, zero, suc, ◌≤◌, ◌<◌, ◌%◌}
 use Prim.Native.Nat as N
-use native.Mathlib.Nat.{mod_self, zero-add, add-zero, suc-add}
+use native.Mathlib.Nat.{mod_self, zero-add, suc-add}
 use native.Mathlib.Omega.{arith}
 use native.Mathlib.Decide.{dec_le}
 use lib.ListN.{length, get_or, get_or-eq_default}
 use Rattle.math_ring.proofs.Laws as r
-use Rattle.math_ring.specs.Ring.{CRing}
 use Rattle.math_ring.proofs.Solve.{var, one, zer, minus, ◌:+◌, ◌:*◌, solve}
 use Rattle.math_valued.specs.Degree.{Has, Lt}
 use Rattle.math_valued.proofs.Degree.{lead_eq, lt_add, lt_up, above}

@@ -1,12 +1,11 @@
 -- The combination s x − c t^k y, the turn of a reduction, on leading terms. No row and no list is named here.
 use mathlib.Core.Path.{◌≡◌, refl}
 use mathlib.Core.Logic.{◌≢◌}
-use mathlib.Core.List.{List, [], ◌∷◌}
+use mathlib.Core.List.{[], ◌∷◌}
 use Prim.Native.Nat.{ℕ}
 use Prim.Native.Nat as N
 use native.Mathlib.Omega.{arith}
 use Rattle.math_ring.proofs.Laws as r
-use Rattle.math_ring.specs.Ring.{CRing}
 use Rattle.math_ring.proofs.Solve.{var, zer, minus, ◌:+◌, ◌:*◌, solve}
 use Rattle.math_valued.specs.Degree.{Has, Lt}
 use Rattle.math_valued.proofs.Degree.{k_domain, lead_eq, lt_add, lt_neg, has_lt}

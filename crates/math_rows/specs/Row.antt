@@ -12,7 +12,6 @@ use Rattle.std.specs.Prelude.{◌≡◌, List, ℕ, zero, suc, ◌<◌, length, 
 use Prim.Native.Nat as N
 unfoldable pub use Rattle.base_lists.specs.Pieces.{tab}
 pub use Rattle.base_lists.specs.Coefficients.{Size}
-use Rattle.math_ring.specs.Ring.{CRing}
 use Rattle.math_valued.specs.Degree.{Lt}
 use Rattle.math_rows.specs.Reading.{Reading}
 

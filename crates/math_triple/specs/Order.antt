@@ -1,6 +1,6 @@
 -- The triples are a commutative ring themselves, over any commutative ring R with any G and H: every law by the solver.
 use Rattle.math_ring.specs.Ring.{Ops, Laws, CRing}
-use Rattle.math_ring.proofs.Solve.{Expr, exprs}
+use Rattle.math_ring.proofs.Solve.{exprs}
 use Rattle.math_triple.specs.Tri.{Tri, Tri-set, mul_t, env, solve₃, G, H, X, Y, Z}
 
 -- the operations, over any operations

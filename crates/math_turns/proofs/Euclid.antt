@@ -2,16 +2,15 @@
 -- x := s x − c t^k y with s ≠ 0 keep it, and where y = 0 the polynomial x is a greatest common divisor of a and b.
 use mathlib.Core.Path.{◌≡◌, ap, ◌∙◌}
 use mathlib.Core.Logic.{◌≢◌}
-use mathlib.Core.List.{List, [], ◌∷◌}
+use mathlib.Core.List.{[], ◌∷◌}
 use Prim.Native.Nat.{ℕ}
-use Rattle.math_ring.specs.Ring.{CRing}
 use Rattle.math_ring.proofs.Solve.{var, zer, minus, ◌:+◌, ◌:*◌, solve}
-use Rattle.math_valued.specs.Polynomial.{Poly, Divides}
+use Rattle.math_valued.specs.Polynomial.{Poly}
 use Rattle.math_valued.specs.Gcd.{IsGcd}
 use Rattle.math_valued.proofs.Polynomial.{P_path}
 use Rattle.math_rows.specs.Reading.{Reading}
 use Rattle.math_rows.specs.Row.{tpow, comb}
-use Rattle.math_turns.specs.Points.{Pt, Turned, Moved}
+use Rattle.math_turns.specs.Points.{Pt, Moved}
 use Rattle.math_turns.proofs.Turn.{moved_start, moved_swap, moved_turn, moved_back}
 
 module _ {p : ℕ} (ρ : Reading p) where

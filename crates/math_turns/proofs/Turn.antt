@@ -7,12 +7,12 @@
 use mathlib.Core.Path.{◌≡◌, refl, sym, ap, ap₂, ◌∙◌}
 use mathlib.Core.Logic.{◌≢◌}
 use mathlib.Core.Bool.{Bool, true, false}
-use mathlib.Core.List.{List, [], ◌∷◌}
+use mathlib.Core.List.{[], ◌∷◌}
 use Prim.Native.Nat.{ℕ, zero, suc, ◌≤◌, ◌<◌}
 use Prim.Native.Nat as N
 use native.Mathlib.Omega.{arith}
 use native.Mathlib.Decide.{dec_le}
-use Rattle.math_ring.specs.Ring.{CRing, Hom}
+use Rattle.math_ring.specs.Ring.{Hom}
 use Rattle.math_ring.proofs.Solve.{var, one, minus, ◌:+◌, ◌:*◌, hyp, solve, solve_by}
 use Rattle.math_triple.proofs.Pairs.{changed_start, changed_swap, changed_mix, changed_scale, changed_then, changed_back, changed_det}
 use Rattle.math_valued.specs.Degree.{Has, Lt}

@@ -8,7 +8,6 @@
 --                         the two pairs have one span over the polynomials
 -- What a turn does to degrees, and that `Moved` is an equivalence, is in proofs/Turn.antt.
 use Rattle.std.specs.Prelude.{◌≡◌, Bool, true, false, ℕ}
-use Rattle.math_ring.specs.Ring.{CRing}
 use Rattle.math_triple.specs.Sizes.{size_x, size_y}
 use Rattle.math_triple.specs.Pairs.{Changed}
 use Rattle.math_valued.specs.Polynomial.{polys}

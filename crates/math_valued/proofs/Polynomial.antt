@@ -116,8 +116,8 @@ module _ (𝓥 : Valued) where
   -- the polynomial c that brings x + c y below y
   pub divide : {x y : L.El} {p q : ℕ} {a : K.El} (j : ℕ) → Lead x (j +ⁿ p) q a → HasDeg 𝓥 y p q → (c : Poly 𝓥) × Lead (x + c.0 * y) p q 0ᵏ
   divide {p = p} {q = q} zero h g = let (k, l) = one_term 0 h g in (mono 0 k, 𝓥.lead_move p q l (omega arith))
-  divide {x} {y} {p} {q} (suc j) h g =
+  divide {x} {y} {p} {q} {a} (suc j) h g =
       let (k, l) = one_term (suc j) h g in
       let (a', l') = 𝓥.lead_down l in
-      let (c, l'') = divide j (𝓥.lead_move (j +ⁿ p) q l' (omega arith)) g in
+      let (c, l'') = divide {x = x + (mono (suc j) k).0 * y} j (𝓥.lead_move (j +ⁿ p) q l' (omega arith)) g in
       (mono (suc j) k ⊞ c, d.lead_eq 𝓥 l'' (ring₄ L (λ z c c' y. z :+ c :* y :+ c' :* y := z :+ (c :+ c') :* y) tt x (mono (suc j) k).0 c.0 y) refl)

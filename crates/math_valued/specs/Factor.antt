@@ -4,7 +4,6 @@
 --   CommonFactor a b   some non-constant d divides a and b
 -- For a polynomial that is not 0, to have no square factor is `Squarefree`, and to have no common factor is `Coprime`: proofs/Factor.antt.
 use Rattle.std.specs.Prelude.{ℕ, suc}
-use Rattle.math_ring.specs.Ring.{CRing}
 use Rattle.math_valued.specs.Val.{Valued}
 use Rattle.math_valued.specs.Degree.{Has}
 use Rattle.math_valued.specs.Polynomial.{polys, Poly, Divides}

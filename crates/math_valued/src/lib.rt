@@ -1,1 +1,2 @@
 // Mathematics alone: a ring of series with leading coefficients, its degrees and its polynomials.
+#![tactic(auto)]

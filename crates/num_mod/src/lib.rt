@@ -1,11 +1,13 @@
 // Numbers mod p for every p with 1 < p < 2^31: products of two residues fit 64 bits. A modulus is prepared once, so that remainders below
 // 2^16 cost a multiplication in place of a division. specs/Prepared.antt and specs/Residue.antt have the contracts.
+#![tactic(auto)]
+
 ghost use Rattle.std.specs.Prelude.{◌≡◌, ◌+◌, ◌*◌, ◌-◌, ◌%◌, ◌<◌, ◌≤◌};
 ghost use Rattle.num_mod.specs.Residue.{IsModulus};
 ghost use Rattle.num_mod.specs.Prepared.{Scale, Quick, Prepared, PreparedOf, ReduceOnceAsks, AddProductAsks, Added};
 
 // A modulus p with what its remainders need: below lim, one multiplication by m finds a remainder.
-#[derive(Drop)]
+#[derive(Clone, Copy)]
 pub struct Modulus {
     pub p: u64,
     pub m: u64,

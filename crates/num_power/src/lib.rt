@@ -1,4 +1,6 @@
 // Products, powers, inverses and cube roots mod p, for p below 2^31: products of two residues fit 64 bits. specs/Powers.antt has the contracts.
+#![tactic(auto)]
+
 ghost use Rattle.std.specs.Prelude.{◌≡◌, ◌*◌, ◌%◌};
 ghost use Rattle.math_fp.specs.Fp.{pow_mod};
 ghost use Rattle.num_power.specs.Powers.{One, Two, Nonzero, Rooted, Inverse, CubeRoot};

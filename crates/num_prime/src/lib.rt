@@ -1,4 +1,6 @@
 // The prime test, by the 54 primes below 256. specs/Table.antt has the table and the contract.
+#![tactic(auto)]
+
 ghost use Rattle.std.specs.Prelude.{◌≡◌, ◌<◌, get_or};
 ghost use Rattle.num_prime.specs.Table.{primes, PrimeTest};
 
