@@ -1,4 +1,6 @@
 // Four polynomials and their determinant without what the four have in common, in place.
+#![tactic(auto)]
+
 ghost use Rattle.poly_content.specs.Common.{ContentAsks, Content, four, ShortenAsks, Shortened, WithoutContentAsks, Taken};
 
 use num_mod::Modulus;
@@ -35,7 +37,7 @@ fn shorten(q: Modulus, x: &mut [u64; 32], n: usize, k: &[u64; 32], m: usize, il:
 }
 
 // The degree of what was taken off, and the length of the determinant.
-#[derive(Drop)]
+#[derive(Clone, Copy)]
 pub struct Off {
     pub cut: usize,
     pub d: usize,

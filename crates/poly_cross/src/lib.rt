@@ -1,4 +1,6 @@
 // Rows of crate poly_rows turned in place: multiplied by a number, or crossed with another row.
+#![tactic(auto)]
+
 ghost use Rattle.std.specs.Prelude.{◌≡◌, ◌+◌, ◌*◌, ◌-◌, ◌%◌, ◌<◌, ◌≤◌};
 ghost use Rattle.math_rows.specs.Row.{shift_at};
 ghost use Rattle.poly_cross.specs.Cross.{ScaleInAsks, ScaleInGives, CrossInAsks, CrossInGives};

@@ -3,10 +3,7 @@
 --   less_in        LessInGives: r − x y and its length
 --   divide_in      DivideInGives: quotient and remainder (`Divided` of crate poly_rows) and their lengths
 use Rattle.std.specs.Prelude.{◌≡◌, List, ℕ, replicate}
-use Rattle.math_ring.specs.Ring.{Ops, CRing}
 use Rattle.math_fp.specs.Fp.{Prime}
-use Rattle.math_valued.specs.Val.{Valued}
-use Rattle.math_rows.specs.Reading.{Reading}
 use Rattle.math_rows.specs.Made.{reading}
 use Rattle.math_rows.specs.Row.{Row, Size, row}
 use Rattle.num_mod.specs.Prepared.{Prepared}

@@ -1,4 +1,6 @@
 // Quotients and remainders of rows whose trimmed lengths are known, in lent rows. specs/Divide.antt has the contracts.
+#![tactic(auto)]
+
 ghost use Rattle.poly_lent.specs.Sized.{MixAsks};
 ghost use Rattle.poly_divide.specs.Divide.{QuotientAsks, QuotientInGives, LessInGives, DivideInGives};
 
@@ -46,7 +48,7 @@ pub fn less_in(
 }
 
 // The lengths of a quotient and of a remainder.
-#[derive(Drop)]
+#[derive(Clone, Copy)]
 pub struct Halves {
     pub q: usize,
     pub r: usize,

@@ -1,5 +1,7 @@
 // Greatest common divisors of rows of 32 coefficients by Euclid. p is prime.
 // Euclid works in two lent rows: the longer loses its leading term in place, so that no row is copied or exchanged.
+#![tactic(auto)]
+
 ghost use Rattle.poly_euclid.specs.Euclid.{GcdAsks, Common, LoweredAsks, Lowered, Found};
 
 use num_mod::Modulus;
@@ -20,7 +22,7 @@ fn lowered(q: Modulus, x: &mut Row, n: usize, y: &Row, m: usize) -> usize
 }
 
 // Where Euclid ended: whether the divisor is in the second row, and how many terms it has.
-#[derive(Drop)]
+#[derive(Clone, Copy)]
 pub struct Divisor {
     pub second: bool,
     pub terms: usize,

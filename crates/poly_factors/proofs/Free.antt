@@ -7,11 +7,8 @@ use mathlib.Core.Bool.{Bool, true, false, true≢false}
 use mathlib.Core.List.{List}
 use Prim.Native.Nat.{ℕ}
 use Rattle.math_fp.specs.Fp.{Prime}
-use Rattle.math_valued.specs.Polynomial.{Squarefree}
 use Rattle.math_valued.specs.Factor.{SquareFactor}
-use Rattle.math_valued.specs.Val.{Valued}
 use Rattle.math_valued.proofs.Factor.{free_no_square}
-use Rattle.math_rows.specs.Reading.{Reading}
 use Rattle.math_rows.specs.Made.{reading}
 use Rattle.poly_rows.specs.Polynomial.{polynomial}
 use Rattle.poly_factors.specs.Factors.{SquareTest, FreeTest}

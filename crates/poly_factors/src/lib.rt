@@ -1,4 +1,6 @@
 // The tests that a greatest common divisor of rows of 32 coefficients decides: squarefree, coprime. p is prime.
+#![tactic(auto)]
+
 ghost use Rattle.poly_rows.specs.Leaf.{Given};
 ghost use Rattle.poly_factors.specs.Factors.{DeriveAsks, Derived, OverBoth, SquareTest, FreeTest, CoprimeTest};
 

@@ -11,9 +11,7 @@ use Prim.Native.Nat.{ℕ, ◌+◌, ◌%◌, ◌<◌, ◌≤◌}
 use native.Mathlib.Nat.{mod-eq_of_lt, zero-mod}
 use native.Mathlib.Omega.{arith}
 use lib.ListN.{length, get_or, replicate}
-use Rattle.math_ring.specs.Ring.{Ops, CRing}
 use Rattle.math_ring.proofs.Laws as laws
-use Rattle.math_valued.specs.Val.{Valued}
 use Rattle.num_mod.specs.declared.Modulus.{Modulus}
 use Rattle.num_mod.proofs.Prepared.{bare}
 use Rattle.math_rows.specs.Reading.{Reading}

@@ -1,5 +1,7 @@
 // Products of rows whose trimmed lengths are known, into lent rows: sums by crate poly_sums, each reduced once. specs/Sized.antt has the
 // contracts.
+#![tactic(auto)]
+
 ghost use Rattle.poly_lent.specs.Sized.{ReachAsks, Reach, MixAsks, Mixed, BothInAsks, BothInGives, TimesInAsks, TimesInGives, DetInAsks, DetInGives};
 
 use num_mod::Modulus;

@@ -14,9 +14,8 @@ use native.Mathlib.Decide.{dec_lt}
 use lib.ListN.{length, get_or, get_or-eq_default}
 use Rattle.math_ring.proofs.Laws as r
 use Rattle.math_ring.proofs.Solve.{var, one, zer, minus, ◌:+◌, ◌:*◌, solve}
-use Rattle.math_valued.specs.Degree.{Lt, Has}
+use Rattle.math_valued.specs.Degree.{Lt}
 use Rattle.math_valued.proofs.Degree.{lt_eq, lt_add, lt_neg, lt_mul, lt_up, lt_cancel}
-use Rattle.math_fp.specs.Fp.{Prime}
 use Rattle.math_rows.specs.Reading.{Reading}
 use Rattle.math_rows.specs.Made.{reading}
 use Rattle.math_rows.specs.Row.{tab, tpow, psum, coefs, row}

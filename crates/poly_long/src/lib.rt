@@ -1,5 +1,7 @@
 // Long polynomials: lent slices of stored coefficients, lowest first. The contracts speak of the polynomial that a slice stands for
 // (`row` of crate math_rows); specs/Long.antt has them.
+#![tactic(auto)]
+
 ghost use Rattle.std.specs.Prelude.{◌≡◌, ◌+◌, ◌*◌, ◌-◌, ◌%◌, ◌<◌, ◌≤◌, length, get_or, replicate};
 ghost use Rattle.math_rows.specs.Row.{Size};
 ghost use Rattle.poly_long.specs.Long.{ScaleAsks, Scaled, Stored};

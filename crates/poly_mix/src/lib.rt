@@ -1,5 +1,7 @@
 // Sums of products of long polynomials (crate poly_long), up to 65,536 coefficients. A sum of 65,536 products of stored coefficients fits
 // 64 bits, so each coefficient handed out costs one remainder. specs/Mixing.antt has the contracts.
+#![tactic(auto)]
+
 ghost use Rattle.poly_mix.specs.Mixing.{SumAtAsks, SumAt, MixAsks, Mixed};
 
 use poly_long::size;

@@ -1,4 +1,6 @@
 // Products of long polynomials (crate poly_long), up to 65,536 coefficients. specs/Products.antt has the contract.
+#![tactic(auto)]
+
 ghost use Rattle.poly_products.specs.Products.{TimesAsks, Times};
 
 use poly_mix::mix;

@@ -3,7 +3,6 @@
 --   quotient   Quotient   the quotient of a x + b y + c z by a monic u, where it exists and fits
 use Rattle.std.specs.Prelude.{◌≡◌, List, ℕ, ◌+◌, ◌-◌, ◌%◌, ◌<◌, ◌≤◌, length, get_or}
 use Rattle.math_fp.specs.Fp.{Prime}
-use Rattle.math_rows.specs.Reading.{Reading}
 use Rattle.math_rows.specs.Made.{reading}
 use Rattle.math_rows.specs.Row.{row}
 use Rattle.math_rows.specs.Sum.{sum_to, term_at}

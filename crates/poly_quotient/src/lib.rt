@@ -1,4 +1,6 @@
 // Quotients of long polynomials (crate poly_long), each coefficient from a sum of crate poly_mix. specs/Quotients.antt has the contracts.
+#![tactic(auto)]
+
 ghost use Rattle.poly_quotient.specs.Quotients.{DigitAsks, Digit, QuotientAsks, Quotient};
 
 use poly_mix::sum_at;

@@ -4,7 +4,7 @@
 --   minus             Opposite: − x
 --   mul               Product: x y, where the product Fits into a row
 --   from_list         Listed: the polynomial of a list
-use Rattle.std.specs.Prelude.{◌≡◌, List, ℕ, ◌+◌, ◌-◌, ◌≤◌, length, get_or}
+use Rattle.std.specs.Prelude.{◌≡◌, List, ℕ, ◌+◌, ◌≤◌, length, get_or}
 use Rattle.math_fp.specs.Fp.{Prime}
 use Rattle.num_mod.specs.Residue.{IsModulus}
 use Rattle.math_rows.specs.Made.{reading}

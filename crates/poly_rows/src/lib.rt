@@ -1,6 +1,8 @@
 // Polynomials mod p as rows of 32 coefficients, lowest first, each below p, zeros above the degree; lent or handed out.
 // Every contract speaks of the polynomial that a row stands for (`row` of crate math_rows). Loops stop at true lengths. Sums are taken in 64
 // bits with one remainder for each coefficient, for every p below 2^31, by the prepared modulus of crate num_mod.
+#![tactic(auto)]
+
 ghost use Rattle.std.specs.Prelude.{◌≡◌, ◌+◌, ◌*◌, ◌-◌, ◌%◌, ◌<◌, ◌≤◌, length};
 ghost use Rattle.math_rows.specs.Row.{Size};
 ghost use Rattle.poly_rows.specs.Leaf.{Cut, Given, Opposite, MulAsks, Product, Listed};

@@ -6,11 +6,9 @@
 --   gather         Gathered: acc ± x y
 --   settle         Settled: the same polynomial, each coefficient below p
 use Rattle.std.specs.Prelude.{◌≡◌, Bool, true, false, List, ℕ, ◌+◌, ◌%◌, ◌<◌, ◌≤◌, length, get_or}
-use Rattle.math_ring.specs.Ring.{Ops, CRing}
+use Rattle.math_ring.specs.Ring.{Ops}
 use Rattle.math_fp.specs.Fp.{Prime}
-use Rattle.math_valued.specs.Val.{Valued}
 use Rattle.num_mod.specs.Residue.{IsModulus}
-use Rattle.math_rows.specs.Reading.{Reading}
 use Rattle.math_rows.specs.Made.{reading}
 use Rattle.math_rows.specs.Row.{Row, row, tpow}
 use Rattle.poly_rows.specs.Leaf.{Cut}

@@ -1,5 +1,7 @@
 // Sums of products of rows, into a lent row: products are gathered in 64 bits, row by row, and each coefficient is reduced once at the end.
 // specs/Sums.antt has the contracts.
+#![tactic(auto)]
+
 ghost use Rattle.poly_sums.specs.Sums.{SignedAsks, Signed, LaidAsks, Laid, GatherAsks, Gathered, SettleAsks, Settled};
 
 use num_mod::{Modulus, add_product, reduce, reduce_once};

@@ -1,4 +1,6 @@
 // Tests of lists of stored coefficients (crate poly_long). specs/Tests.antt says what each decides.
+#![tactic(auto)]
+
 ghost use Rattle.std.specs.Prelude.{◌<◌, length};
 ghost use Rattle.base_answers.specs.Decides.{Decides};
 ghost use Rattle.poly_tests.specs.Tests.{Below, Constant, Longer};
