@@ -1,10 +1,12 @@
 // The input taken apart into lines, whatever the pieces in which it arrives; and a byte found in a text.
+#![tactic(auto)]
+
 ghost use Rattle.std.specs.Prelude.{◌≡◌, [], ◌∷◌, ◌+◌, length, drop};
 ghost use Rattle.text_cut.specs.Pieces.{until};
 ghost use Rattle.text_cut.specs.Tells.{CutTells, Carried};
 
 // What a piece of the input has from a place on.
-#[derive(Drop)]
+#[derive(Clone, Copy)]
 pub enum Step {
     // a whole line, so many bytes of it kept, and the place after its newline
     Whole(usize, usize),

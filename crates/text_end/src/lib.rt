@@ -1,4 +1,6 @@
 // The end of the input: what it leaves to be said.
+#![tactic(auto)]
+
 ghost use Rattle.text_end.specs.Ends.{Ends};
 
 // What is still to be said at the input's end, where n bytes are pending: a line without its newline is refused.

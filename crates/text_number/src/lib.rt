@@ -1,15 +1,17 @@
 // Numbers and lists of them read: 1 to 5 digits without leading zeros, with commas between.
+#![tactic(auto)]
+
 ghost use Rattle.text_number.specs.Tells.{NumberTells, SizeTells};
 
 // A text as a number.
-#[derive(Drop)]
+#[derive(Clone, Copy)]
 pub enum Numeral {
     Value(u64),
     Bad,
 }
 
 // A text as a list: how many numbers it has.
-#[derive(Drop)]
+#[derive(Clone, Copy)]
 pub enum Entries {
     Count(usize),
     Bad,

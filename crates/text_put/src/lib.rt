@@ -1,5 +1,7 @@
 // Bytes, numbers, lists and fields put into a lent slice, one after the other. Each function returns the place after what it put;
 // what does not fit the slice is left out, and the place stops at the slice's end.
+#![tactic(auto)]
+
 ghost use Rattle.std.specs.Prelude.{[], ◌∷◌, take};
 ghost use Rattle.base_lists.specs.Pieces.{Put};
 ghost use Rattle.text_put.specs.Print.{number_text, list_text, line_text, refused_text};

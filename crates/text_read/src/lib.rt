@@ -1,4 +1,6 @@
 // A line p;G;H read: cut into fields, a number, two lists.
+#![tactic(auto)]
+
 ghost use Rattle.std.specs.Prelude.{◌≤◌, length};
 ghost use Rattle.text_put.specs.Print.{comma};
 ghost use Rattle.text_cut.specs.Pieces.{pieces};
@@ -8,14 +10,14 @@ ghost use Rattle.text_read.specs.Tells.{ParseTells};
 use text_number::{Entries, Numeral};
 
 // Where a line's two semicolons stand.
-#[derive(Drop)]
+#[derive(Clone, Copy)]
 enum Split {
     Three(usize, usize),
     Other,
 }
 
 // A line that reads: G stands from a to j and H from b on; p, and how many numbers G and H have.
-#[derive(Drop)]
+#[derive(Clone, Copy)]
 struct Marks {
     pub a: usize,
     pub j: usize,
@@ -25,14 +27,14 @@ struct Marks {
     pub nh: usize,
 }
 
-#[derive(Drop)]
+#[derive(Clone, Copy)]
 enum Shape {
     Sound(Marks),
     Bad,
 }
 
 // A line: p, and how many numbers G and H have.
-#[derive(Drop)]
+#[derive(Clone, Copy)]
 pub struct Line {
     pub p: u64,
     pub ng: usize,
@@ -40,7 +42,7 @@ pub struct Line {
 }
 
 // What a line says.
-#[derive(Drop)]
+#[derive(Clone, Copy)]
 pub enum Parsed {
     Read(Line),
     Malformed,
