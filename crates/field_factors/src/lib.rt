@@ -1,4 +1,6 @@
 // Refusals 7 and 8: which one, from the answers of the tests of crate poly_factors.
+#![tactic(auto)]
+
 ghost use Rattle.std.specs.Prelude.{◌≡◌};
 ghost use Rattle.field_factors.specs.Factors.{factor_number};
 

@@ -12,11 +12,11 @@ use Rattle.base_lists.specs.Sums.{entry, prod}
 use Rattle.math_fp.proofs.Field.{ppos}
 use Rattle.math_rows.specs.Row.{tab}
 use Rattle.field_open.specs.Refusal.{Degree, Accepted}
-use Rattle.field_roots.specs.SeriesOf.{top, SeriesOf}
+use Rattle.field_roots.specs.SeriesOf.{top}
 use Rattle.field_roots.proofs.Only.{top_lead}
 use Rattle.field_next.specs.Next.{Filled}
 use Rattle.field_pairs.specs.Pairs.{Filler, Made}
-use Rattle.field_fill.specs.Fill.{Listed, Leads, LeadRoot, ThriceInverse, Room, Grown}
+use Rattle.field_fill.specs.Fill.{Listed, Leads, LeadRoot, ThriceInverse, Grown}
 use Rattle.field_fill.proofs.Top.{top_below, heads_are}
 
 module _ {p : ℕ} {G H : List ℕ} (A : Accepted p G H) where

@@ -5,7 +5,6 @@ use Prim.Native.Nat.{ℕ, ◌*◌, ◌%◌, ◌≤◌, ◌<◌}
 use native.Mathlib.Nat.{mod-lt, mod-eq_of_lt}
 use native.Mathlib.Decide.{ℕ_discrete}
 use native.Mathlib.Omega.{arith}
-use Rattle.math_ring.specs.Ring.{CRing}
 use Rattle.math_fp.proofs.Ring.{mul_mod_mod, mod_mul_mod}
 use Rattle.math_fp.proofs.Field.{ppos}
 use Rattle.math_rows.specs.Made.{reading}

@@ -1,5 +1,7 @@
 // The two series of r and w, from the leading coefficients of G and H; crate field_pairs fills them in one pass, each pair of coefficients from two
 // linear equations. Everything here asks for a field that is accepted; the doors are in crate field_series.
+#![tactic(auto)]
+
 ghost use Rattle.std.specs.Prelude.{◌≡◌};
 ghost use Rattle.math_rows.specs.Row.{tab};
 ghost use Rattle.field_roots.specs.SeriesOf.{top};

@@ -3,11 +3,10 @@
 --   next_square, next_product     the pair of index i: r_i = u (h0 a + r0 b) and w_i = u (2 r0 a − w0 b), for what is missing, a and b
 -- u is the inverse of 3 r0². Both go through the ring of the classes mod p, for any p > 0.
 use mathlib.Core.Path.{◌≡◌, sym, ap, ap₂, ◌∙◌}
-use mathlib.Core.List.{List, [], ◌∷◌}
+use mathlib.Core.List.{[], ◌∷◌}
 use Prim.Native.Nat.{ℕ, ◌+◌, ◌*◌, ◌-◌, ◌%◌, ◌≤◌, ◌<◌}
 use native.Mathlib.Nat.{mod-mod, mod-lt}
 use native.Mathlib.Omega.{arith}
-use Rattle.math_ring.specs.Ring.{CRing}
 use Rattle.math_ring.proofs.Laws as r
 use Rattle.math_ring.proofs.Solve.{var, one, zer, minus, ◌:+◌, ◌:*◌, hyp, solve_by}
 use Rattle.math_fp.specs.Fp.{F, cls, fops}

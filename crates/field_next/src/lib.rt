@@ -1,4 +1,6 @@
 // The next pair of coefficients of the series of r and w, from two linear equations, where those before it are there. Crate field_fill has the loop.
+#![tactic(auto)]
+
 ghost use Rattle.std.specs.Prelude.{◌+◌, ◌*◌, ◌-◌, ◌%◌};
 ghost use Rattle.base_lists.specs.Sums.{entry, prod};
 ghost use Rattle.field_next.specs.Next.{Place, Point, Entry, Rest, Two, Four, Filling, Turned};

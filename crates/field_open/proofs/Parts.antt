@@ -12,7 +12,7 @@ use Rattle.base_answers.specs.Stage.{End}
 use Rattle.base_lists.proofs.Coefs.{list_degree}
 pub use Rattle.base_lists.proofs.Coefs.{length_of, list_short}
 use Rattle.num_prime.specs.Table.{largest, PrimeTest}
-use Rattle.field_open.specs.Refusal.{highest, Degree, Fault1, Fault3, Fault4, Fault5, Fault6, Rows36}
+use Rattle.field_open.specs.Refusal.{highest, Degree, Fault1, Fault4, Fault5, Fault6, Rows36}
 use Rattle.field_open.specs.Parts.{ListLength}
 use Rattle.field_open.proofs.Stages.{degree_unique}
 

@@ -8,7 +8,7 @@ use Prim.Native.Nat.{ℕ, ◌≤◌}
 use native.Mathlib.Omega.{arith}
 pub use Rattle.base_lists.proofs.Coefs.{degree_unique}
 use Rattle.base_answers.proofs.Stages.{stage_unique, end_unique, stage_low}
-use Rattle.field_open.specs.Refusal.{Degree, Fault1, Fault2, Fault3, Fault4, Fault5, Fault6, Fault7, Fault8, Refusal}
+use Rattle.field_open.specs.Refusal.{Fault1, Fault2, Fault3, Fault4, Fault5, Fault6, Fault7, Fault8, Refusal}
 
 pub refusal_unique : (p : ℕ) (G H : List ℕ) (m n : ℕ) → Refusal p G H m → Refusal p G H n → m ≡ n
 unfolding Refusal

@@ -9,9 +9,6 @@
 -- In proofs/Opening.antt: `opens_unique`, two answers that meet it are equal; `opens_number`, `opens_held`, what the number beside it says.
 use Rattle.std.specs.Prelude.{◌≡◌, List, ℕ, ◌+◌, ◌*◌, get_or, replicate}
 use Rattle.math_fp.specs.Fp.{Prime}
-use Rattle.math_ring.specs.Ring.{CRing}
-use Rattle.math_valued.specs.Val.{Valued}
-use Rattle.math_rows.specs.Reading.{Reading}
 use Rattle.math_rows.specs.Made.{reading}
 use Rattle.math_rows.specs.Row.{Row, tab, row}
 use Rattle.field_open.specs.declared.Field.{Field}

@@ -16,10 +16,8 @@ use Rattle.std.specs.Prelude.{◌≡◌, ◌≢◌, ◌⊎◌, List, ℕ, ◌+�
 use Rattle.base_answers.specs.Stage.{Stage, End}
 use Rattle.base_lists.specs.Coefficients.{Coefficients}
 use Rattle.math_fp.specs.Fp.{Prime}
-use Rattle.math_valued.specs.Val.{Valued}
 use Rattle.math_valued.specs.Polynomial.{Squarefree, Coprime}
 use Rattle.math_valued.specs.Factor.{SquareFactor, CommonFactor}
-use Rattle.math_rows.specs.Reading.{Reading}
 use Rattle.math_rows.specs.Made.{reading}
 pub use Rattle.poly_rows.specs.Polynomial.{polynomial}
 use Rattle.num_prime.specs.Table.{largest}

@@ -1,5 +1,7 @@
 // Opening a field: the refusals 1 to 8, in the table's order, and what the layers above need of a field that is accepted.
 // specs/Refusal.antt has the table, specs/Padding.antt the lists as callers give them, specs/Opening.antt the contract of `open`.
+#![tactic(auto)]
+
 ghost use Rattle.std.specs.Prelude.{◌≡◌};
 ghost use Rattle.base_answers.specs.Stage.{End};
 ghost use Rattle.field_open.specs.Refusal.{Rows12, Rows36, Rows78, Refusal, Accepted};
@@ -14,7 +16,7 @@ const ENTRIES: usize = 32;
 const HIGHEST: usize = 16;
 
 // An opened field: G, H and G.H as rows, the degrees of r and w.
-#[derive(Drop)]
+#[derive(Clone, Copy)]
 pub struct Field {
     pub p: u64,
     pub g: [u64; 32],
@@ -25,7 +27,7 @@ pub struct Field {
 }
 
 // The number of the refusal beside the field; with a refusal the field is all zeros.
-#[derive(Drop)]
+#[derive(Clone, Copy)]
 pub struct FieldAnswer {
     pub refusal: u32,
     pub field: Field,

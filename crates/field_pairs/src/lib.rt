@@ -1,4 +1,6 @@
 // All pairs of coefficients of the series of r and w in one pass, from the first of r. Crate field_next has the turn of the loop.
+#![tactic(auto)]
+
 ghost use Rattle.std.specs.Prelude.{◌*◌, ◌%◌};
 ghost use Rattle.field_next.specs.Next.{Rest, Four};
 ghost use Rattle.field_pairs.specs.Pairs.{Filler, Made};

@@ -1,5 +1,7 @@
 // The series of r and w: `series` writes them into lent slices; `open_with_series` opens a field and keeps their first 32 coefficients with
 // it. Both refuse what they cannot do; specs/Answer.antt has their contracts. The filling itself is in crate field_fill.
+#![tactic(auto)]
+
 ghost use Rattle.std.specs.Prelude.{◌≡◌};
 ghost use Rattle.field_open.specs.Opening as F;
 ghost use Rattle.field_open.specs.Padding.{unpad};
@@ -9,7 +11,7 @@ ghost use Rattle.field_series.specs.Answer.{Answer, Opening, Expands, nothing};
 use base_answers::over_longest;
 
 // An opened field with the first 32 coefficients of r and of w, highest power first.
-#[derive(Drop)]
+#[derive(Clone, Copy)]
 pub struct OpenedField {
     pub field: field_open::Field,
     pub r: [u64; 32],
@@ -17,7 +19,7 @@ pub struct OpenedField {
 }
 
 // The number of the refusal beside it; with a refusal all else is zeros.
-#[derive(Drop)]
+#[derive(Clone, Copy)]
 pub struct OpenedAnswer {
     pub refusal: u32,
     pub cubic: OpenedField,

@@ -1,4 +1,6 @@
 // Two accepted pairs of lists over one p: whether they are of one field. The door, which refuses, is crate door_compare.
+#![tactic(auto)]
+
 ghost use Rattle.base_answers.specs.Decides.{Decides};
 ghost use Rattle.pair_laws.specs.OneField.{OneField};
 ghost use Rattle.pair_agree.specs.Answer.{Both, Pairs};
@@ -6,7 +8,7 @@ ghost use Rattle.pair_agree.specs.Answer.{Both, Pairs};
 use pair_lists::agree;
 
 // The order in which two pairs agree after all lists are made monic.
-#[derive(Drop)]
+#[derive(Clone, Copy)]
 pub enum Pairing {
     Straight,
     Swapped,

@@ -1,1 +1,2 @@
 // Mathematics alone: what the functions answer for two pairs of one field. See specs/.
+#![tactic(auto)]

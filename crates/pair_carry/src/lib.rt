@@ -1,4 +1,6 @@
 // The six rows of a unit carried over to a pair that agrees with theirs, in either order. specs/Code.antt says what the functions do.
+#![tactic(auto)]
+
 ghost use Rattle.pair_carry.specs.Code.{CarryAsks, Carried, CarriedSwapped};
 
 use pair_factors::factors;

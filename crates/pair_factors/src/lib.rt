@@ -1,11 +1,13 @@
 // The factors by which the rows of a unit carry over from one pair to another pair of the same field. specs/Code.antt says what is asked.
+#![tactic(auto)]
+
 ghost use Rattle.pair_laws.specs.Rows.{Law};
 ghost use Rattle.pair_factors.specs.Code.{FactorsAsks};
 
 use num_power::{cube_root, inverse, mul};
 
 // What the rows E1 and F1 are multiplied by, and E2 and F2.
-#[derive(Drop)]
+#[derive(Clone, Copy)]
 pub struct Multipliers {
     pub x: u64,
     pub y: u64,

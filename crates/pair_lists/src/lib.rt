@@ -1,4 +1,6 @@
 // Two lists of coefficients over one p: whether they agree up to a constant factor. specs/Code.antt says what is asked.
+#![tactic(auto)]
+
 ghost use Rattle.base_answers.specs.Decides.{Decides};
 ghost use Rattle.pair_laws.specs.OneField.{Agree};
 ghost use Rattle.pair_lists.specs.Code.{AgreeAsks};

@@ -1,4 +1,6 @@
 // Parts of a slice exchanged and multiplied; the six rows of a unit times their factors. specs/Code.antt says what the functions do.
+#![tactic(auto)]
+
 ghost use Rattle.pair_rows.specs.Code.{ExchangeAsks, Exchanged, PartAsks, Part, MultipliedAsks, Multiplied};
 
 use poly_long::scale;
