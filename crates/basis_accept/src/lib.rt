@@ -1,5 +1,7 @@
 // Refusal 9: all tests of a record. Each is two-sided. specs/Tests.antt has what they decide; proofs/ has that lengths of polynomial parts decide
 // the sizes (Shapes). Crates basis_bounds and basis_shape have the tests of numbers and lengths, crate basis_coprime that of a common factor, crate basis_closed those of closure.
+#![tactic(auto)]
+
 ghost use Rattle.basis_record.specs.Seven.{seven};
 ghost use Rattle.field_series.specs.Keeps.{Known};
 ghost use Rattle.basis_parts.specs.Given.{given};

@@ -1,5 +1,7 @@
 // Refusal 9: the tests of a record that compare numbers alone: each with p, and lengths with each other. Each is two-sided. specs/Bounds.antt has what
 // they decide.
+#![tactic(auto)]
+
 ghost use Rattle.base_answers.specs.Decides.{Decides};
 ghost use Rattle.basis_bounds.specs.Bounds.{Below, Ordered};
 

@@ -1,6 +1,8 @@
 // The first half of the reduction of two elements b r + c w, on rows of 32 coefficients, lowest first, each below p.
 // Rows are lent, and turned in place; crate basis_parts has the polynomial parts, crate basis_top their leading terms.
 // Every contract speaks of the polynomial that a row stands for; none speaks of coefficients.
+#![tactic(auto)]
+
 ghost use Rattle.basis_parts.specs.Given.{given};
 ghost use Rattle.basis_clear.specs.Clear.{CanceledAsks, CanceledGives, ClearYAsks, Cleared, pair, swap_if};
 

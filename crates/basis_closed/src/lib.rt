@@ -1,4 +1,6 @@
 // Refusal 9: whether the lattice of a basis has rank 3 and is closed under products with r and w.
+#![tactic(auto)]
+
 ghost use Rattle.basis_record.specs.Seven.{seven};
 ghost use Rattle.basis_closed.specs.Closed.{ClosedOnAsks, Keeps, ClosedUnderRAndWAsks, Under};
 

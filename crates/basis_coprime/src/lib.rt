@@ -1,5 +1,7 @@
 // Refusal 9: whether seven rows are without a common factor. The test is two-sided. specs/Coprime.antt has what it decides, proofs/Coprime.antt that a
 // chain of greatest common divisors decides it. Crate basis_accept has what it says of an ideal.
+#![tactic(auto)]
+
 ghost use Rattle.basis_coprime.specs.Coprime.{NoCommonFactorAsks, Alone};
 
 use num_mod::Modulus;

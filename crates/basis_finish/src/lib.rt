@@ -1,4 +1,6 @@
 // From a reduced pair to the scaled basis. specs/Based.antt has what it is.
+#![tactic(auto)]
+
 ghost use Rattle.basis_parts.specs.Given.{given};
 ghost use Rattle.basis_clear.specs.Clear.{pair};
 ghost use Rattle.basis_reduce.specs.Reduction.{ends};

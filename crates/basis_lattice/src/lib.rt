@@ -1,4 +1,6 @@
 // The lattice of a basis: the coordinates of an element as quotients, and whether it lies in the lattice. Rows are lent, their lengths known.
+#![tactic(auto)]
+
 ghost use Rattle.std.specs.Prelude.{◌≡◌};
 ghost use Rattle.basis_record.specs.Seven.{seven, three};
 ghost use Rattle.basis_lattice.specs.Coordinates.{LengthsOfAsks, Found, OuterAsks, OuterGives, CoordinatesAsks, Coordinates};
@@ -10,7 +12,7 @@ use poly_lent::{both_in, det_in};
 use poly_rows::size_from;
 
 // The lengths of the seven rows of a basis, and of e = M1 N2 - M2 N1.
-#[derive(Drop)]
+#[derive(Clone, Copy)]
 pub struct Lengths {
     pub m0: usize,
     pub m1: usize,
@@ -59,7 +61,7 @@ pub fn lengths_of(
 }
 
 // The lengths of what e divides, and of the two quotients.
-#[derive(Drop)]
+#[derive(Clone, Copy)]
 struct OuterSpans {
     s: usize,
     t: usize,
@@ -102,7 +104,7 @@ fn outer(
 }
 
 // The lengths of three coordinates.
-#[derive(Drop)]
+#[derive(Clone, Copy)]
 pub struct Spans {
     pub a: usize,
     pub b: usize,

@@ -1,5 +1,7 @@
 // The polynomial parts of b r + c w and b r - c w, for two series r and w by their first coefficients.
 // Loops run over true lengths: top is one more than the largest degree of a size, so that rows b end before top - dr and rows c before top - dw.
+#![tactic(auto)]
+
 ghost use Rattle.std.specs.Prelude.{◌≡◌, ◌+◌, ◌*◌, ◌-◌, ◌%◌, ◌<◌, ◌≤◌};
 ghost use Rattle.basis_parts.specs.Given.{given};
 ghost use Rattle.basis_parts.specs.Leaves.{PlusAsks, Summed, TermsAsks, Terms, PlainAsks, PartAsks, FloorInAsks, PartAtAsks, QuickAtAsks, PartAt, Parted};
@@ -7,7 +9,7 @@ ghost use Rattle.basis_parts.specs.Leaves.{PlusAsks, Summed, TermsAsks, Terms, P
 use num_mod::{Modulus, reduce};
 
 // A prepared modulus, the degrees of two series, and the bound of sizes: one more than the largest degree that may occur
-#[derive(Drop)]
+#[derive(Clone, Copy)]
 pub struct Bounds {
     pub m: Modulus,
     pub dr: usize,

@@ -1,4 +1,6 @@
 // The basis record: seven rows of 17 coefficients, M0, M1, M2, N0, N1, N2, U. Here a row is put into it and taken out of it.
+#![tactic(auto)]
+
 ghost use Rattle.std.specs.Prelude.{◌≡◌};
 ghost use Rattle.basis_record.specs.Store.{StoredAsks, Stored, LoadAsks, Loaded};
 

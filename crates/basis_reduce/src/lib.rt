@@ -1,4 +1,6 @@
 // The reduction of two elements b r + c w to a reduced pair, on rows as in crate basis_clear, which has its first half.
+#![tactic(auto)]
+
 ghost use Rattle.basis_parts.specs.Given.{given};
 ghost use Rattle.basis_clear.specs.Clear.{pair};
 ghost use Rattle.basis_reduce.specs.Reduction.{ClearXAsks, Sheared, ReducedAsks, Reduced, ends, ends_if};
@@ -38,7 +40,7 @@ fn clear_x(
 }
 
 // Whether m and n have changed places, and the length of X(m)
-#[derive(Drop)]
+#[derive(Clone, Copy)]
 pub struct Ended {
     pub swap: bool,
     pub l: usize,

@@ -1,4 +1,6 @@
 // The scaled basis that the reduction of two elements gives, and the basis of the order.
+#![tactic(auto)]
+
 ghost use Rattle.basis_parts.specs.Given.{given};
 ghost use Rattle.basis_clear.specs.Clear.{pair};
 ghost use Rattle.basis_finish.specs.Based.{ReducedBasisAsks, Based};

@@ -1,5 +1,7 @@
 // Refusal 9: the tests of a record that look at lengths and leading coefficients alone. Each is two-sided. specs/Lengths.antt has what they decide,
 // proofs/Lengths.antt that lengths are settled. Crate basis_bounds compares the lengths, crate basis_accept has what they say of an ideal.
+#![tactic(auto)]
+
 ghost use Rattle.base_answers.specs.Decides.{Decides};
 ghost use Rattle.basis_shape.specs.Lengths.{Narrow, RowsFitAsks, Units, Shape, ShapeAsks};
 

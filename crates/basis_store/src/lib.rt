@@ -1,4 +1,6 @@
 // The basis record: seven rows of 17 coefficients, M0, M1, M2, N0, N1, N2, U. It starts as zeros and is filled row by row.
+#![tactic(auto)]
+
 ghost use Rattle.std.specs.Prelude.{◌+◌, ◌*◌, ◌-◌, ◌%◌, ◌<◌, ◌≤◌};
 ghost use Rattle.basis_clear.specs.Clear.{pair};
 ghost use Rattle.basis_store.specs.Levels.{RowZeroAsks, Leveled};
@@ -34,7 +36,7 @@ fn row_zero(
 }
 
 // The factors by which U, m and n are scaled
-#[derive(Drop)]
+#[derive(Clone, Copy)]
 pub struct Factors {
     pub u: u64,
     pub m: u64,

@@ -1,12 +1,14 @@
 // The leading terms of the polynomial parts of b r + c w and b r - c w (crate basis_parts), found from above. specs/Tops.antt has the
 // contracts.
+#![tactic(auto)]
+
 ghost use Rattle.basis_parts.specs.Given.{given};
 ghost use Rattle.basis_top.specs.Tops.{TopOfAsks, Topped, LeadOfAsks, Led};
 
 use basis_parts::{Bounds, digit};
 
 // A length and a leading coefficient
-#[derive(Drop)]
+#[derive(Clone, Copy)]
 pub struct Top {
     pub n: usize,
     pub c: u64,

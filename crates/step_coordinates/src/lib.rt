@@ -1,4 +1,6 @@
 // r m and w m in coordinates, on rows, and a row negated. specs/Turns.antt says what the functions do.
+#![tactic(auto)]
+
 ghost use Rattle.basis_record.specs.Seven.{seven, three};
 ghost use Rattle.step_coordinates.specs.Turns.{CoordinatesOfRmAsks, TurnedR, CoordinatesOfWmAsks, TurnedW, NegateAsks, Negated};
 

@@ -1,4 +1,6 @@
 // The generators of the next ideal, on rows: r m and w m in coordinates, and what they have in common taken off.
+#![tactic(auto)]
+
 ghost use Rattle.basis_record.specs.Seven.{seven, three};
 ghost use Rattle.step_divide.specs.Generated.{generators, NextGeneratorsAsks, Divided};
 
@@ -8,7 +10,7 @@ use poly_content::without_content;
 use step_coordinates::{coordinates_of_rm, coordinates_of_wm, negate};
 
 // The degree of what was taken off, and the lengths of x1, y1, of the denominator, of M0 and of U.
-#[derive(Drop)]
+#[derive(Clone, Copy)]
 pub struct Cuts {
     pub cut: usize,
     pub x: usize,

@@ -1,4 +1,6 @@
 // The step: from the record of a reduced ideal to that of the ideal divided by m, with the degree of m.
+#![tactic(auto)]
+
 ghost use Rattle.basis_record.specs.Seven.{three};
 ghost use Rattle.step_part.specs.Parting.{StepOnRowsAsks, StepInAsks};
 ghost use Rattle.step_next.specs.Steps.{Advanced};
@@ -10,7 +12,7 @@ use num_mod::{Modulus, prepare};
 use step_part::parted;
 
 // The degree of the m divided by, and the next record.
-#[derive(Drop)]
+#[derive(Clone, Copy)]
 pub struct StepTaken {
     pub degree: u64,
     pub basis: [u16; 119],

@@ -1,4 +1,6 @@
 // The first half of the step: from the record to the generators of the ideal divided by m.
+#![tactic(auto)]
+
 ghost use Rattle.basis_record.specs.Seven.{three};
 ghost use Rattle.step_divide.specs.Generated.{generators};
 ghost use Rattle.step_part.specs.Parting.{PartedAsks, Parting};
@@ -8,7 +10,7 @@ use num_mod::Modulus;
 use step_divide::next_generators;
 
 // The degree of m, the degree of what the generators had in common, and the lengths of x1, y1 and of the denominator.
-#[derive(Drop)]
+#[derive(Clone, Copy)]
 pub struct Measures {
     pub degree: usize,
     pub cut: usize,

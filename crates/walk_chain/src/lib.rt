@@ -1,4 +1,6 @@
 // The walk along the chain of minima, from a record; it asks for an accepted field. The doors are crates door_walk and door_period.
+#![tactic(auto)]
+
 ghost use Rattle.walk_chain.specs.Going.{WalkOnRowsAsks, Gone};
 ghost use Rattle.walk_chain.specs.InField.{WalkInFieldAsks, WalkInFieldGives};
 
@@ -6,7 +8,7 @@ use step_next::step_on_rows;
 use walk_closed::is_closed;
 
 // What a walk answers: the refusal's number (0: closed), the steps taken, the sum of the degrees passed, the last basis.
-#[derive(Drop)]
+#[derive(Clone, Copy)]
 pub struct WalkAnswer {
     pub refusal: u32,
     pub steps: u64,

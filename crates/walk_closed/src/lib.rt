@@ -1,4 +1,6 @@
 // The test at which a walk stops. specs/Closed.antt says what it tests.
+#![tactic(auto)]
+
 ghost use Rattle.walk_closed.specs.Closed.{IsClosedAsks, OnePart};
 
 // Whether U = 1: the ideal is the whole order. U is the last row, from place 102 on.

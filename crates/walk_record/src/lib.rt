@@ -1,4 +1,6 @@
 // A walk record by value: a field, a basis of it, how far its walk has come, and its state. Here what is told of a record without its field.
+#![tactic(auto)]
+
 ghost use Rattle.std.specs.Prelude.{◌≡◌};
 ghost use Rattle.base_answers.specs.Decides.{Decides};
 ghost use Rattle.walk_record.specs.State as S;
@@ -8,7 +10,7 @@ use base_answers::over_budget;
 
 // G is the first `ng` entries of `g`, H the first `nh` of `h`; the basis is seven rows of 17 numbers. Laid out as C lays it out.
 #[repr(C)]
-#[derive(Drop)]
+#[derive(Clone, Copy)]
 pub struct WalkRecord {
     pub p: u64,
     pub g: [u64; 32],
