@@ -1,4 +1,6 @@
 // The check of 119 numbers, with all refusals. specs/Answer.antt has the contract.
+#![tactic(auto)]
+
 ghost use Rattle.field_open.specs.Padding.{unpad};
 ghost use Rattle.door_check.specs.Answer.{Checks};
 

@@ -1,9 +1,11 @@
 // Any two pairs of lists over one p: their refusals, and whether they are of one field.
+#![tactic(auto)]
+
 ghost use Rattle.field_open.specs.Padding.{unpad};
 ghost use Rattle.door_compare.specs.Answer.{Refusals, Compares};
 
 // The refusal's number (0: none), and whether the pairs are of one field.
-#[derive(Drop)]
+#[derive(Clone, Copy)]
 pub struct CompareAnswer {
     pub refusal: u32,
     pub same: bool,

@@ -1,9 +1,11 @@
 // The basis of the order, with all refusals. specs/Answer.antt has the contract.
+#![tactic(auto)]
+
 ghost use Rattle.field_open.specs.Padding.{unpad};
 ghost use Rattle.door_order.specs.Answer.{Orders};
 
 // The number of the refusal beside the basis; with a refusal the rows are zeros.
-#[derive(Drop)]
+#[derive(Clone, Copy)]
 pub struct OrderAnswer {
     pub refusal: u32,
     pub basis: [u16; 119],

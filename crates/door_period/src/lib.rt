@@ -1,4 +1,6 @@
 // The walk from the order, with all refusals: period and regulator of a field. specs/Order.antt has the contract.
+#![tactic(auto)]
+
 ghost use Rattle.std.specs.Prelude.{◌≡◌};
 ghost use Rattle.field_open.specs.Padding.{unpad};
 ghost use Rattle.door_period.specs.Order.{FromOrder, refusal};
@@ -7,7 +9,7 @@ use base_answers::{Period, Regulator, over_budget};
 use walk_chain::walk_in_field;
 
 // The number of the refusal; 0 and the period and regulator of the field where the walk from the order closes.
-#[derive(Drop)]
+#[derive(Clone, Copy)]
 pub struct PeriodAnswer {
     pub refusal: u32,
     pub period: Period,

@@ -1,4 +1,6 @@
 // One walk record, advanced by value: everything about it is decided here, the sheet only goes from record to record.
+#![tactic(auto)]
+
 ghost use Rattle.std.specs.Prelude.{◌≡◌};
 ghost use Rattle.field_open.specs.Padding.{unpad};
 ghost use Rattle.field_open.specs.Door.{Door};

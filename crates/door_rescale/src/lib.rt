@@ -1,5 +1,7 @@
 // The rows of a unit carried over from one convention to another. specs/Rescale.antt says what the answer and the lent slice are; crate
 // unit_check tests the rows, crate unit_scale turns them.
+#![tactic(auto)]
+
 ghost use Rattle.field_open.specs.Padding.{unpad};
 ghost use Rattle.field_series.specs.Keeps.{Known};
 ghost use Rattle.door_rescale.specs.Rescale.{Rescales};

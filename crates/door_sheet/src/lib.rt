@@ -1,5 +1,7 @@
 // The sheet: each record of a lent list is copied out, advanced by value and stored back, in list order. All that decides anything about a
 // record stands in crate door_record.
+#![tactic(auto)]
+
 ghost use Rattle.door_sheet.specs.Sheet as S;
 
 use door_record::advance;

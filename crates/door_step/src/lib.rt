@@ -1,4 +1,6 @@
 // The step from a record, with all its refusals. specs/Answer.antt has the contract.
+#![tactic(auto)]
+
 ghost use Rattle.std.specs.Prelude.{◌≡◌};
 ghost use Rattle.field_open.specs.Padding.{unpad};
 ghost use Rattle.door_step.specs.Answer.{refused, Answers};
@@ -7,7 +9,7 @@ use basis_accept::accepts;
 use step_next::step_in_field;
 
 // The number of the refusal, the degree of the m divided by and the next record; with a refusal the others are 0.
-#[derive(Drop)]
+#[derive(Clone, Copy)]
 pub struct StepAnswer {
     pub refusal: u32,
     pub degree: u64,

@@ -1,5 +1,7 @@
 // The rows of a unit carried over from one pair to another pair of the same field. specs/Transfer.antt says what the answer and the lent
 // slice are, crate pair_carry does the work.
+#![tactic(auto)]
+
 ghost use Rattle.field_open.specs.Padding.{unpad};
 ghost use Rattle.door_transfer.specs.Transfer.{Goes, Transfers};
 ghost use Rattle.pair_agree.specs.Answer.{Both};

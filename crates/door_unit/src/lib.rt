@@ -1,4 +1,6 @@
 // The unit of a field and its inverse, with all refusals. specs/Unit.antt says what the answer and the two lent slices are.
+#![tactic(auto)]
+
 ghost use Rattle.field_open.specs.Padding.{unpad};
 ghost use Rattle.door_unit.specs.Unit.{refusal, Makes};
 ghost use Rattle.door_unit.specs.Fit.{Unfit};
@@ -10,7 +12,7 @@ use field_series::OpenedField;
 use unit_scale::no_convention;
 
 // The refusal's number (0: made), the period and the regulator.
-#[derive(Drop)]
+#[derive(Clone, Copy)]
 pub struct UnitAnswer {
     pub refusal: u32,
     pub period: Period,

@@ -1,4 +1,6 @@
 // The public walk from a record, with all refusals; its contract is `Walks` of crate walk_chain.
+#![tactic(auto)]
+
 ghost use Rattle.std.specs.Prelude.{◌≡◌};
 ghost use Rattle.field_open.specs.Padding.{unpad};
 ghost use Rattle.walk_chain.specs.Walk as W;

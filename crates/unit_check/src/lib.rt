@@ -2,6 +2,8 @@
 // parts do.
 //
 // No buffer is lent for the work, so products stand in arrays of their greatest lengths; of these only as much is used as the rows ask for.
+#![tactic(auto)]
+
 ghost use Rattle.unit_check.specs.Check.{IsUnitAsks, IsUnitGives};
 ghost use Rattle.unit_check.specs.Code.{CoordinateAsks, CoordinateGives, ProductAsks, ProductGives, IsInverseGives};
 

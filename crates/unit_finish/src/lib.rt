@@ -1,4 +1,6 @@
 // From the product of the minima to the unit: E made monic, and its inverse. specs/Finish.antt says what the functions ask and do.
+#![tactic(auto)]
+
 ghost use Rattle.unit_finish.specs.Finish.{InvertedAsks, Inverses, FinishedAsks, Finishes};
 
 use field_series::OpenedField;

@@ -1,4 +1,6 @@
 // The rows F0, F1, F2 of the inverse, after those of E in the lent slice of crate unit_rows.
+#![tactic(auto)]
+
 ghost use Rattle.unit_inverse.specs.Inverse.{PairAsks, Pair, CofactorAsks, Cofactor, NormAsks, Norm, InvertAsks, Inverted};
 
 use base_lists::wide;

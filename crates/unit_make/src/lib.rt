@@ -1,5 +1,7 @@
 // The unit of an opened field and its inverse, from the walk that closes. specs/Making.antt says what each part asks and does; the door is
 // crate door_unit.
+#![tactic(auto)]
+
 ghost use Rattle.unit_make.specs.Making.{MultipliedAsks, Multiplies, StartedAsks, Starts, StepAndMultiplyAsks, Further, ProductAsks, ProductOf, MakeAsks, Making};
 
 use field_series::OpenedField;

@@ -1,4 +1,6 @@
 // The rows of E scaled. specs/Monic.antt says what is asked and done.
+#![tactic(auto)]
+
 ghost use Rattle.unit_monic.specs.Monic.{MonicAsks, MonicMade};
 
 use base_lists::wide;

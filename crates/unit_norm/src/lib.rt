@@ -2,6 +2,8 @@
 //
 // No buffer is lent for the work, so the lists stand in arrays of their greatest lengths: 13 coefficients for G and H, 4,096 for each row
 // of E, and for a product the sum of its factors' lengths: 12,327 for the norm.
+#![tactic(auto)]
+
 ghost use Rattle.unit_norm.specs.Code.{SquareAsks, Square, CubesAsks, Cubes, NormAsks, Norm};
 
 use poly_long::scale;

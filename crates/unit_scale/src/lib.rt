@@ -1,4 +1,6 @@
 // A unit scaled by a convention: 1, E0 monic; 2, norm 1. specs/AtZero.antt and specs/Scale.antt say what is asked and done.
+#![tactic(auto)]
+
 ghost use Rattle.std.specs.Prelude.{◌*◌, ◌%◌, ◌≡◌};
 ghost use Rattle.unit_scale.specs.AtZero.{ThreeAsks, NormAsks, NormIs, ForMonicAsks, ForMonic, ForNormAsks, ForNorm};
 ghost use Rattle.unit_scale.specs.Scale.{NoConvention, FactorAsks, Factors, TurnAsks, Turns};

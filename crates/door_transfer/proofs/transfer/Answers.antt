@@ -1,0 +1,30 @@
+-- `door_transfer::transfer` meets its contract: the rows are carried over between the pairs that the four lists stand for.
+use mathlib.Core.Path.{refl}
+use Rattle.base_lists.proofs.Paddings.{unpadded_length}
+use Rattle.door_compare.proofs.Doors.{doors_refused, both_of}
+use Rattle.door_compare.proofs.Fronts.{front_both}
+use Rattle.door_transfer.proofs.Answering.{unpadded_done}
+use Rattle.door_transfer.proofs.transfer.Goals as goal
+
+pub returns-then-n-ne0 : goal.returns-then-n-ne0
+returns-then-n-ne0 c = doors_refused c.refusal-n.ensures c.if-n-ne0.true (record { number = refl; kept = refl })
+
+pub slice_bounds-carry_between-end : goal.slice_bounds-carry_between-end
+slice_bounds-carry_between-end c = unpadded_length c.unpadded-i.ensures
+
+pub slice_bounds-carry_between-end-2 : goal.slice_bounds-carry_between-end-2
+slice_bounds-carry_between-end-2 c = unpadded_length c.unpadded-j.ensures
+
+pub slice_bounds-carry_between-end-3 : goal.slice_bounds-carry_between-end-3
+slice_bounds-carry_between-end-3 c = unpadded_length c.unpadded-k.ensures
+
+pub slice_bounds-carry_between-end-4 : goal.slice_bounds-carry_between-end-4
+slice_bounds-carry_between-end-4 c = unpadded_length c.unpadded-l.ensures
+
+pub carry_between-requires : goal.carry_between-requires
+carry_between-requires c = front_both c.unpadded-i.ensures c.unpadded-j.ensures c.unpadded-k.ensures c.unpadded-l.ensures
+    (both_of c.if-n-ne0.false c.refusal-n.ensures)
+
+pub returns : goal.returns
+returns c = unpadded_done c.unpadded-i.ensures c.unpadded-j.ensures c.unpadded-k.ensures c.unpadded-l.ensures
+    (both_of c.if-n-ne0.false c.refusal-n.ensures) c.carry_between.ensures
