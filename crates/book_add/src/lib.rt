@@ -1,11 +1,13 @@
 // Adding a finished body to a book of units in a lent slice.
+#![tactic(auto)]
+
 ghost use Rattle.book_add.specs.Add.{added_says, AddTells};
 
 use book_may::{Verdict, may_add};
 use book_put::{WIDTH, put_body};
 
 // The answer to adding a body: the book's new length; 14; 13 with the reason; 15; 11.
-#[derive(Drop)]
+#[derive(Clone, Copy)]
 pub enum Added {
     Length(usize),
     LengthOut,

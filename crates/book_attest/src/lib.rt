@@ -1,8 +1,10 @@
 // Attesting an entry of the book: its unit has a non-zero constant norm. specs/Attest.antt says what the answer means.
+#![tactic(auto)]
+
 ghost use Rattle.book_attest.specs.Attest.{attest_says, AttestTells};
 
 // The answer to attesting an entry: yes or no; 13 with the reason; 14.
-#[derive(Drop)]
+#[derive(Clone, Copy)]
 pub enum Attestation {
     Yes,
     No,

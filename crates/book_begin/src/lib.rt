@@ -1,4 +1,6 @@
 // Beginning a book of units: mark and contents of a book that has no bodies, into a lent slice.
+#![tactic(auto)]
+
 ghost use Rattle.book_begin.specs.Begin.{BeginSays};
 
 // Begins a book at the front of a lent slice; five numbers say the answer, and the result is its length.

@@ -1,5 +1,4 @@
 -- A value that obeys the rules and whose field is accepted fits a body's bytes.
-use mathlib.Core.List.{List}
 use Prim.Native.Nat.{◌<◌, ◌≤◌}
 use native.Mathlib.Omega.{arith}
 use lib.ListN.{length}

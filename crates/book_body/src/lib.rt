@@ -1,4 +1,6 @@
 // A body of the book: its parts for callers who read.
+#![tactic(auto)]
+
 ghost use Rattle.std.specs.Prelude.{◌≡◌};
 ghost use Rattle.book_body.specs.Body.{body_of};
 ghost use Rattle.book_body.specs.Code.{got_says, ListTells};
@@ -9,7 +11,7 @@ pub const HEAD: usize = 16;
 pub const LENGTHS: usize = 2;
 
 // The answer to reading a list: its length; there is no such list (14); too little room (11).
-#[derive(Drop)]
+#[derive(Clone, Copy)]
 pub enum Got {
     Length(usize),
     NoList,

@@ -1,4 +1,6 @@
 // Numbers in bytes, little-endian: read at any place, 0 past the end; written into a lent slice.
+#![tactic(auto)]
+
 ghost use Rattle.std.specs.Prelude.{◌≡◌, ◌+◌, ◌-◌, ◌*◌, ◌≤◌, ◌<◌, length, get_or, take, drop};
 ghost use Rattle.base_lists.specs.Pieces.{Written};
 ghost use Rattle.book_bytes.specs.Bytes.{u2, u4, le, words, list_start, list_at, Small};

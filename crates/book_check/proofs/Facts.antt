@@ -1,12 +1,12 @@
 -- From an entry's answer to the book's.
 use mathlib.Core.Path.{◌≡◌, refl, sym, ap, subst}
 use mathlib.Core.List.{List}
-use Prim.Native.Nat.{ℕ, ◌-◌, ◌<◌, ◌≤◌}
+use Prim.Native.Nat.{ℕ, ◌<◌, ◌≤◌}
 use native.Mathlib.Omega.{arith}
 use Rattle.base_answers.specs.Said.{Said}
 use Rattle.base_answers.proofs.Said.{number_of}
 use Rattle.book_body.specs.Body.{FieldSays, OneField, body_of, Formed}
-use Rattle.book_check.specs.Book.{mark, part, entry, Sound, Accepted}
+use Rattle.book_check.specs.Book.{part, entry, Sound, Accepted}
 use Rattle.book_check.specs.Answer as says
 use Rattle.book_check.specs.Answer.{reason_says, BodyFault, Fault, Tells}
 use Rattle.book_first.specs.Earliest.{Earliest}

@@ -1,4 +1,6 @@
 // The book of units, PCF1: a check of the whole book, and asking for an entry.
+#![tactic(auto)]
+
 ghost use Rattle.book_check.specs.Answer.{answer_says, request_says, Tells, AskTells, AskedPart};
 ghost use Rattle.book_check.specs.Code.{EntryOfAsks, EntryTells};
 
@@ -6,14 +8,14 @@ use book_first::earlier;
 use book_judge::{Reason, Seen, judge};
 
 // A book's answer: yes, or 13 with the reason.
-#[derive(Drop)]
+#[derive(Clone, Copy)]
 pub enum Answer {
     Yes,
     Refused(Reason),
 }
 
 // The answer to asking for an entry: it is there; 13 with the reason; 14.
-#[derive(Drop)]
+#[derive(Clone, Copy)]
 pub enum Request {
     There,
     Refused(Reason),

@@ -1,4 +1,6 @@
 // The book of units, PCF1: its mark, its contents, and the part that an entry names.
+#![tactic(auto)]
+
 ghost use Rattle.std.specs.Prelude.{◌≡◌, ◌<◌};
 ghost use Rattle.base_answers.specs.Decides.{Decides};
 ghost use Rattle.book_contents.specs.Contents.{Marked, Listed, count, part, Ready};

@@ -1,4 +1,6 @@
 // The field of a body: its refusal, and whether a body is of a given field.
+#![tactic(auto)]
+
 ghost use Rattle.std.specs.Prelude.{◌≡◌, ◌<◌, get_or};
 ghost use Rattle.math_rows.specs.Row.{tab};
 ghost use Rattle.base_answers.specs.Decides.{Decides};

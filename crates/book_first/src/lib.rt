@@ -1,4 +1,6 @@
 // The first entry of a book that is of one field with a body. specs/Earliest.antt says what the functions ask and find.
+#![tactic(auto)]
+
 ghost use Rattle.book_body.specs.Body.{body_of};
 ghost use Rattle.book_field.specs.Code.{pair_of};
 ghost use Rattle.book_first.specs.Earliest.{EarlierAsks, FirstOfAsks, Earliest};

@@ -1,8 +1,10 @@
 // A body by itself: the body rule and the field. specs/Reasons.antt says what the answer means.
+#![tactic(auto)]
+
 ghost use Rattle.book_judge.specs.Reasons.{JudgeTells};
 
 // What is wrong with a book: the first found.
-#[derive(Drop)]
+#[derive(Clone, Copy)]
 pub enum Reason {
     Mark,
     Contents,
@@ -12,7 +14,7 @@ pub enum Reason {
 }
 
 // One entry's answer.
-#[derive(Drop)]
+#[derive(Clone, Copy)]
 pub enum Seen {
     Good,
     Bad(Reason),

@@ -1,8 +1,10 @@
 // Whether a body may be added to a book. specs/May.antt says what the verdict means.
+#![tactic(auto)]
+
 ghost use Rattle.book_may.specs.May.{VerdictTells};
 
 // May the body be added: yes, with the number of bodies in the book; 13 with the reason; 15.
-#[derive(Drop)]
+#[derive(Clone, Copy)]
 pub enum Verdict {
     May(usize),
     No(book_judge::Reason),

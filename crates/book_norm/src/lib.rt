@@ -1,4 +1,6 @@
 // Whether the E of a body has a non-zero constant norm. specs/Attested.antt says it, specs/Code.antt what the parts do.
+#![tactic(auto)]
+
 ghost use Rattle.base_answers.specs.Decides.{Decides};
 ghost use Rattle.book_body.specs.Body.{body_of, Finished};
 ghost use Rattle.book_norm.specs.Attested.{Attested};

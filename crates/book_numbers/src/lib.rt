@@ -1,5 +1,7 @@
 // What the functions of a book answer, in document 01's numbers: five in a row, the refusal, the inner reason, its entry, its other number,
 // the result. Of reasons, lists and bodies written; the other answers are in crate book_told.
+#![tactic(auto)]
+
 ghost use Rattle.std.specs.Prelude.{◌≡◌};
 ghost use Rattle.book_body.specs.Code.{got_says};
 ghost use Rattle.book_judge.specs.Reasons.{reason_says};

@@ -1,4 +1,6 @@
 // The parts of a body for callers who read: the body is checked first, and its fault told as that of entry 0.
+#![tactic(auto)]
+
 ghost use Rattle.book_parts.specs.Parts.{PrimeSays, PeriodSays, ListSays};
 
 // The prime of a body, as the result in five numbers.

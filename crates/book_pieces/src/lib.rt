@@ -1,4 +1,6 @@
 // The numbers and the lists of a body put into a lent slice. specs/Code.antt says which bytes they are.
+#![tactic(auto)]
+
 ghost use Rattle.base_lists.specs.Pieces.{Written};
 ghost use Rattle.book_pieces.specs.Code.{Head, head_bytes, Lists, list_bytes, list_long};
 

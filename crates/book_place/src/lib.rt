@@ -1,4 +1,6 @@
 // Asking for an entry of a book by its place: where the part that it names starts, and how long it is.
+#![tactic(auto)]
+
 ghost use Rattle.book_place.specs.Place.{AskSays};
 
 // Asks for entry i: start and length of its part, 0 and 0 with a refusal; five numbers say the answer.

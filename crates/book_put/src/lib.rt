@@ -1,4 +1,6 @@
 // A body put last into a book in a lent slice: the contents rewritten, the bodies moved up. specs/Code.antt says what the functions do.
+#![tactic(auto)]
+
 ghost use Rattle.std.specs.Prelude.{◌≡◌, ◌++◌, ℕ, suc, ◌+◌, ◌*◌, ◌≤◌, ◌<◌, length, drop};
 ghost use Rattle.base_lists.specs.Pieces.{Written};
 ghost use Rattle.book_bytes.specs.Bytes.{le};

@@ -1,4 +1,6 @@
 // Writing a body of the book from the rows of a unit, as `unit` leaves them in a lent slice.
+#![tactic(auto)]
+
 ghost use Rattle.std.specs.Prelude.{◌≤◌, length};
 ghost use Rattle.book_write.specs.Write.{wrote_says, WriteTells, Numbered};
 ghost use Rattle.base_answers.specs.Limits.{Six};

@@ -1,4 +1,6 @@
 // The body rule: the lists of a unit, and a body's bytes.
+#![tactic(auto)]
+
 ghost use Rattle.std.specs.Prelude.{◌<◌};
 ghost use Rattle.book_bytes.specs.Bytes.{u2};
 ghost use Rattle.base_answers.specs.Decides.{Decides};

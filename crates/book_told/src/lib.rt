@@ -1,5 +1,7 @@
 // What the check of a book, asking for an entry, adding and attesting answer, in document 01's numbers: five in a row, as crate book_numbers
 // has them.
+#![tactic(auto)]
+
 ghost use Rattle.std.specs.Prelude.{◌≡◌};
 ghost use Rattle.book_check.specs.Answer.{answer_says, request_says};
 ghost use Rattle.book_add.specs.Add.{added_says};

@@ -1,4 +1,6 @@
 // Writing a body of the book into a lent slice.
+#![tactic(auto)]
+
 ghost use Rattle.std.specs.Prelude.{[]};
 ghost use Rattle.base_answers.specs.Decides.{Decides};
 ghost use Rattle.book_body.specs.Body.{Rule};
@@ -8,7 +10,7 @@ ghost use Rattle.book_write.specs.Write.{body_from, wrote_says, WriteTells, Numb
 use book_pieces::{put_head, put_lists};
 
 // The answer to writing a body: its length; a refusal 1 to 8 of the field; 13 (body rule, entry 0); 11.
-#[derive(Drop)]
+#[derive(Clone, Copy)]
 pub enum Wrote {
     Length(usize),
     FieldRefused(u32),
