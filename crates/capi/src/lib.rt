@@ -1,5 +1,7 @@
-// The library for C and Rust: each entry point under a name of its own, on numbers and slices (a slice passes as pointer, then length).
-// The contracts are those of the functions behind them.
+// The library's entry points, each under the name that C calls it by, on numbers and slices. The contracts are those of the functions behind
+// them. Crate capi_c exports them.
+#![tactic(auto)]
+
 ghost use Rattle.field_open.specs.Refusal.{Refusal};
 ghost use Rattle.field_open.specs.Padding.{unpad};
 ghost use Rattle.field_series.specs.Answer.{Answer};
@@ -20,24 +22,21 @@ ghost use Rattle.capi.specs.Books.{CheckSays, WriteSays, AddSays, AttestSays};
 use walk_record::WalkRecord;
 
 // The number of the first refusal of p, G, H; 0 where the field is accepted.
-#[unsafe(no_mangle)]
-pub extern "C" fn zaminuk_refusal(p: u64, g: &[u64], h: &[u64]) -> u32
+pub fn zaminuk_refusal(p: u64, g: &[u64], h: &[u64]) -> u32
     ensures { Refusal p (unpad g.now) (unpad h.now) result }
 {
     field_open::refusal(p, g, h)
 }
 
 // The first coefficients of r and of w, highest power first, into two slices of equal length, at most 4,096.
-#[unsafe(no_mangle)]
-pub extern "C" fn zaminuk_series(p: u64, g: &[u64], h: &[u64], r: &mut [u16], w: &mut [u16]) -> u32
+pub fn zaminuk_series(p: u64, g: &[u64], h: &[u64], r: &mut [u16], w: &mut [u16]) -> u32
     ensures { Answer p (unpad g.now) (unpad h.now) r.old w.old r.new w.new result }
 {
     field_series::series(p, g, h, r, w)
 }
 
 // The basis of the order, into a lent record.
-#[unsafe(no_mangle)]
-pub extern "C" fn zaminuk_order(p: u64, g: &[u64], h: &[u64], rows: &mut [u16; 119]) -> u32
+pub fn zaminuk_order(p: u64, g: &[u64], h: &[u64], rows: &mut [u16; 119]) -> u32
     ensures { OrderTells p (unpad g.now) (unpad h.now) rows.old result rows.new }
 {
     let o = door_order::order(p, g, h);
@@ -50,8 +49,7 @@ pub extern "C" fn zaminuk_order(p: u64, g: &[u64], h: &[u64], rows: &mut [u16; 1
 }
 
 // Whether the rows are the scaled reduced basis of a reduced ideal: 0, or the refusal.
-#[unsafe(no_mangle)]
-pub extern "C" fn zaminuk_check(p: u64, g: &[u64], h: &[u64], rows: &[u16; 119]) -> u32
+pub fn zaminuk_check(p: u64, g: &[u64], h: &[u64], rows: &[u16; 119]) -> u32
     ensures { Checks p (unpad g.now) (unpad h.now) rows.now result }
 {
     let b = *rows;
@@ -59,14 +57,7 @@ pub extern "C" fn zaminuk_check(p: u64, g: &[u64], h: &[u64], rows: &[u16; 119])
 }
 
 // One step, in place: the next record, and the degree of the m divided by, 0 beside a refusal.
-#[unsafe(no_mangle)]
-pub extern "C" fn zaminuk_step(
-    p: u64,
-    g: &[u64],
-    h: &[u64],
-    rows: &mut [u16; 119],
-    degree: &mut u64,
-) -> u32
+pub fn zaminuk_step(p: u64, g: &[u64], h: &[u64], rows: &mut [u16; 119], degree: &mut u64) -> u32
     ensures { StepTells p (unpad g.now) (unpad h.now) rows.old result degree.new rows.new }
 {
     let from = *rows;
@@ -82,8 +73,7 @@ pub extern "C" fn zaminuk_step(
 
 // A walk of at most `budget` steps, in place: the last record, also where the budget was spent (10); steps and degree sum, 0 beside the
 // other refusals.
-#[unsafe(no_mangle)]
-pub extern "C" fn zaminuk_walk(
+pub fn zaminuk_walk(
     p: u64,
     g: &[u64],
     h: &[u64],
@@ -104,16 +94,14 @@ pub extern "C" fn zaminuk_walk(
 }
 
 // At most `budget` steps from each of up to 64 walk records, in place: 0, or 14 with nothing changed.
-#[unsafe(no_mangle)]
-pub extern "C" fn zaminuk_sheet(records: &mut [WalkRecord], budget: u64) -> u32
+pub fn zaminuk_sheet(records: &mut [WalkRecord], budget: u64) -> u32
     ensures { Sheet records.old budget result records.new }
 {
     door_sheet::sheet(records, budget)
 }
 
 // The walk of at most `budget` steps from the order: its refusal; period and regulator, 0 beside a refusal.
-#[unsafe(no_mangle)]
-pub extern "C" fn zaminuk_from_order(
+pub fn zaminuk_from_order(
     p: u64,
     g: &[u64],
     h: &[u64],
@@ -133,8 +121,7 @@ pub extern "C" fn zaminuk_from_order(
 
 // The unit under a convention, 1 for E0 monic and 2 for norm 1, and its inverse into the first of two lent slices of one length; period and
 // regulator, 0 beside a refusal.
-#[unsafe(no_mangle)]
-pub extern "C" fn zaminuk_unit_scaled(
+pub fn zaminuk_unit_scaled(
     p: u64,
     g: &[u64],
     h: &[u64],
@@ -157,8 +144,7 @@ pub extern "C" fn zaminuk_unit_scaled(
 }
 
 // The same under convention 1.
-#[unsafe(no_mangle)]
-pub extern "C" fn zaminuk_unit(
+pub fn zaminuk_unit(
     p: u64,
     g: &[u64],
     h: &[u64],
@@ -175,23 +161,14 @@ pub extern "C" fn zaminuk_unit(
 }
 
 // The rows of a unit and its inverse, carried over in place from one convention to another.
-#[unsafe(no_mangle)]
-pub extern "C" fn zaminuk_rescale(
-    p: u64,
-    g: &[u64],
-    h: &[u64],
-    from: u32,
-    to: u32,
-    rows: &mut [u16],
-) -> u32
+pub fn zaminuk_rescale(p: u64, g: &[u64], h: &[u64], from: u32, to: u32, rows: &mut [u16]) -> u32
     ensures { Rescales p (unpad g.now) (unpad h.now) from to rows.old result rows.new }
 {
     door_rescale::rescale(p, g, h, from, to, rows)
 }
 
 // Whether two pairs over one p are of one field: 1 or 0, and 0 beside a refusal of the first pair or of the second.
-#[unsafe(no_mangle)]
-pub extern "C" fn zaminuk_one_field(
+pub fn zaminuk_one_field(
     p: u64,
     g: &[u64],
     h: &[u64],
@@ -208,8 +185,7 @@ pub extern "C" fn zaminuk_one_field(
 }
 
 // The rows of a unit and its inverse, carried over in place from the pair G, H to a pair of the same field.
-#[unsafe(no_mangle)]
-pub extern "C" fn zaminuk_transfer(
+pub fn zaminuk_transfer(
     p: u64,
     g: &[u64],
     h: &[u64],
@@ -223,8 +199,7 @@ pub extern "C" fn zaminuk_transfer(
 }
 
 // Checks a book: five numbers, the refusal, the inner reason, its entry, its other number, the result.
-#[unsafe(no_mangle)]
-pub extern "C" fn zaminuk_book_check(book: &[u8], said: &mut [u64; 5])
+pub fn zaminuk_book_check(book: &[u8], said: &mut [u64; 5])
     ensures { CheckSays book.now said.new }
 {
     let a = book_check::check(book);
@@ -233,16 +208,14 @@ pub extern "C" fn zaminuk_book_check(book: &[u8], said: &mut [u64; 5])
 }
 
 // The number of bodies that a book's contents say it has.
-#[unsafe(no_mangle)]
-pub extern "C" fn zaminuk_book_bodies(book: &[u8]) -> usize
+pub fn zaminuk_book_bodies(book: &[u8]) -> usize
     ensures { result ≡ count book.now }
 {
     book_contents::bodies(book)
 }
 
 // Asks for entry i: where its part of the book starts, and how long it is.
-#[unsafe(no_mangle)]
-pub extern "C" fn zaminuk_book_ask(
+pub fn zaminuk_book_ask(
     book: &[u8],
     i: usize,
     start: &mut usize,
@@ -255,8 +228,7 @@ pub extern "C" fn zaminuk_book_ask(
 }
 
 // Attests entry i: the result is 1 for yes.
-#[unsafe(no_mangle)]
-pub extern "C" fn zaminuk_book_attest(book: &[u8], i: usize, said: &mut [u64; 5])
+pub fn zaminuk_book_attest(book: &[u8], i: usize, said: &mut [u64; 5])
     ensures { AttestSays book.now i said.new }
 {
     let a = book_attest::attest(book, i);
@@ -265,8 +237,7 @@ pub extern "C" fn zaminuk_book_attest(book: &[u8], i: usize, said: &mut [u64; 5]
 }
 
 // The prime of a body: the result.
-#[unsafe(no_mangle)]
-pub extern "C" fn zaminuk_body_prime(body: &[u8], said: &mut [u64; 5])
+pub fn zaminuk_body_prime(body: &[u8], said: &mut [u64; 5])
     ensures { PrimeSays body.now said.new }
 {
     let o = book_parts::prime(body);
@@ -274,8 +245,7 @@ pub extern "C" fn zaminuk_body_prime(body: &[u8], said: &mut [u64; 5])
 }
 
 // The period of a body: the result.
-#[unsafe(no_mangle)]
-pub extern "C" fn zaminuk_body_period(body: &[u8], said: &mut [u64; 5])
+pub fn zaminuk_body_period(body: &[u8], said: &mut [u64; 5])
     ensures { PeriodSays body.now said.new }
 {
     let o = book_parts::period(body);
@@ -283,8 +253,7 @@ pub extern "C" fn zaminuk_body_period(body: &[u8], said: &mut [u64; 5])
 }
 
 // List k of a body, 0 to 4 for G, H, E0, E1, E2, into the front of a lent slice; the result is its length.
-#[unsafe(no_mangle)]
-pub extern "C" fn zaminuk_body_list(body: &[u8], k: usize, out: &mut [u64], said: &mut [u64; 5])
+pub fn zaminuk_body_list(body: &[u8], k: usize, out: &mut [u64], said: &mut [u64; 5])
     ensures { ListSays body.now k out.old out.new said.new }
 {
     let o = book_parts::list(body, k, out);
@@ -292,8 +261,7 @@ pub extern "C" fn zaminuk_body_list(body: &[u8], k: usize, out: &mut [u64], said
 }
 
 // Begins a book, one with no bodies, at the front of a lent slice; the result is its length.
-#[unsafe(no_mangle)]
-pub extern "C" fn zaminuk_book_begin(out: &mut [u8], said: &mut [u64; 5])
+pub fn zaminuk_book_begin(out: &mut [u8], said: &mut [u64; 5])
     ensures { BeginSays out.old out.new said.new }
 {
     let o = book_begin::begin(out);
@@ -301,8 +269,7 @@ pub extern "C" fn zaminuk_book_begin(out: &mut [u8], said: &mut [u64; 5])
 }
 
 // Writes a body into a lent slice; the result is its length.
-#[unsafe(no_mangle)]
-pub extern "C" fn zaminuk_book_write(
+pub fn zaminuk_book_write(
     p: u64,
     g: &[u64],
     h: &[u64],
@@ -321,8 +288,7 @@ pub extern "C" fn zaminuk_book_write(
 }
 
 // Writes a body from the six rows of a unit and its inverse into a lent slice; the result is its length.
-#[unsafe(no_mangle)]
-pub extern "C" fn zaminuk_book_write_rows(
+pub fn zaminuk_book_write_rows(
     p: u64,
     g: &[u64],
     h: &[u64],
@@ -338,8 +304,7 @@ pub extern "C" fn zaminuk_book_write_rows(
 }
 
 // Adds a body to the book of length n at the front of a lent slice; the result is the new length.
-#[unsafe(no_mangle)]
-pub extern "C" fn zaminuk_book_add(out: &mut [u8], n: usize, body: &[u8], said: &mut [u64; 5])
+pub fn zaminuk_book_add(out: &mut [u8], n: usize, body: &[u8], said: &mut [u64; 5])
     ensures { AddSays out.old n body.now out.new said.new }
 {
     let a = book_add::add(out, n, body);

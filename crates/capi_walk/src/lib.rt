@@ -1,4 +1,6 @@
 // What a walk from a lent record answers, in place: the record where the first one was, the numbers where they are wanted.
+#![tactic(auto)]
+
 ghost use Rattle.capi_walk.specs.Puts.{Puts};
 
 // The refusal n of a walk; its last record b into the lent one, also where the budget was spent (10); its steps l and degree sum d.

@@ -123,6 +123,7 @@ with_fourteen : {n : ℕ} → Numbered 8 (11 ∷ 13 ∷ []) n → Numbered 8 (11
 with_fourteen (inl h) = inl h
 with_fourteen (inr (inl e)) = inr (inl e)
 with_fourteen (inr (inr (inl e))) = inr (inr (inl e))
+with_fourteen (inr (inr (inr none))) = absurd none
 
 rows_numbered : {p t : ℕ} {G H l d d' : List ℕ} {x : Said} → rowed.RowsTells p G H t l d x d' → Numbered 8 (11 ∷ 13 ∷ 14 ∷ []) x.number
 rows_numbered {p} {t} {G} {H} (rowed.field f n h r e q) = let z = stages.numbered p G H n r in inl (omega (arith, number_of e))

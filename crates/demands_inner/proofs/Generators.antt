@@ -8,7 +8,6 @@ use Prim.Native.Nat as N
 use native.Mathlib.Omega.{arith}
 use Rattle.math_ring.specs.Ring.{CRing}
 use Rattle.math_ring.proofs.Solve.{var, minus, one, ◌:+◌, ◌:*◌, hyp, solve_by}
-use Rattle.math_fp.specs.Fp.{Prime}
 use Rattle.math_valued.specs.Degree.{Has}
 use Rattle.math_valued.specs.Polynomial.{polys, Divides, IsUnit}
 use Rattle.math_valued.proofs.Degree.{has_move, lt_eq}

@@ -17,7 +17,6 @@ use Rattle.math_valued.proofs.Divide.{p_cancel}
 use Rattle.math_valued.proofs.Gcds.{gcds, comb_divides}
 use Rattle.math_valued.proofs.Polynomial.{factor, const_unit}
 use Rattle.math_rows.specs.Made.{reading}
-use Rattle.math_rows.specs.Row.{Size}
 use Rattle.poly_rows.specs.Polynomial.{polynomial}
 use Rattle.poly_content.specs.Common.{Four, Without}
 use Rattle.base_answers.proofs.Tests.{decides_unique}

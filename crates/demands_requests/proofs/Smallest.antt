@@ -15,7 +15,6 @@ use Rattle.math_fundamental.proofs.Fundamental.{unit_fundamental, unit_smallest,
 use Rattle.math_fundamental.proofs.Agree.{least_unique, smallest_unique, constant_norm}
 use Rattle.basis_record.specs.Record.{setting, basis_of}
 use Rattle.pair_theory.proofs.Least.{least_agree}
-use Rattle.basis_field.specs.First.{IsFirst}
 use Rattle.walk_chain.specs.Walk as walk
 use Rattle.walk_chain.proofs.Walk.{closes_unique}
 use Rattle.door_period.specs.declared.PeriodAnswer.{PeriodAnswer}

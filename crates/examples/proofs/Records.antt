@@ -5,7 +5,7 @@ use mathlib.Core.Path.{◌≡◌, refl, sym, subst}
 use mathlib.Core.Bool.{true}
 use mathlib.Core.List.{List, [], ◌∷◌}
 use Prim.Native.Nat.{ℕ, ◌+◌}
-use lib.Dec.{T, eqb, leb, eqb→eq, leb→le}
+use lib.Dec.{T, eqb→eq, leb→le}
 use lib.ListN.{length, get_or}
 use Rattle.math_fp.proofs.Trial.{and_l, and_r}
 use Rattle.field_open.specs.Refusal.{Accepted}
@@ -29,7 +29,7 @@ use Rattle.door_period.specs.Order.{FromOrder}
 use Rattle.door_period.proofs.Order.{from_order_unique}
 use Rattle.examples_lists.specs.Lists.{alike}
 use Rattle.examples_tests.specs.Rows.{Rows, stored}
-use Rattle.examples_tests.specs.Tests.{every, goes}
+use Rattle.examples_tests.specs.Tests.{every}
 use Rattle.examples_tests.specs.Walks.{at, degree_l, total, unclosed, step, walks}
 use Rattle.examples_tests.proofs.Fields.{every_at, accepted_of}
 use Rattle.examples_tests.proofs.Bases.{basis_l, good_rows}

@@ -7,7 +7,7 @@ use mathlib.Core.List.{List, [], ◌∷◌}
 use Prim.Native.Nat.{ℕ, ◌+◌, ◌*◌, ◌/◌, ◌<◌, ◌≤◌}
 use native.Mathlib.Omega.{arith}
 use native.Mathlib.Decide.{dec_lt}
-use lib.Dec.{T, eqb, ltb, leb, eqb→eq, ltb→lt, leb→le}
+use lib.Dec.{T, leb, eqb→eq, ltb→lt, leb→le}
 use lib.ListN.{length, get_or, replicate, get_or-eq_default}
 use Rattle.math_triple.specs.Tri.{Tri, norm_t}
 use Rattle.math_fp.proofs.Trial.{and_l, and_r}
@@ -20,7 +20,7 @@ use Rattle.math_chain.specs.Chain.{Closing}
 use Rattle.math_chain.specs.Convention.{Convention, e0_monic, number}
 use Rattle.math_chain.specs.Unit.{UnitOf}
 use Rattle.math_chain.proofs.Closing.{start_unique}
-use Rattle.basis_record.specs.Record.{setting, poly_of}
+use Rattle.basis_record.specs.Record.{setting}
 use Rattle.base_answers.specs.Limits.{most}
 use Rattle.field_open.proofs.Door.{door_goes}
 use Rattle.door_unit.specs.Unit as unitAnswer

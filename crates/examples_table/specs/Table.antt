@@ -26,17 +26,17 @@ t³ = 0 ∷ 0 ∷ 0 ∷ 1 ∷ []
 abbrev pub t⁴ : List ℕ
 t⁴ = 0 ∷ 0 ∷ 0 ∷ 0 ∷ 1 ∷ []
 
-infixl 60 ◌+◌
+infixl 60 ◌⊕◌
 infixl 70 ◌·◌
-abbrev pub ◌+◌ : List ℕ → List ℕ → List ℕ
-x + y = plus 5 x y
+abbrev pub ◌⊕◌ : List ℕ → List ℕ → List ℕ
+x ⊕ y = plus 5 x y
 
 abbrev pub ◌·◌ : ℕ → List ℕ → List ℕ
 a · x = scale 5 a x
 
 -- "G = t³+4, H = 1"
 abbrev pub k₁ : Input
-k₁ = record { p = 5; G = t³ + num 4; H = num 1 }
+k₁ = record { p = 5; G = t³ ⊕ num 4; H = num 1 }
 
 -- "m = t²+tr+w, n = 3t+r"
 abbrev pub b₁ : Rows
@@ -44,19 +44,19 @@ b₁ = record { M = element t² t (num 1); N = element (3 · t) (num 1) []; U = 
 
 -- "G = t, H = t+1"
 abbrev pub k₂ : Input
-k₂ = record { p = 5; G = t; H = t + num 1 }
+k₂ = record { p = 5; G = t; H = t ⊕ num 1 }
 
 -- "m = (t²+t+4)+(t+2)r+(t+4)w, n = (3t+4)+3r+3w"
 abbrev pub b₂ : Rows
-b₂ = record { M = element (t² + t + num 4) (t + num 2) (t + num 4); N = element (3 · t + num 4) (num 3) (num 3); U = num 1 }
+b₂ = record { M = element (t² ⊕ t ⊕ num 4) (t ⊕ num 2) (t ⊕ num 4); N = element (3 · t ⊕ num 4) (num 3) (num 3); U = num 1 }
 
 -- "G = t³+t, H = 1"
 abbrev pub k₃ : Input
-k₃ = record { p = 5; G = t³ + t; H = num 1 }
+k₃ = record { p = 5; G = t³ ⊕ t; H = num 1 }
 
 -- "m = (t³+4t)+(t²+2)r+tw, n = (2t²+1)+2tr+2w"
 abbrev pub b₃ : Rows
-b₃ = record { M = element (t³ + 4 · t) (t² + num 2) t; N = element (2 · t² + num 1) (2 · t) (num 2); U = num 1 }
+b₃ = record { M = element (t³ ⊕ 4 · t) (t² ⊕ num 2) t; N = element (2 · t² ⊕ num 1) (2 · t) (num 2); U = num 1 }
 
 -- "U = t, m = (t²+tr+w)/t, n = (3tr+2w)/t"
 abbrev pub b₄ : Rows
@@ -64,7 +64,7 @@ b₄ = record { M = element t² t (num 1); N = element [] (3 · t) (num 2); U = 
 
 -- the unit of k₃ (in the lister's example 4,0,1,0,1;0,4,0,1;2,0,1) and "inverse 4+2tr+3w"
 abbrev pub e₃ : Tri (List ℕ)
-e₃ = element (t⁴ + t² + num 4) (t³ + 4 · t) (t² + num 2)
+e₃ = element (t⁴ ⊕ t² ⊕ num 4) (t³ ⊕ 4 · t) (t² ⊕ num 2)
 
 abbrev pub f₃ : Tri (List ℕ)
 f₃ = element (num 4) (2 · t) (num 3)
@@ -105,4 +105,4 @@ table =
 
 -- E6, "For G = t³+t over 5, convention 2 gives E0 = 4t⁴+4t²+1, E1 = 4t³+t, E2 = 4t²+3"
 abbrev pub requested : List (ℕ × Line)
-requested = (6, unit norm_one k₃ 5 2 2 (element (4 · t⁴ + 4 · t² + num 1) (4 · t³ + t) (4 · t² + num 3)) (element (num 1) (3 · t) (num 2))) ∷ []
+requested = (6, unit norm_one k₃ 5 2 2 (element (4 · t⁴ ⊕ 4 · t² ⊕ num 1) (4 · t³ ⊕ t) (4 · t² ⊕ num 3)) (element (num 1) (3 · t) (num 2))) ∷ []

@@ -7,9 +7,9 @@ use mathlib.Core.Path.{◌≡◌, refl, sym, ap, ap₂, ◌∙◌, subst}
 use mathlib.Core.Logic.{◌⊎◌, inl, inr}
 use mathlib.Core.Bool.{Bool, true, false, ◌&&◌, ◌||◌}
 use mathlib.Core.List.{List, [], ◌∷◌}
-use Prim.Native.Nat.{ℕ, suc, ◌-◌, ◌<◌, ◌≤◌}
+use Prim.Native.Nat.{ℕ, suc, ◌-◌, ◌≤◌}
 use native.Mathlib.Omega.{arith}
-use lib.Dec.{T, eqb, ltb, leb, eqb→eq, ltb→lt, leb→le}
+use lib.Dec.{T, ltb, eqb→eq, ltb→lt, leb→le}
 use lib.ListN.{length, get_or}
 use Rattle.math_ring.proofs.Solve.{Expr, var, minus as minusE, ◌:+◌, ◌:*◌}
 use Rattle.math_triple.specs.Tri.{Tri, Nm, X as Xᵉ, norm_t}

@@ -10,7 +10,7 @@ use mathlib.Core.List.{List, [], ◌∷◌}
 use Prim.Native.Nat.{ℕ, zero, suc, ◌+◌, ◌-◌, ◌%◌, ◌<◌, ◌≤◌}
 use native.Mathlib.Omega.{arith}
 use native.Mathlib.Decide.{ℕ_discrete}
-use lib.Dec.{T, eqb, ltb, leb, eqb→eq, ltb→lt, leb→le, eqb_refl, T_not}
+use lib.Dec.{T, eqb, ltb, eqb→eq, ltb→lt, leb→le, eqb_refl, T_not}
 use lib.ListN.{length, get_or}
 use Rattle.base_lists.specs.Sums.{entry, prod}
 use Rattle.math_fp.proofs.Trial.{and_l, and_r, primeb_sound}
@@ -19,7 +19,7 @@ use Rattle.field_roots.specs.SeriesOf.{top, SeriesOf}
 use Rattle.examples_lists.specs.Lists.{slope}
 use Rattle.examples_lists.specs.Quotients.{bezout}
 use Rattle.examples_lists.proofs.Meaning.{coprime_list, squarefree_list}
-use Rattle.examples_tests.specs.Tests.{every, up_to, below, listed, apart, accepts, begins}
+use Rattle.examples_tests.specs.Tests.{every, up_to, below, listed, accepts, begins}
 
 pub every_at : (l : List Bool) → T (every l) → (i : ℕ) → T (get_or l i true)
 every_at [] t i = tt

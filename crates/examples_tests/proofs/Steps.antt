@@ -6,10 +6,10 @@
 use mathlib.Core.Path.{◌≡◌, sym, ap, ◌∙◌, subst}
 use mathlib.Core.Bool.{true}
 use mathlib.Core.List.{List, [], ◌∷◌}
-use Prim.Native.Nat.{ℕ, ◌-◌}
+use Prim.Native.Nat.{ℕ}
 use native.Mathlib.Omega.{arith}
 use native.Mathlib.Decide.{dec_lt}
-use lib.Dec.{T, eqb, eqb→eq}
+use lib.Dec.{T, eqb→eq}
 use lib.ListN.{length, get_or, get_or-eq_default}
 use Rattle.math_ring.proofs.Solve.{var, hyp, ◌:+◌, ◌:*◌, solve_by}
 use Rattle.math_triple.specs.Tri.{Tri}
@@ -24,7 +24,7 @@ use Rattle.math_ideals.proofs.Lattice.{in_U, in_M, in_add, in_scale}
 use Rattle.basis_record.specs.Record.{part, setting, poly_of, basis_of, IsRecord}
 use Rattle.examples_lists.proofs.Meaning.{el, el_alike, poly_alike}
 use Rattle.examples_tests.specs.Rows.{Rows}
-use Rattle.examples_tests.specs.Tests.{every, lies, pure, by, over, back_by, meets, into, onto, goes, kept}
+use Rattle.examples_tests.specs.Tests.{every, lies, pure, by, over, back_by, meets, goes, kept}
 use Rattle.examples_tests.proofs.Fields.{every_at, below_sound}
 use Rattle.examples_tests.proofs.Bases.{basis_l, lies_in, pure_is, by_is}
 

@@ -1,4 +1,6 @@
 // The unit lister: the answer to a line, and to the lines of the input, in whatever pieces it arrives.
+#![tactic(auto)]
+
 ghost use Rattle.lister.specs.Listing.{Told, Answer, Steps, Passes};
 
 use text_cut::Step;
@@ -8,7 +10,7 @@ use text_read::Parsed;
 const ROOM: usize = 20000;
 
 // How far the lister is: the place in the piece, the bytes of the next line that are pending, the place in the output.
-#[derive(Drop)]
+#[derive(Clone, Copy)]
 pub struct Going {
     pub at: usize,
     pub n: usize,

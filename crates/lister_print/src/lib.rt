@@ -1,4 +1,6 @@
 // What the lister prints: a refusal or the unit behind its field.
+#![tactic(auto)]
+
 ghost use Rattle.std.specs.Prelude.{◌∷◌};
 ghost use Rattle.base_lists.specs.Pieces.{Put};
 ghost use Rattle.text_put.specs.Print.{semicolon, number_text, line_text};

@@ -1,4 +1,6 @@
 // What the lister prints of the unit's rows.
+#![tactic(auto)]
+
 ghost use Rattle.std.specs.Prelude.{◌≤◌, ◌∷◌, length};
 ghost use Rattle.base_lists.specs.Pieces.{Put, cut};
 ghost use Rattle.text_put.specs.Print.{semicolon, list_text};

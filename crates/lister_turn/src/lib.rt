@@ -1,13 +1,18 @@
 // Where the lister's program stands, and what is next: its decisions, which call nothing of the system. specs/Turn.antt has the contracts.
+#![tactic(auto)]
+
 ghost use Rattle.std.specs.Prelude.{◌≡◌};
 ghost use Rattle.lister_turn.specs.Turn.{Plans, Ended, with_piece, at_stop};
 
-use libc::{STDIN_FILENO, STDOUT_FILENO};
+// The numbers that a system gives to the two streams.
+const STDIN_FILENO: i32 = 0;
+
+const STDOUT_FILENO: i32 = 1;
 
 // Of a line n bytes are pending; of the piece that was read, m bytes, those from `at` on are not answered yet; of the answers those from
 // `from` up to `to` are not written yet. The phase is 0 before the input's end is read, 1 from then on, 2 once all is written, 3 once a
 // call failed.
-#[derive(Drop)]
+#[derive(Clone, Copy)]
 pub struct Stand {
     pub n: usize,
     pub at: usize,
@@ -18,7 +23,7 @@ pub struct Stand {
 }
 
 // What comes next: a part of the answers is handed to a descriptor, lines are answered, a descriptor is read, or nothing is left.
-#[derive(Drop)]
+#[derive(Clone, Copy)]
 pub enum Act {
     Write(i32, usize, usize),
     Answer,

@@ -10,19 +10,20 @@ use native.Mathlib.Omega.{arith}
 use lib.ListN.{length, take, drop, length-take, take-append-drop}
 use lib.Seq.{drop-drop}
 use lib.IntN.{ℤ, pos, negsuc}
+use Rattle.std.specs.Prelude.{Option}
+use Rattle.std.specs.Io.KnownBytes.{Consumes, Appends}
 use Rattle.base_lists.specs.Pieces.{Put, between, piece}
 use Rattle.base_lists.proofs.Pieces.{drop_take}
 use Rattle.base_lists.proofs.Puts.{placed_same, front_is}
 use Rattle.text_cut.specs.Lines.{Line, lines_of}
 use Rattle.text_cut.specs.Feed.{Fed, start, next_piece, Answered, no_line, Output, end_text}
 use Rattle.text_cut.proofs.Feeds.{answered_append, fed_lines, fed_output}
-use Rattle.libc.specs.Io.{Moved}
 use Rattle.lister.specs.declared.Going.{Going}
 use Rattle.lister.specs.Listing.{room, Lists, Passes}
 use Rattle.lister.proofs.Short.{refused_short}
 use Rattle.lister.proofs.Paces.{Pace, passes_pace}
 use Rattle.lister_turn.specs.declared.Stand.{Stand}
-use Rattle.units.specs.Serve.{Call, write, read, moved, took, brought, Settles, Wrote, Answers, Came, Heard, Turn, writes, answers, reads, stops}
+use Rattle.units.specs.Serve.{Call, write, read, Moved, moved, took, brought, Settles, Wrote, Answers, Came, Heard, Turn, writes, answers, reads, stops}
 use Rattle.units.specs.Serve.{Asks, Run, begin, more, Begun, Ending, Ran}
 use Rattle.lister_turn.specs.Turn.{at_stop}
 
@@ -310,5 +311,5 @@ module _ {cs : List Call} {k b d : List ℕ} {s : Stand} (x : Run cs k b d s) wh
       })
       go (inr y) = inr (record { rest = between s.from s.to d; output = y.output })
 
-  pub ran : Ran s
-  ran = record { calls = cs; k = k; b = b; d = d; run = x; whole = run_output; part = run_begins }
+  pub ran : (i i' o o' : Option (List ℕ)) → Consumes i i' (brought cs) → Appends o o' (took cs) → Ran i i' o o' s
+  ran i i' o o' p q = record { calls = cs; input = p; output = q; k = k; b = b; d = d; run = x; whole = run_output; part = run_begins }

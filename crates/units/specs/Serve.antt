@@ -1,21 +1,22 @@
--- What the program does, turn by turn, whatever its calls of the system answer.
---   Call, took, brought    write(1, bytes) or read(0, ..) with its answer; the bytes that were taken, or that came
+-- What the program does, turn by turn, whatever its reads and writes answer.
+--   Call, took, brought    a write or a read with its answer; the bytes that were taken, or that came
+--   Moved n got, told r    what a call that is handed n bytes may answer, as a number; what a call answered, as that number
 --   Settles w p q          the phase after a call that moved w bytes; 3, a failure, only where w is 0
 --   Wrote, Answers, Heard  what is next after a write, after lines of a piece were answered, after a read
---   Turn, Turns            one turn, with the call made in it
+--   Turn, Turns            one turn, with the call made in it; what the reader has left and the writer holds changes by that call alone
 --   Asks                   what a turn asks
 --   Run cs k b d s         turns from the start on, with the calls cs, the latest first: pending bytes in k, the piece in b, answers in d
 --   Begun, Ending           what was taken is a beginning of the answers to lines that have ended; of the output
---   Ran s                  where the program stops
+--   Ran                    where the program stops: what it read and wrote since the start
 -- Theorems, proofs/Hearing: `run_output`, in phase 2 what the writes took, joined, is the output to what the reads brought, joined;
 -- `run_begins`, in every other phase it is a beginning of the answers to lines that have ended, so none is of a line not read to its end.
--- Not proved, as no contract speaks of the world: that a call of libc does what POSIX says, and that `turn`, which alone calls read and
--- write, hands them the descriptor and the slice that `plan` names and hands on their answer. Its ten lines are to be read.
-use Rattle.std.specs.Prelude.{◌≡◌, ◌⊎◌, List, [], ◌∷◌, ◌++◌, ℕ, zero, suc, ◌+◌, ◌≤◌, ◌<◌, length, take, ℤ, pos, negsuc}
+-- Not proved, as no contract speaks of the world: that what the library's standard input gives and its standard output takes are the bytes
+-- of the process's own two streams.
+use Rattle.std.specs.Prelude.{◌≡◌, ◌⊎◌, List, [], ◌∷◌, ◌++◌, ℕ, zero, suc, ◌+◌, ◌≤◌, ◌<◌, length, take, ℤ, pos, negsuc, Option, Result, Ok, Err}
+use Rattle.std.specs.Io.KnownBytes.{Consumes, Appends}
 use Rattle.base_lists.specs.Pieces.{between}
 use Rattle.text_cut.specs.Lines.{Line, lines_of}
 use Rattle.text_cut.specs.Feed.{at_end, Answered, Output}
-use Rattle.libc.specs.Io.{Moved}
 use Rattle.lister.specs.Listing.{room, Lists, Passes}
 use Rattle.lister.specs.declared.Going.{Going}
 use Rattle.lister_turn.specs.declared.Stand.{Stand}
@@ -31,6 +32,15 @@ pub data Call : Type 0 where
 abbrev pub moved : ℤ → ℕ
 moved (pos k) = k
 moved (negsuc k) = 0
+
+-- a call that is handed n bytes answers -1, or how many bytes it moved, at most n
+abbrev pub Moved : ℕ → ℤ → Type 0
+Moved n (pos k) = k ≤ n
+Moved n (negsuc k) = k ≡ 0
+
+abbrev pub told : {E : Type 0} → Result ℕ E → ℤ
+told (Ok k) = pos k
+told (Err e) = negsuc 0
 
 unfoldable pub took : List Call → List ℕ
 took [] = []
@@ -85,9 +95,12 @@ pub data Turn (k b d : List ℕ) (s r : Stand) : List Call → List ℕ → List
       → Heard d s got r d' → Turn k b d s r (read got b' ∷ []) k b' d'
   stops : Plans s Stop → r ≡ at_stop s → Turn k b d s r [] k b d
 
-pub record Turns (k b d : List ℕ) (s r : Stand) (k' b' d' : List ℕ) : Type 0 where
+-- i and i' are what the reader has left before and after, o and o' what the writer holds, where those are known
+pub record Turns (i i' o o' : Option (List ℕ)) (k b d : List ℕ) (s r : Stand) (k' b' d' : List ℕ) : Type 0 where
   pub calls : List Call
   pub turn : Turn k b d s r calls k' b' d'
+  pub input : Consumes i i' (brought calls)
+  pub output : Appends o o' (took calls)
 
 -- what a turn asks: the piece and the answers lie within their slices
 pub record Asks (b d : List ℕ) (s : Stand) : Type 0 where
@@ -119,8 +132,10 @@ pub record Ending (cs : List Call) : Type 0 where
   pub rest : List ℕ
   pub output : Output Lists (brought cs) (took cs ++ rest)
 
-pub record Ran (s : Stand) : Type 0 where
+pub record Ran (i i' o o' : Option (List ℕ)) (s : Stand) : Type 0 where
   pub calls : List Call
+  pub input : Consumes i i' (brought calls)
+  pub output : Appends o o' (took calls)
   pub k : List ℕ
   pub b : List ℕ
   pub d : List ℕ

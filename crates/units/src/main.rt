@@ -1,45 +1,65 @@
 // The unit lister: reads lines p;G;H from standard input and writes an answer to each, as they come.
+#![tactic(auto)]
+
 ghost use Rattle.std.specs.Prelude.{◌≡◌, length, ◌+◌, ◌≤◌};
-ghost use Rattle.units.specs.Serve.{Settles, Asks, Wrote, Answers, Heard, Turns, Ran};
-ghost use Rattle.libc.specs.Io.{Moved};
+ghost use Rattle.std.specs.Io.{WritesAtMost, ReadsAtMost};
+ghost use Rattle.units.specs.Serve.{Settles, Asks, Wrote, Answers, Heard, Turns, Ran, told, moved};
 
 use lister::Going;
 use lister_turn::{Act, Stand, came, ended, plan, stopped};
+use std::io::{Error, ErrorKind, Read, Result, Write};
+use std::thread::yield_now;
 
 // Whether a call that failed is to be tried again: it was interrupted, or would have had to wait.
-fn again() -> bool {
-    let why = os::errno();
-    if why == libc::EINTR {
-        return true;
+fn again(why: Error) -> bool {
+    match why.kind() {
+        ErrorKind::Interrupted => true,
+        ErrorKind::WouldBlock => {
+            yield_now();
+            true
+        }
+        _ => false,
     }
-    if why == libc::EAGAIN {
-        libc::sched_yield();
-        return true;
-    }
-    false
 }
 
-// The phase after a call that moved so many bytes.
-fn settle(phase: u8, moved: usize) -> u8
-    ensures { Settles moved phase result }
+// How many bytes a call moved.
+fn count(got: Result<usize>) -> usize
+    ensures { result ≡ moved (told got) }
 {
-    if moved > 0 {
-        return phase;
+    match got {
+        Ok(n) => n,
+        Err(_) => 0,
     }
-    if again() {
-        return phase;
+}
+
+// The phase after a call that answered this. Where it failed for good, `why` says so.
+fn settle(phase: u8, got: Result<usize>, why: &mut Option<Error>) -> u8
+    ensures { Settles (moved (told got)) phase result }
+{
+    match got {
+        Ok(0) => {
+            *why = Some(Error::from(ErrorKind::WriteZero));
+            3
+        }
+        Ok(_) => phase,
+        Err(e) => {
+            if again(e) {
+                return phase;
+            }
+            *why = Some(e);
+            3
+        }
     }
-    3
 }
 
 // After a write of a part of the answers.
-fn wrote(s: Stand, part: &[u8], got: isize) -> Stand
-    requires { (Moved (length part.now) got) × (s.from + length part.now ≤ s.to) }
-    ensures { Wrote s got result }
+fn wrote(s: Stand, part: &[u8], got: Result<usize>, why: &mut Option<Error>) -> Stand
+    requires taken { WritesAtMost got part.now }
+    requires within { s.from + length part.now ≤ s.to }
+    ensures { Wrote s (told got) result }
 {
-    let w = io::count(got, part);
-    let from = s.from + w;
-    let phase = settle(s.phase, w);
+    let from = s.from + count(got);
+    let phase = settle(s.phase, got, why);
     Stand {
         n: s.n,
         at: s.at,
@@ -70,43 +90,57 @@ fn answer(kept: &mut [u8], buf: &[u8], out: &mut [u8], s: Stand) -> Stand
 }
 
 // After a read: a piece came, or the input's end, or nothing.
-fn heard(buf: &[u8], out: &mut [u8], s: Stand, got: isize) -> Stand
-    requires { Moved (length buf.now) got }
-    ensures { Heard out.old s got result out.new }
+fn heard(out: &mut [u8], s: Stand, got: Result<usize>, why: &mut Option<Error>) -> Stand
+    ensures { Heard out.old s (told got) result out.new }
 {
-    if got == 0 {
+    if let Ok(0) = got {
         return ended(out, s);
     }
-    let m = io::count(got, buf);
-    let phase = settle(s.phase, m);
-    came(s, m, phase)
+    let phase = settle(s.phase, got, why);
+    came(s, count(got), phase)
 }
 
 // One turn: what `plan` says is done.
-fn turn(kept: &mut [u8], buf: &mut [u8], out: &mut [u8], s: Stand) -> Stand
+fn turn<R: Read, W: Write>(
+    input: &mut R,
+    output: &mut W,
+    kept: &mut [u8],
+    buf: &mut [u8],
+    out: &mut [u8],
+    s: Stand,
+    why: &mut Option<Error>,
+) -> Stand
     requires { Asks buf.old out.old s }
-    ensures { Turns kept.old buf.old out.old s result kept.new buf.new out.new }
+    ensures { Turns (R.remaining input.old) (R.remaining input.new) (W.contents output.old) (W.contents output.new)
+        kept.old buf.old out.old s result kept.new buf.new out.new }
 {
-    let a = plan(s);
-    match a {
-        Act::Write(fd, from, to) => {
+    match plan(s) {
+        Act::Write(_, from, to) => {
             let part = &out[from..to];
-            let got = libc::write(fd, part);
-            wrote(s, part, got)
+            let got = output.write(part);
+            wrote(s, part, got, why)
         }
         Act::Answer => answer(kept, buf, out, s),
-        Act::Read(fd) => {
-            let got = libc::read(fd, buf);
-            heard(buf, out, s, got)
+        Act::Read(_) => {
+            let got = input.read(buf);
+            heard(out, s, got, why)
         }
         Act::Stop => stopped(s),
     }
 }
 
 // Turn after turn. A proved loop has to end, so the turns are counted down, from a number that no input uses up.
-fn run(kept: &mut [u8], buf: &mut [u8], out: &mut [u8]) -> Stand
-    requires { (length kept.old ≡ 255) × (20000 ≤ length out.old) }
-    ensures { Ran result }
+fn run<R: Read, W: Write>(
+    input: &mut R,
+    output: &mut W,
+    kept: &mut [u8],
+    buf: &mut [u8],
+    out: &mut [u8],
+    why: &mut Option<Error>,
+) -> Stand
+    requires kept_size { length kept.old ≡ 255 }
+    requires room { 20000 ≤ length out.old }
+    ensures { Ran (R.remaining input.old) (R.remaining input.new) (W.contents output.old) (W.contents output.new) result }
 {
     let mut s = Stand {
         n: 0,
@@ -118,26 +152,39 @@ fn run(kept: &mut [u8], buf: &mut [u8], out: &mut [u8]) -> Stand
     };
     let mut left = u64::MAX;
     while s.phase < 2 && left > 0 {
-        let r = turn(kept, buf, out, s);
+        let r = turn(input, output, kept, buf, out, s, why);
         s = r;
         left -= 1;
     }
     s
 }
 
+// Says on standard error which stream failed, and why.
+fn complain(rt: &impl Eprint, stream: &str, why: Option<Error>) -> Result<()> {
+    match why {
+        Some(e) => rt.eprintln(format_args!("units: standard {stream}: {e}")),
+        None => rt.eprintln(format_args!("units: standard {stream}")),
+    }
+}
+
 // Answers go out once more than 64 bytes of them stand in `out`, whose other 20,000 are room for one more: a long answer at once, a few
 // short ones together.
-fn main() {
+fn main(rt: HostRuntime) {
     let mut kept = [0u8; 255];
-    let mut buf = io::large_buffer();
+    let mut buf = [0u8; 65536];
     let mut out = [0u8; 20064];
-    let s = run(&mut kept, &mut buf, &mut out);
+    let mut why = None;
+    let s = run(
+        &mut rt.stdin(),
+        &mut rt.stdout(),
+        &mut kept,
+        &mut buf,
+        &mut out,
+        &mut why,
+    );
     if s.phase == 2 {
         return;
     }
-    if s.from < s.to {
-        os::fail(b"units: standard output");
-    } else {
-        os::fail(b"units: standard input");
-    }
+    let stream = if s.from < s.to { "output" } else { "input" };
+    let _ = complain(&rt, stream, why);
 }
