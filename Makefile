@@ -8,17 +8,17 @@ VERSION := $(shell sed -n 's/^.define ZAMINUK_VERSION "\(.*\)"/\1/p' include/zam
 MAJOR := $(shell sed -n 's/^.define ZAMINUK_VERSION_MAJOR //p' include/zaminuk.h)
 TO = $(DESTDIR)$(PREFIX)
 
+SOURCES := crates.txt $(shell find crates -path '*/out' -prune -o \( -name '*.rt' -o -name '*.antt' \) -print)
 ARCHIVE = target/staticlib/libcapi.a
 SHARED = target/staticlib/libzaminuk.so.$(VERSION)
 UNITS = target/bin/units
 
 all: $(ARCHIVE) $(SHARED) $(UNITS)
 
-$(ARCHIVE): $(shell find crates -name '*.rt' -o -name '*.antt') crates.txt
-	rt staticlib capi
-	touch $@
+$(ARCHIVE): $(SOURCES)
+	tests/made archive
 
-$(UNITS): $(shell find crates -name '*.rt' -o -name '*.antt') crates.txt
+$(UNITS): $(SOURCES)
 	./units < /dev/null
 
 $(SHARED): $(ARCHIVE) tests/shared include/zaminuk.h

@@ -1,4 +1,5 @@
-# From the names of commit 752c325 and of E8 and E3 to those of today, for studies that speak of them: sed -f docs/names.sed FILE
+# From the names of commit 752c325 and of E8 and E3 to those of commit 45fbceb0, for studies that speak of them: sed -f docs/names.sed FILE
+# Since then a crate's path is Rattle.NAME, and definitions, fields and lemmas are in snake case.
 # Crates. Cut since: text is text_put, text_cut, text_number, text_read; poly also poly_factors; generators also poly_content and basis_lattice;
 # closure also basis_closed; reduce also basis_parts; series also field_fill; unit also unit_make; pairs also door_compare; book also book_contents;
 # book_body also book_rule, book_field. remainder and residue are one.
