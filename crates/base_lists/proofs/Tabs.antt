@@ -1,7 +1,7 @@
 -- Lists given by a formula, and the loops that fill one.
 --   length_tab, at_tab, past_tab        how long `tab` is, what stands in it, and 0 past its end
---   Filled, filled_start, -more, -end   a loop that fills a list from the front: three lemmas prove every such function
---   Begun, begun_start, -more, -end     the same for a loop that starts from zeros and stops where the formula is 0
+--   Filled, filled_start, _more, _end   a loop that fills a list from the front: three lemmas prove every such function
+--   Begun, begun_start, _more, _end     the same for a loop that starts from zeros and stops where the formula is 0
 use mathlib.Core.Path.{◌≡◌, refl, sym, ap, ◌∙◌}
 use mathlib.Core.List.{List}
 use Prim.Native.Nat.{ℕ, zero, suc, ◌+◌, ◌<◌, ◌≤◌}

@@ -4,7 +4,7 @@
 --   rows_hold                            what it keeps, at the degrees of G and H
 --   dr_is, dw_is, degrees                the degrees of r and w, and their sum
 --   r_series, w_series                   the first coefficients of the field's r and w; r_reads, w_reads: the same at the kept degrees
---   holds_of                             the rows stand for G, H and G-as-H
+--   holds_of                             the rows stand for G, H and G·H
 use mathlib.Core.Path.{◌≡◌, sym, ap, ◌∙◌, subst}
 use mathlib.Core.Logic.{◌≢◌}
 use mathlib.Core.List.{List}

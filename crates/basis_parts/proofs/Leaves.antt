@@ -1,6 +1,6 @@
 -- The laws behind the leaves.
---   square-less, less_square  numbers below p p
---   along_low, along-high     terms that vanish
+--   less_square               numbers below p p
+--   along_low                 terms that vanish
 --   heap_start, heap_more, heap_end    the loop of `plain`
 --   part_floor, part_high     the sums `along` are the coefficients of the polynomial part of b r ± c w, which ends before top
 use mathlib.Core.Path.{◌≡◌, refl, sym, ap, ap₂, ◌∙◌, subst}

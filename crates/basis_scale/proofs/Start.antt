@@ -1,5 +1,4 @@
 -- The record of the order, in the words of the theory.
---   based-ends    what `Based` says of a record's rows is the end of the reduction as crate math_chain has it
 --   order_start   for an accepted field, whose series the two lists read, the record that `order` makes is the basis of the order O
 use mathlib.Core.Path.{◌≡◌, refl, sym, ap, ap₂, ◌∙◌, subst}
 use mathlib.Core.List.{List}

@@ -3,7 +3,7 @@
 --   Narrow            rows b end before kb, rows c before kc
 --   Units             the leading coefficients
 --   Shape             the inequalities of lengths (crate basis_bounds) and the leading coefficients, of rows
--- A statement settles the answer of its test: `decides_unique`, in crate base_answers. What the shape of polynomial parts says of a basis: `Shaped-of`, in
+-- A statement settles the answer of its test: `decides_unique`, in crate base_answers. What the shape of polynomial parts says of a basis: `shaped_of`, in
 -- crate basis_accept.
 use Rattle.std.specs.Prelude.{◌≡◌, List, ℕ, ◌-◌, ◌≤◌, length, get_or}
 use Rattle.math_rows.specs.Row.{Size}

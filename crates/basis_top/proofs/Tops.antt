@@ -1,6 +1,6 @@
 -- The leading term of b r ± c w, found from above.
 --   part_lt                  the size ends before top
---   seek_start, seek-in, seek_more, seek_found, seek_end    the loop of `top_of`: the size ends before j
+--   seek_start, seek_more, seek_found, seek_end    the loop of `top_of`: the size ends before j
 --   topped_up, topped_not, topped_has, topped_le, topped_most    what a top says of the size
 --   part_top, top_led        from a polynomial part to its top, and from a top to the leading coefficient
 use mathlib.Core.Path.{◌≡◌, refl, sym, ap, ◌∙◌, subst}

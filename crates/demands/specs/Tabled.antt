@@ -13,7 +13,7 @@
 --                                       is the same under each convention
 -- How to read it: x is the number of the answer, 0 for none; `Refusal p G H k` says that k is the number of the field's first fault of 1 to
 -- 8; A says that the field is accepted, and B₀ is the basis of the order. What each number asks takes in that none before it came.
--- The fields `..-tabled` of Demand2 say it of every outcome that meets the function's contract; their proofs are in proofs/Tabled.antt.
+-- The fields `.._tabled` of Demand2 say it of every outcome that meets the function's contract; their proofs are in proofs/Tabled.antt.
 use Rattle.std.specs.Prelude.{◌≡◌, ◌⊎◌, ◌↔◌, List, ℕ, ◌+◌, ◌≤◌, ◌<◌}
 use Rattle.base_answers.specs.Limits.{most}
 use Rattle.math_valued.specs.Degree.{Has}

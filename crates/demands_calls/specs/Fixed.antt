@@ -3,7 +3,7 @@
 --   Demand1   the demand, in three groups of fields
 -- How to read it: that there is an answer at all, for every input and with nothing asked beforehand, is what the checker proves of a
 -- function without `requires`; here is what the answers are like. `numbered` says which numbers come (the table is in Numbers.antt),
--- a field `..-kept` that a refusal leaves what is lent as it was, `..-fixed` that two outcomes of one input are equal: results, and slices
+-- a field `.._kept` that a refusal leaves what is lent as it was, `.._fixed` that two outcomes of one input are equal: results, and slices
 -- after the call. G and H are the lists that a function reads, without the zeros at their ends; that lists with and without them have one
 -- answer is Padded.antt. The functions for C and Rust have a record of their own, `FromC` (FromC.antt). docs/ENTRY-POINTS.md lists the
 -- fields by function.

@@ -1,6 +1,6 @@
 -- Demand 1 for the functions that C and Rust call (crate capi): "A refusal writes nothing to a lent buffer, and all of its answer is fixed
 -- by the input."
---   FromC   a field `..-kept` says that a refusal leaves what is lent as it was, `..-fixed` that two outcomes of one call are equal
+--   FromC   a field `.._kept` says that a refusal leaves what is lent as it was, `.._fixed` that two outcomes of one call are equal
 -- How to read it: n is the number that a function returns. The functions of the book return nothing and put five numbers into a lent row
 -- `out`, of which the first is the refusal's. zaminuk_refusal, zaminuk_series, zaminuk_check, zaminuk_transfer, zaminuk_rescale and
 -- zaminuk_sheet have the contracts of the functions behind them, so that the fields of `Demand1` are theirs; zaminuk_book_bodies has an equation for a contract.

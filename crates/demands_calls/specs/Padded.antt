@@ -5,7 +5,7 @@
 --   Stand l m     two lists stand for one: what is read of them is the same
 --   PaddedLists   the request: what is read of a list, refusal 3, one answer from every entry point, what is kept, printed and written
 -- How to read it: `unpad l` (field_open/specs/Padding.antt) is what every entry point reads of a list l that a caller gives; the contract of each
--- speaks of `unpad G` and `unpad H`, and so do the demands: their G and H are the lists without the zeros at their ends. A field `..-same`
+-- speaks of `unpad G` and `unpad H`, and so do the demands: their G and H are the lists without the zeros at their ends. A field `.._same`
 -- says that padded lists and trimmed ones have the same answer, and leave the same in what is lent. Since they hold for all lists, they
 -- hold for those of C and Rust, whose contracts are built on these; `any` says it of whatever else a contract may say.
 -- The theorem `padded_lists` is in proofs/Padded.antt.

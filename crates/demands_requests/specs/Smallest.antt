@@ -51,7 +51,7 @@ pub record SmallestUnit : Type 0 where
       {p : ℕ} {G H : List ℕ} (A : Accepted p G H) (B₀ : Basis (setting A)) → Start (setting A) B₀ →
       {l d : ℕ} {B : Basis (setting A)} → Closing (setting A) B₀ l d B →
       LeastDegree (setting A) d
-  -- the general form: a reduced ideal J with E-as-J = O and deg E ≥ 0 stands in the chain
+  -- the general form: a reduced ideal J with E·J = O and deg E ≥ 0 stands in the chain
   pub complete : {p : ℕ} {G H : List ℕ} (A : Accepted p G H) → Completeness (setting A)
   -- the rows that `unit` returns are the smallest unit of positive degree scaled by the convention that the number i names, and its inverse
   pub unit_rows :

@@ -6,7 +6,7 @@
 --                           are not so; 0 where they are turned into the rows of the same unit scaled by the convention j. A refusal
 --                           leaves the slice as it was
 -- `Turned` of crate unit_scale says what the rows are turned into. In proofs/: Once (`rescales_unique`: one outcome for each input), Back
--- (`rescales_back`: there and back; `rescales-unit`: what `unit` gives under one convention becomes what it gives under the other).
+-- (`rescales_back`: there and back; `rescales_holds`: what `unit` gives under one convention becomes what it gives under the other).
 use Rattle.std.specs.Prelude.{◌≡◌, List, ℕ}
 use Rattle.base_answers.specs.Limits.{Six}
 use Rattle.field_open.specs.Refusal.{Accepted}

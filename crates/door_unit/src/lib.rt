@@ -49,6 +49,7 @@ fn refused(n: u32) -> UnitAnswer
 }
 
 // The unit and its inverse, made with E0 monic and turned where another convention is asked for.
+#[inline(never)]
 fn make_scaled(
     f: OpenedField,
     b: [u16; 119],

@@ -1,5 +1,5 @@
 -- Fields and series by computed tests.
---   nth-test, every_at        one of a list of tests
+--   every_at                  one of a list of tests
 --   below_sound, up_to_sound   numbers below p; a test at all numbers below n
 --   accepted_of               an accepted field
 --   series_of                 the first coefficients of its two series

@@ -4,7 +4,7 @@
 --   Entry s i x                x is the entry i of a stored list, 0 past its end
 --   Rest p n x                 x is the remainder of n by p
 --   Two, Four                  a modulus below 2^16, with numbers below it and stored numbers
---   Filled p g h r w n         r and w are equally long, and at the first n places their numbers are below p and obey r² = H·w and r·w = G-as-H
+--   Filled p g h r w n         r and w are equally long, and at the first n places their numbers are below p and obey r² = H·w and r·w = G·H
 --   Filling p g h u r w i      `Filled` up to i, and u the inverse of three times the square of r's first number
 --   Turned                     what one turn has done
 use Rattle.std.specs.Prelude.{◌≡◌, List, ℕ, ◌+◌, ◌*◌, ◌%◌, ◌<◌, ◌≤◌, length}

@@ -15,7 +15,7 @@ const ENTRIES: usize = 32;
 
 const HIGHEST: usize = 16;
 
-// An opened field: G, H and G.H as rows, the degrees of r and w.
+// An opened field: G, H and G·H as rows, the degrees of r and w.
 #[derive(Clone, Copy)]
 pub struct Field {
     pub p: u64,

@@ -1,7 +1,7 @@
 -- The numbers that are the first coefficients of r and w, highest power first.
 --   top l i              the entry of a polynomial's list (lowest coefficient first) i places below its leading one; 0 past its end
 --   SeriesOf p G H r w   r and w are equally long and their numbers below p; the first of r is a cube root of the leading coefficient of
---                        D = G-as-H²; and r² = H·w and r·w = G-as-H, mod p, in each coefficient as far as the lists reach
+--                        D = G·H²; and r² = H·w and r·w = G·H, mod p, in each coefficient as far as the lists reach
 -- `entry` and `prod` are those of crate base_lists.
 -- One list of each length for r and one for w meet this (`series_of_unique` in proofs/Only.antt), and they are the coefficients of the two series
 -- (`series_of_begins` in proofs/Only.antt).

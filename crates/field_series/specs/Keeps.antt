@@ -1,5 +1,5 @@
 -- The opened field: numbers and rows that hold the accepted field p, G, H.
---   Keeps p G H g h gh dr dw r w   g, h and gh are the rows of G, H and G-as-H, dr and dw the degrees of r and w, and r and w hold the first 32
+--   Keeps p G H g h gh dr dw r w   g, h and gh are the rows of G, H and G·H, dr and dw the degrees of r and w, and r and w hold the first 32
 --                                  coefficients of theirs
 --   Kept c G H                     the same, read off the struct, for its own p
 --   Known c                        c holds some accepted field

@@ -1,7 +1,7 @@
 -- A change of basis of pairs of polynomials: what the reduction does to the pairs c₁ r + c₂ w.
 --   Pair            two polynomials
 --   Changed p q m n  m = αp + βq and n = γp + δq, where αδ − βγ is a unit (crate math_triple)
---   changed_start -swap -mix -scale -then -back -det   as there
+--   changed_start _swap _mix _scale _then _back _det   as there
 --   changed_of      `Moved`, the change that the loops of the reduction make (crate math_turns), is one
 --   changed_alone   the pairs keep what divides them: no common factor before, none after
 use mathlib.Core.Path.{◌≡◌, refl, ◌∙◌}

@@ -1,7 +1,7 @@
 -- The chain from the order is complete.
 --   Reached B₀ J E n   the chain from B₀ passes the basis J with the degree sum n, and E is a non-zero constant times the product of the m
 --                      passed up to there
---   Completeness       a reduced ideal J with E-as-J = O and deg E ≥ 0 is a member of the chain, at the one place with that degree, and E is
+--   Completeness       a reduced ideal J with E·J = O and deg E ≥ 0 is a member of the chain, at the one place with that degree, and E is
 --                      the product of the minima passed there up to a constant
 -- The chain may close on its way, as often as it likes: nothing here asks that it does. Theorem `completeness` (proofs/Complete).
 use Rattle.std.specs.Prelude.{◌≡◌, ℕ}
@@ -28,7 +28,7 @@ module _ (S : Setting) where
     pub product : sc S (bottoms S chain) ⊗ E ≡ sc S scale ⊗ tops S chain
 
   pub record Completeness : Type 0 where
-    -- a reduced ideal J with E-as-J = O and deg E ≥ 0 is a member of the chain
+    -- a reduced ideal J with E·J = O and deg E ≥ 0 is a member of the chain
     pub member :
         (B₀ : Basis S) → Start S B₀ →
         (J : Basis S) → Good S J →

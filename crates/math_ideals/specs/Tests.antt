@@ -5,7 +5,7 @@
 --   IsClosed B          the lattice has rank 3, and r, w, r m, w m, r n, w n lie in it
 --   Tests B             the tests of refusal 9: each is decided on rows
 -- The first two are of series, so that they are read of a basis and of the rows of numbers that code holds.
--- Theorems (proofs/Tests): `Good-of` and `tests_of`, the tests together are `Good`.
+-- Theorems (proofs/Tests): `good_of` and `tests_of`, the tests together are `Good`.
 use Rattle.std.specs.Prelude.{◌≢◌, ◌⊎◌, ℕ, ◌≤◌, ◌<◌}
 use Rattle.math_triple.specs.Tri.{Tri}
 use Rattle.math_triple.specs.Sizes.{XT, YT, ZT}

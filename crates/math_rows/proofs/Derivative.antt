@@ -1,5 +1,5 @@
 -- The derivative of polynomials.
---   D_none D-neg     of 0 and of − x
+--   D_none           of 0
 --   D_scale D_power  of c x and of t^(n+1)
 --   D_lt             it lowers the degree
 --   D_psum           of a sum of terms; derivative_law: of a row

@@ -1,6 +1,6 @@
 -- Changes of basis, for every map that keeps the operations.
---   changed_start -swap -mix -scale   nothing done; m and n exchanged; m to s m + e n for a unit s; m and n times units
---   changed_then -back                one after the other; undone
+--   changed_start _swap _mix _scale   nothing done; m and n exchanged; m to s m + e n for a unit s; m and n times units
+--   changed_then _back                one after the other; undone
 --   changed_det                       the determinant b c' − c b' is multiplied by αδ − βγ
 use mathlib.Core.Path.{◌≡◌, sym, ap, ap₂, ◌∙◌}
 use mathlib.Core.List.{[], ◌∷◌}

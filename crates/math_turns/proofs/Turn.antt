@@ -1,7 +1,7 @@
 -- What a turn s a − c t^k b does: to the sizes X, Y of an element, to the span, to the determinant.
 --   turned_X, turned_Y, turned_side   sizes turn as the coordinates do
 --   b_lt, c_lt                        bounds of X and Y bound the coordinates
---   moved_start, -scale, -swap, -turn, -then, -back    the change of basis that a loop of turns makes
+--   moved_start, _scale, _swap, _turn, _then, _back    the change of basis that a loop of turns makes
 --   moved_has                         it keeps the degree of the determinant
 --   full                              where Y(m) is small, X(m) and Y(n) make up all of the determinant's degree
 use mathlib.Core.Path.{◌≡◌, refl, sym, ap, ap₂, ◌∙◌}

@@ -5,7 +5,7 @@
 --   Agree p l l'         l and l' agree after both are made monic
 --   OneField             the pairs G, H and G', H' agree, in one order or the other
 --   Cross p l l'         the same of two lists without an inverse: equally long, and lc(l') · l = lc(l) · l' mod p
--- In proofs/: Lists (`cross_of`, `Agree-of`: for lists of coefficients Agree is Cross), Relation (`Agree-refl`, `agree_sym`, `Agree-trans`:
+-- In proofs/: Lists (`cross_of`, `agree_of`: for lists of coefficients Agree is Cross), Relation (`agree_refl`, `agree_sym`, `agree_trans`:
 -- an equivalence on them), Example (`twice_in_the_table`: the field that stood in a table twice; `not_one`: two fields). What needs an
 -- accepted field is in crate pair_agree.
 use Rattle.std.specs.Prelude.{◌≡◌, List, ◌⊎◌, ℕ, ◌*◌, ◌-◌, ◌%◌, ◌<◌, length, get_or}

@@ -55,7 +55,7 @@ fn step_in(
     }
 }
 
-// What a field keeps from step to step is lent: G, H and G.H, the degrees of r and w and their first 32 coefficients.
+// What a field keeps from step to step is lent: G, H and G·H, the degrees of r and w and their first 32 coefficients.
 pub fn step_on_rows(
     p: u64,
     g: &[u64; 32],

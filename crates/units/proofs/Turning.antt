@@ -1,10 +1,15 @@
 -- What the functions of a turn are proved with.
+--   moved_within               the bytes that a call moved
+--   settle_again, settle_fails     the phase after a call
+--   came_piece, heard_came, heard_ended   what `heard` gives, by the answer of the read
+--   part_starts, part_ends     where the part that `plan` names lies
 --   moved_told, moved_read     a call moved at most the bytes that it was handed
 --   nothing_read, keeps_read, one_read, none_read, not_read   what a call, or none, took from the reader
 --   nothing_written, keeps_written, one_written, none_written, not_written   what it put into the writer
 --   brought_more, took_more, reads_more, writes_more   one row of calls after another
 --   turn_writes, turn_answers, turn_reads, turn_stops   a turn, from its arm
 use mathlib.Core.Path.{◌≡◌, refl, sym, ap, subst, ◌∙◌}
+use mathlib.Core.Logic.{inl, inr}
 use mathlib.Core.List.{List, [], ◌∷◌, ◌++◌, append_assoc, append-nil}
 use Prim.Native.Nat.{ℕ, zero, suc, ◌+◌, ◌≤◌, ◌-◌}
 use native.Mathlib.Omega.{arith}
@@ -17,8 +22,49 @@ use Rattle.base_lists.specs.Pieces.{between}
 use Rattle.lister_turn.specs.declared.Stand.{Stand}
 use Rattle.lister_turn.specs.declared.Act.{Act}
 use Rattle.lister_turn.specs.declared.Act.TheVariants.{Write, Answer, Read, Stop}
-use Rattle.units.specs.Serve.{Call, write, read, Moved, told, moved, took, brought, Wrote, Answers, Heard, writes, answers, reads, stops, Turns}
-use Rattle.lister_turn.specs.Turn.{Plans, at_stop}
+use Rattle.units.specs.Serve.{Call, write, read, Moved, told, moved, took, brought, Settles, Wrote, Answers, Came, Heard, writes, answers, reads, stops, Turns}
+use Rattle.lister_turn.specs.Turn.{Plans, Ended, with_piece, at_stop}
+
+pub moved_within : (n : ℕ) (z : ℤ) → Moved n z → moved z ≤ n
+moved_within n (pos k) h = h
+moved_within n (negsuc k) h = omega arith
+
+pub settle_again : (w p : ℕ) → Settles w p p
+settle_again zero p = inl refl
+settle_again (suc w) p = refl
+
+pub settle_fails : (w p : ℕ) → w ≤ 0 → Settles w p 3
+settle_fails zero p h = inr refl
+settle_fails (suc w) p h = absurd (omega arith)
+
+pub came_piece : {d : List ℕ} {s r : Stand} {got : ℤ} {m p : ℕ} → r ≡ with_piece s m p → m ≡ moved got → Settles m s.phase p → Came d s got r d
+came_piece {s = s} {got = got} {p = p} x e h = record {
+  n = ap (λ z. z.n) x;
+  at = ap (λ z. z.at) x;
+  m = ap (λ z. z.m) x ∙ e;
+  from = ap (λ z. z.from) x;
+  to = ap (λ z. z.to) x;
+  phase = subst (Settles (moved got) s.phase) (sym (ap (λ z. z.phase) x)) (subst (λ z. Settles z s.phase p) e h);
+  same = refl;
+}
+
+pub heard_came : {d : List ℕ} {s r : Stand} {d' : List ℕ} (got : ℤ) → (got ≡ pos 0 → ⊥) → Came d s got r d' → Heard d s got r d'
+heard_came (pos zero) h x = absurd (h refl)
+heard_came (pos (suc g)) h x = x
+heard_came (negsuc g) h x = x
+
+pub heard_ended : {d : List ℕ} {s r : Stand} {d' : List ℕ} (got : ℤ) → got ≡ pos 0 → Ended d s r d' → Heard d s got r d'
+heard_ended {d} {s} {r} {d'} got e x = subst (λ z. Heard d s z r d') (sym e) x
+
+module _ (s : Stand) where
+  planned : {a a' : Act} → a ≡ a' → Plans s a → Plans s a'
+  planned e x = subst (Plans s) e x
+
+  pub part_starts : {a : Act} {fd : ℤ} {f t : ℕ} → a ≡ Write fd f t → Plans s a → f ≤ t
+  part_starts e x = let (y, b, c, d) = planned e x in omega arith
+
+  pub part_ends : {a : Act} {fd : ℤ} {f t n : ℕ} → a ≡ Write fd f t → Plans s a → s.to ≤ n → t ≤ n
+  part_ends e x h = let (y, b, c, d) = planned e x in omega arith
 
 moved_told : {E : Type 0} (n : ℕ) (r : Result ℕ E) → IfOk r (λ k. k ≤ n) → Moved n (told r)
 moved_told n (Ok k) h = h

@@ -4,7 +4,7 @@
 --   IsRefusal s  a refusal's own number: 1 to 9, or 14
 --   Passed s     closed or a refusal: a sheet passes the record over
 --   Unknown s    any other number but 0, so 10 to 13 and 15 too
--- In proofs/States.antt: the codes exclude each other (`not-Going`, `not_closed`).
+-- In proofs/States.antt: the codes exclude each other (`not_going`, `not_closed`).
 use Rattle.std.specs.Prelude.{◌≡◌, ◌≢◌, ◌⊎◌, ℕ, ◌≤◌}
 
 abbrev pub going : ℕ
