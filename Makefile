@@ -2,7 +2,8 @@
 # make install PREFIX=DIR    header, static and shared library, pkg-config file, the lister `units`, and the Python module in
 #                            DIR/lib/zaminuk
 # make check                 the tests that are outside the proofs
-# The libraries and the lister are x86-64 code for Linux. The lister that is installed is the program itself. DESTDIR is put before PREFIX.
+# The libraries and the lister are x86-64 code for Linux. The lister that is installed is the program itself: where a read or a write fails,
+# on a closed pipe too, it says so and ends with status 0, of which the script ./units makes 1 or 141. DESTDIR is put before PREFIX.
 PREFIX ?= /usr/local
 VERSION := $(shell sed -n 's/^.define ZAMINUK_VERSION "\(.*\)"/\1/p' include/zaminuk.h)
 MAJOR := $(shell sed -n 's/^.define ZAMINUK_VERSION_MAJOR //p' include/zaminuk.h)
