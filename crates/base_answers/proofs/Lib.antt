@@ -1,4 +1,5 @@
 pub mod Tests
 pub mod Stages
 pub mod Limits
+pub mod Faults
 pub mod Said

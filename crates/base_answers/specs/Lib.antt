@@ -1,4 +1,5 @@
 pub mod Decides
+pub mod Faults
 pub mod Said
 pub mod Stage
 pub mod Limits

@@ -1,5 +1,4 @@
 -- Lists of coefficients.
---   is_list, no_list, last_zero   the two answers of the test
 --   degree_unique, list_unique    one degree and one answer for each list
 --   list_degree, length_of        the degree is the number of coefficients less 1
 --   list_short                    the answer is at most the greatest length
@@ -7,29 +6,12 @@
 use mathlib.Core.Path.{◌≡◌, refl, sym, ap, ◌∙◌}
 use mathlib.Core.Logic.{◌≢◌}
 use mathlib.Core.List.{List}
-use Prim.Native.Nat.{ℕ, zero, suc, ◌-◌, ◌<◌, ◌≤◌}
+use Prim.Native.Nat.{ℕ, zero, suc, ◌-◌, ◌≤◌}
 use native.Mathlib.Omega.{arith}
 use lib.ListN.{length, get_or, get_or-eq_default}
-use Rattle.base_lists.specs.Coefficients.{Size, Coefficients, NoCoefficients, ListLength}
+use Rattle.base_lists.specs.Coefficients.{Size, Coefficients, ListLength}
 
 module _ {most p : ℕ} {l : List ℕ} where
-  pub no_list : NoCoefficients most p l → ListLength most p l 0
-  no_list f = record { none = λ e. f; some = λ d e. absurd (let z : ◌≡◌ {A = ℕ} 0 (suc d) = e in omega arith) }
-
-  pub is_list : {n : ℕ} → n ≡ length l → 0 < n → n ≤ most → ((i : ℕ) → i < n → get_or l i 0 < p) → get_or l (n - 1) 0 ≢ 0 → ListLength most p l n
-  is_list {n} e pos short each last = record {
-    none = λ z. absurd (omega arith);
-    some = λ d s. record {
-      whole = omega arith;
-      short = omega arith;
-      each = λ i h. each i (omega arith);
-      last = λ z. last (let w : n - 1 ≡ d = omega arith in ap (λ m. get_or l m 0) w ∙ z);
-    };
-  }
-
-  pub last_zero : get_or l (length l - 1) 0 ≡ 0 → NoCoefficients most p l
-  last_zero z d h = h.last (let e : length l ≡ suc d = h.whole in let w : d ≡ length l - 1 = omega arith in ap (λ m. get_or l m 0) w ∙ z)
-
   pub degree_unique : {d e : ℕ} → Coefficients most p l d → Coefficients most p l e → d ≡ e
   degree_unique {d} {e} a b = let u : length l ≡ suc d = a.whole in let v : length l ≡ suc e = b.whole in omega arith
 

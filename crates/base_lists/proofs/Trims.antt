@@ -1,29 +1,31 @@
 -- A list without the zeros at its end.
---   ZerosFrom l n            from place n on there are zeros; zeros_start, zeros_less, zeros_here: a loop that looks for the size from the end
+--   last_here, all_zeros   the size where the last number that is not 0 was found, and where there is none
 --   sized         every list has a size
 --   trim_size     the trimmed list is the front of the list, as long as its size
 --   trim_length, trim_last   so long it is, and its last number is not 0
 use mathlib.Core.Path.{◌≡◌, refl, sym, ap, ap₂, ◌∙◌}
 use mathlib.Core.Logic.{◌≢◌}
 use mathlib.Core.List.{List, [], ◌∷◌}
-use Prim.Native.Nat.{ℕ, zero, suc, ◌-◌, ◌≤◌, ◌<◌}
+use Prim.Native.Nat.{ℕ, zero, suc, ◌+◌, ◌-◌, ◌≤◌, ◌<◌}
 use native.Mathlib.Omega.{arith}
-use native.Mathlib.Decide.{ℕ_discrete}
+use native.Mathlib.Decide.{ℕ_discrete, dec_lt}
 use lib.ListN.{length, get_or, take, get_or-eq_default}
 use lib.Seq.{take-nil, get_or-take, length-take-le}
 use Rattle.base_lists.specs.Coefficients.{Size, ahead, trim}
 
-abbrev pub ZerosFrom : List ℕ → ℕ → Type 0
-ZerosFrom l n = (n ≤ length l) × ((i : ℕ) → n ≤ i → get_or l i 0 ≡ 0)
+pub last_here : (l : List ℕ) (k : ℕ) → k < length l → get_or l k 0 ≢ 0 → ((i : ℕ) → k < i → i < length l → get_or l i 0 ≡ 0) → Size l (k + 1)
+last_here l k b t h = record {
+  fits = omega arith;
+  above = λ i u. elim (dec_lt i (length l)) [ yes v ↦ h i (omega arith) v | no v ↦ get_or-eq_default l 0 {n = i} (omega arith) ];
+  top = λ u e. t (ap (λ j. get_or l j 0) (let o : k ≡ k + 1 - 1 = omega arith in o) ∙ e);
+}
 
-pub zeros_start : (l : List ℕ) → ZerosFrom l (length l)
-zeros_start l = (omega arith, λ i h. get_or-eq_default l 0 {n = i} h)
-
-pub zeros_less : (l : List ℕ) (n : ℕ) → ZerosFrom l n → get_or l (n - 1) 0 ≡ 0 → ZerosFrom l (n - 1)
-zeros_less l n (b, h) e = (omega arith, λ i u. elim (ℕ_discrete i (n - 1)) [ yes q ↦ ap (λ k. get_or l k 0) q ∙ e | no q ↦ h i (omega arith) ])
-
-pub zeros_here : {l : List ℕ} {n : ℕ} → ZerosFrom l n → (0 < n → get_or l (n - 1) 0 ≢ 0) → Size l n
-zeros_here (b, h) t = record { fits = b; above = h; top = t }
+pub all_zeros : (l : List ℕ) → ((i : ℕ) → i < length l → get_or l i 0 ≡ 0) → Size l 0
+all_zeros l h = record {
+  fits = omega arith;
+  above = λ i u. elim (dec_lt i (length l)) [ yes v ↦ h i v | no v ↦ get_or-eq_default l 0 {n = i} (omega arith) ];
+  top = λ u. absurd (omega arith);
+}
 
 pub sized : (l : List ℕ) → (n : ℕ) × Size l n
 sized l = down (length l) (omega arith) (λ i h. get_or-eq_default l 0 {n = i} h)

@@ -2,14 +2,24 @@
 #![tactic(auto)]
 
 ghost use Rattle.std.specs.Prelude.{◌≡◌};
-ghost use Rattle.base_lists.specs.Coefficients.{ListLength};
+ghost use Rattle.base_lists.specs.Coefficients.{Size, ListLength};
 ghost use Rattle.base_lists.specs.Padding.{Unpadded};
 
 // A stored number, to be reckoned with.
 pub fn wide(x: u16) -> u64
     ensures { result ≡ x }
 {
-    x as u64
+    u64::from(x)
+}
+
+// The length of s without the zeros at its end.
+pub fn size(s: &[u64]) -> usize
+    ensures { Size s.now result }
+{
+    match s.iter().rposition(|x| *x != 0) {
+        Some(last) => last + 1,
+        None => 0,
+    }
 }
 
 // How many coefficients s has, or 0: it is no list of coefficients below p, at most `most` of them.
@@ -17,40 +27,15 @@ pub fn list_length(most: usize, p: u64, s: &[u64]) -> usize
     ensures { ListLength most p s.now result }
 {
     let n = s.len();
-    if n == 0 {
+    if n == 0 || n > most || s[n - 1] == 0 {
         return 0;
     }
-    if n > most {
-        return 0;
-    }
-    let top = s[n - 1];
-    if top == 0 {
-        return 0;
-    }
-    let mut i: usize = 0;
-    while i < n {
-        let v = s[i];
-        if v >= p {
-            return 0;
-        }
-        i += 1;
-    }
-    n
+    if s.iter().all(|v| *v < p) { n } else { 0 }
 }
 
 // How many numbers at the front of s are the list that it stands for: without the zeros at its end; 0 where s has over `room` entries.
 pub fn unpadded(room: usize, s: &[u64]) -> usize
     ensures { Unpadded room s.now result }
 {
-    let mut n = s.len();
-    if n > room {
-        return 0;
-    }
-    while n > 0 {
-        if s[n - 1] != 0 {
-            return n;
-        }
-        n -= 1;
-    }
-    n
+    if s.len() > room { 0 } else { size(s) }
 }

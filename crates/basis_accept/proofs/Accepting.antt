@@ -4,21 +4,17 @@
 --   not_narrow, not_shaped, not_alone, passes_as    the answer after each
 --   accepts_as, not_below         from seven rows to the 119 numbers
 --   accepts_unique                   two answers to one record are equal
-use mathlib.Core.Path.{◌≡◌, refl, sym, subst}
-use mathlib.Core.Bool.{Bool, true, false}
+use mathlib.Core.Path.{◌≡◌, refl, sym, ◌∙◌, subst}
+use mathlib.Core.Bool.{Bool, true, false, true≢false}
 use mathlib.Core.List.{List}
-use Prim.Native.Nat.{ℕ, zero, suc, ◌+◌, ◌*◌, ◌-◌, ◌<◌, ◌≤◌}
+use Prim.Native.Nat.{ℕ, zero, suc, ◌+◌, ◌*◌, ◌<◌, ◌≤◌}
 use native.Mathlib.Omega.{arith}
 use lib.ListN.{length, get_or}
-use Rattle.math_valued.specs.Val.{Valued}
-use Rattle.math_valued.specs.Degree.{Has, Lt}
 use Rattle.math_valued.proofs.Degree as d
 use Rattle.math_fp.specs.Fp.{Prime}
 use Rattle.num_mod.specs.Prepared.{PreparedOf}
 use Rattle.num_mod.specs.declared.Modulus.{Modulus}
-use Rattle.math_rows.specs.Reading.{Reading}
 use Rattle.math_rows.specs.Made.{reading}
-use Rattle.math_rows.specs.Row.{Row}
 use Rattle.math_ideals.specs.Basis.{Good}
 use Rattle.math_ideals.specs.Tests.{Tests}
 use Rattle.math_ideals.proofs.Tests.{good_of, tests_of}
@@ -26,18 +22,19 @@ use Rattle.field_open.specs.Refusal.{Accepted}
 use Rattle.basis_record.specs.Record.{setting, IsRecord}
 use Rattle.field_series.specs.Keeps.{Kept, Known}
 use Rattle.field_series.specs.declared.OpenedField.{OpenedField}
-use Rattle.basis_parts.specs.Frame.{Frame, frame, Fine, Meaning, Short}
+use Rattle.basis_parts.specs.Frame.{frame, Fine, Meaning, Short}
 use Rattle.poly_rows.proofs.Lengths.{row_short, monic_inverts}
-use Rattle.basis_record.specs.Seven.{Seven, seven, row_at, AreRows, rows_of}
+use Rattle.basis_record.specs.Seven.{row_at, AreRows, rows_of}
+use Rattle.basis_record.specs.declared.Seven.{Seven}
 use Rattle.basis_record.specs.Store.{Loaded, SevenLoaded}
-use Rattle.basis_record.proofs.Sevens.{every, each_of_seven}
+use Rattle.basis_record.proofs.Sevens.{every}
 use Rattle.basis_record.proofs.Loads.{rows_path, rows_good}
 use Rattle.step_coordinates.proofs.Products.{Sizes, sizes}
 use Rattle.basis_scale.proofs.Start.{meaning}
 use Rattle.basis_field.proofs.Keeps.{rows_hold, g_row, h_row, gh_row, holds_of, r_series, w_series, modulus, dr_is, dw_is, room}
 use Rattle.basis_field.proofs.Ground.{frame_of, frame_is, frame_by, fine}
 use Rattle.base_answers.specs.Decides.{Decides}
-use Rattle.base_answers.proofs.Tests.{answer_no, decides_unique}
+use Rattle.base_answers.proofs.Tests.{decides_unique}
 use Rattle.basis_closed.specs.Closed.{Closed, Given, Room, longest, ClosedUnderRAndWAsks, Under}
 use Rattle.basis_coprime.specs.Coprime.{NoCommonFactorAsks, Alone}
 use Rattle.basis_bounds.specs.Bounds.{Below}
@@ -45,9 +42,8 @@ use Rattle.basis_shape.specs.Lengths.{Narrow, RowsFitAsks}
 use Rattle.basis_accept.specs.Tests.{SizesRightAsks, Shaped, Numbers}
 use Rattle.basis_accept.specs.Answer.{Seventeen, PassesAsks, Passes, Accepts}
 
--- no factor divides all seven, of rows by name
-abbrev Free : ℕ → Seven → Bool → Type 0
-Free p b o = Alone p b.m0 b.m1 b.m2 b.n0 b.n1 b.n2 b.u o
+refused : {r : Bool} {A : Type 0} → r ≡ false → (A → ⊥) → Decides r A
+refused f n = record { yes! = λ e. absurd (true≢false (sym e ∙ f)); no! = λ e. n }
 
 -- ---- the field
 module _ (c : OpenedField) {G H : List ℕ} (h : Kept c G H) (A : Accepted c.field.p G H) where
@@ -105,7 +101,7 @@ module _ (c : OpenedField) {G H : List ℕ} (h : Kept c G H) (A : Accepted c.fie
     closed_in t = let k = t.closed in record { rank = k.rank; r_one = k.r_one; w_one = k.w_one; r_M = k.r_M; w_M = k.w_M; r_N = k.r_N; w_N = k.w_N }
 
     -- Good, from the answers
-    good_from : Shaped (frame_of c) b true → Free p b true → Closed A b → Good (setting A) (rows_of A b)
+    good_from : Shaped (frame_of c) b true → Alone p b true → Closed A b → Good (setting A) (rows_of A b)
     good_from s a k = good_of (setting A) (rows_of A b) (record {
       sizes = (shaped_at_lem s).yes! refl;
       seven = λ d b₀ b₁ b₂ b₃ b₄ b₅ b₆. (a A.prime).yes! refl d (b₀, b₁, b₂, b₃, b₄, b₅, b₆);
@@ -150,8 +146,8 @@ module _ {c : OpenedField} {b : Seven} (i : PassesAsks c b) {q : Modulus} (e : P
   pub under_from : {o : Bool} → Under q.p c.field.g c.field.h c.field.gh b o → Under c.field.p c.field.g c.field.h c.field.gh b o
   under_from {o} s = subst (λ p. Under p c.field.g c.field.h c.field.gh b o) e.is s
 
-  pub alone_from : {o : Bool} → Free q.p b o → Free c.field.p b o
-  alone_from {o} s = subst (λ p. Free p b o) e.is s
+  pub alone_from : {o : Bool} → Alone q.p b o → Alone c.field.p b o
+  alone_from {o} s = subst (λ p. Alone p b o) e.is s
 
 -- ---- one test after the other
 module _ {c : OpenedField} {b : Seven} (i : PassesAsks c b) where
@@ -164,20 +160,14 @@ module _ {c : OpenedField} {b : Seven} (i : PassesAsks c b) where
   pub narrow_in : RowsFitAsks b.m1 b.m2 b.n1 b.n2
   narrow_in = record { h1 = (i.rows.each 1).is_row.size; h2 = (i.rows.each 2).is_row.size; k1 = (i.rows.each 4).is_row.size; k2 = (i.rows.each 5).is_row.size }
 
-  pub not_narrow : {o : Bool} → o ≡ false → Decides o (Narrow (c.field.dw + 1) (c.field.dr + 1) b.m1 b.m2 b.n1 b.n2) → Passes c b false
-  not_narrow e n G H A h = answer_no (λ good. n.no! e (narrow_of c h A b (are_rows i.rows) good))
+  pub not_narrow : {v o : Bool} → v ≡ false → o ≡ false → Decides o (Narrow (c.field.dw + 1) (c.field.dr + 1) b.m1 b.m2 b.n1 b.n2) → Passes c b v
+  not_narrow f e n G H A h = refused f (λ good. n.no! e (narrow_of c h A b (are_rows i.rows) good))
 
-  pub not_shaped : {o : Bool} → o ≡ false → Shaped (frame_of c) b o → Passes c b false
-  not_shaped e s G H A h = answer_no (λ good. (shaped_at_lem c h A b s).no! e (numbers_in c h A b (tests_of (setting A) (rows_of A b) good)))
+  pub not_shaped : {v o : Bool} → v ≡ false → o ≡ false → Shaped (frame_of c) b o → Passes c b v
+  not_shaped f e s G H A h = refused f (λ good. (shaped_at_lem c h A b s).no! e (numbers_in c h A b (tests_of (setting A) (rows_of A b) good)))
 
-  pub not_alone : {o : Bool} → o ≡ false → Free c.field.p b o → Passes c b false
-  not_alone e a G H A h = answer_no (λ good. (a A.prime).no! e (λ d (b₀, b₁, b₂, b₃, b₄, b₅, b₆). good.scaled.seven d b₀ b₁ b₂ b₃ b₄ b₅ b₆))
-
-  pub alone_in : {q : Modulus} → PreparedOf c.field.p q → NoCommonFactorAsks q b.m0 b.m1 b.m2 b.n0 b.n1 b.n2 b.u
-  alone_in {q} e =
-      let u : c.field.p ≡ q.p = sym e.is in
-      let r : AreRows q.p b = subst (λ p. AreRows p b) u (are_rows i.rows) in
-      record { modulus = e.prepared; prime = subst Prime u A₀.prime; h0 = r 0; h1 = r 1; h2 = r 2; k0 = r 3; k1 = r 4; k2 = r 5; hu = r 6 }
+  pub not_alone : {v o : Bool} → v ≡ false → o ≡ false → Alone c.field.p b o → Passes c b v
+  not_alone f e a G H A h = refused f (λ good. (a A.prime).no! e (λ d (b₀, b₁, b₂, b₃, b₄, b₅, b₆). good.scaled.seven d b₀ b₁ b₂ b₃ b₄ b₅ b₆))
 
   -- the bounds of the field
   pub sum_low : c.field.dr + c.field.dw ≤ 16
@@ -227,12 +217,12 @@ module _ {c : OpenedField} {b : Seven} (i : PassesAsks c b) where
           let u : c.field.p ≡ q.p = sym e.is in
           record { given = subst (λ p. Given p c.field.g c.field.h c.field.gh) u (given_of c k₀ A₀); modulus = e.prepared; room = subst (λ p. Room p b) u room_of }
 
-      module _ {o₃ : Bool} (e₃ : o₃ ≡ true) (a : Free c.field.p b o₃) where
+      module _ {o₃ : Bool} (e₃ : o₃ ≡ true) (a : Alone c.field.p b o₃) where
         pub passes_as : (o₄ : Bool) → Under c.field.p c.field.g c.field.h c.field.gh b o₄ → Passes c b o₄
         passes_as o₄ k G H A h =
             let k' : Decides o₄ (Closed A b) = k G H A (holds_of h A) in
             record {
-              yes! = λ q. good_from c h A b (subst (Shaped (frame_of c) b) e₂ s) (subst (Free c.field.p b) e₃ a) (k'.yes! q);
+              yes! = λ q. good_from c h A b (subst (Shaped (frame_of c) b) e₂ s) (subst (Alone c.field.p b) e₃ a) (k'.yes! q);
               no! = λ q good. k'.no! q (closed_in c h A b (tests_of (setting A) (rows_of A b) good));
             }
 
@@ -240,12 +230,9 @@ module _ {c : OpenedField} {b : Seven} (i : PassesAsks c b) where
 short_of : (q : ℕ) {B : List ℕ} → Below q B → {j : ℕ} {r : List ℕ} → Loaded B j r → Short q r 17
 short_of q e k = record { is_row = k.is_row q e; above = k.above }
 
-pub loaded_of : {B m0 m1 m2 n0 n1 n2 u : List ℕ} → Loaded B 0 m0 → Loaded B 1 m1 → Loaded B 2 m2 → Loaded B 3 n0 → Loaded B 4 n1 → Loaded B 5 n2 → Loaded B 6 u → SevenLoaded B (seven m0 m1 m2 n0 n1 n2 u)
-loaded_of {B} h0 h1 h2 k0 k1 k2 hu = record { each = each_of_seven (Loaded B) h0 h1 h2 k0 k1 k2 hu }
-
 module _ {c : OpenedField} {B : List ℕ} where
-  pub not_below : {o : Bool} → o ≡ false → Decides o (Below c.field.p B) → Accepts c B false
-  not_below e n G H h = answer_no (λ rec. n.no! e rec.each)
+  pub not_below : {o : Bool} → o ≡ false → Decides o (Below c.field.p B) → Accepts c B o
+  not_below e n G H h = refused e (λ rec. n.no! e rec.each)
 
   module _ {o : Bool} (e : o ≡ true) (n : Decides o (Below c.field.p B)) {b : Seven} (l : SevenLoaded B b) where
     pub pass_in : Known c → PassesAsks c b

@@ -6,13 +6,10 @@ use mathlib.Core.Path.{◌≡◌, refl, sym, ap, ap₂, ◌∙◌, subst}
 use mathlib.Core.Logic.{◌≢◌, inl, inr}
 use mathlib.Core.Bool.{Bool, true, false}
 use mathlib.Core.List.{List, [], ◌∷◌}
-use Prim.Native.Nat.{ℕ, zero, suc, ◌+◌, ◌-◌, ◌<◌, ◌≤◌}
+use Prim.Native.Nat.{ℕ, zero, suc, ◌-◌, ◌<◌, ◌≤◌}
 use native.Mathlib.Omega.{arith}
 use lib.ListN.{get_or}
-use Rattle.math_ring.specs.Ring.{CRing}
 use Rattle.math_ring.proofs.Solve.{var, one, zer, minus, ◌:+◌, ◌:*◌, solve}
-use Rattle.math_fp.specs.Fp.{Prime}
-use Rattle.math_valued.specs.Degree.{Has, Lt}
 use Rattle.math_valued.proofs.Degree as d
 use Rattle.math_rows.specs.Reading.{Reading}
 use Rattle.math_rows.specs.Made.{reading}
@@ -23,8 +20,8 @@ use Rattle.math_rows.proofs.Unique.{cast_inj}
 use Rattle.poly_cross.specs.Cross.{CrossInAsks, Crossed}
 use Rattle.poly_cross.proofs.Cross.{cross_by}
 use Rattle.base_answers.specs.Decides.{Decides}
-use Rattle.basis_record.specs.Seven.{Seven}
-use Rattle.basis_parts.specs.Frame.{Frame, Meaning, Short, Ser, rowμ, pt, X, Y, Ltμ, Hasμ}
+use Rattle.basis_record.specs.declared.Seven.{Seven}
+use Rattle.basis_parts.specs.Frame.{Frame, Meaning, rowμ, pt, X, Y}
 use Rattle.basis_parts.specs.Leaves.{PartAsks, Parted}
 use Rattle.basis_finish.specs.Based.{Z}
 use Rattle.basis_shape.specs.Lengths.{Shape}

@@ -10,7 +10,8 @@ use Rattle.basis_record.specs.Record.{setting, IsRecord}
 use Rattle.field_series.specs.Keeps.{Kept, Known}
 use Rattle.field_series.specs.declared.OpenedField.{OpenedField}
 use Rattle.base_answers.specs.Decides.{Decides}
-use Rattle.basis_record.specs.Seven.{Seven, row_at, rows_of}
+use Rattle.basis_record.specs.Seven.{row_at, rows_of}
+use Rattle.basis_record.specs.declared.Seven.{Seven}
 use Rattle.poly_rows.specs.Leaf.{Short}
 
 pub record Seventeen (p : ℕ) (b : Seven) : Type 0 where

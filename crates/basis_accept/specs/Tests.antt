@@ -3,13 +3,11 @@
 --   Numbers μ b       the sizes of a scaled reduced basis of a reduced ideal (crate math_ideals)
 --   Shaped            a test of these, at each meaning of the series
 use Rattle.std.specs.Prelude.{Bool, ℕ, ◌-◌, ◌<◌, ◌≤◌}
-use Rattle.math_ring.specs.Ring.{Ops, CRing}
 use Rattle.math_triple.specs.Tri.{Tri}
-use Rattle.math_valued.specs.Val.{Valued}
-use Rattle.math_rows.specs.Reading.{Reading}
 use Rattle.math_ideals.specs.Tests.{ReducedInNumbers}
 use Rattle.base_answers.specs.Decides.{Decides}
-use Rattle.basis_record.specs.Seven.{Seven, AreRows}
+use Rattle.basis_record.specs.Seven.{AreRows}
+use Rattle.basis_record.specs.declared.Seven.{Seven}
 use Rattle.basis_parts.specs.Frame.{Frame, Fine, Meaning, Short, rd, Ser, rowμ}
 
 pub record SizesRightAsks (F : Frame) (top : ℕ) (b : Seven) : Type 0 where

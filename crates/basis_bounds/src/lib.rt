@@ -7,28 +7,16 @@ ghost use Rattle.basis_bounds.specs.Bounds.{Below, Ordered};
 
 use base_lists::wide;
 
-// Whether every number is below p.
+// Whether every number is below p. That of crate poly_tests asks for p above 0, which a caller of this one need not show.
 pub fn below(p: u64, b: [u16; 119]) -> bool
     ensures { Decides result (Below p b) }
 {
-    let mut i: usize = 0;
-    while i < 119 {
-        let v = wide(b[i]);
-        if v >= p {
-            return false;
-        }
-        i += 1;
-    }
-    true
+    b.iter().all(|v| wide(*v) < p)
 }
 
 // The inequalities of a reduced basis of a reduced ideal, in lengths: of u, X(M), Y(N), X(N), Y(M), Z(M), Z(N).
 pub fn ordered(lu: usize, lx: usize, ly: usize, ln: usize, lm: usize, a: usize, b: usize) -> bool
     ensures { Decides result (Ordered lu lx ly ln lm a b) }
 {
-    if lm < lu && a < lu && b < lu && lu <= ly && lu < lx && ln < lx {
-        lu < ly || lu < ln
-    } else {
-        false
-    }
+    lm < lu && a < lu && b < lu && lu <= ly && lu < lx && ln < lx && (lu < ly || lu < ln)
 }

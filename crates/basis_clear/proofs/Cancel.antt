@@ -1,16 +1,14 @@
 -- One turn, s a − c t^k b: its rows fit, it is the turn of the elements, and its size ends before the bound.
 --   shift_above     where t^k z lies below j, a row for z moved up by k is 0 from j on
 --   cancel_drop     the leading terms cancel
---   cancel_b, cancel_c, cancel_top, cancel_made    what `canceled` asks of its callees, and what it makes
+--   cancel_b, cancel_c, cancel_top    what `canceled` asks of its callees
 use mathlib.Core.Path.{◌≡◌, sym, ◌∙◌}
 use mathlib.Core.Bool.{Bool}
 use mathlib.Core.List.{List, [], ◌∷◌}
 use Prim.Native.Nat.{ℕ, zero, suc, ◌+◌, ◌-◌, ◌<◌, ◌≤◌}
 use native.Mathlib.Omega.{arith}
 use native.Mathlib.Decide.{dec_lt}
-use Rattle.math_ring.specs.Ring.{Ops, CRing}
 use Rattle.math_ring.proofs.Solve.{var, minus, ◌:+◌, ◌:*◌, solve}
-use Rattle.math_valued.specs.Val.{Valued}
 use Rattle.math_valued.specs.Degree.{Lt}
 use Rattle.math_valued.proofs.Degree.{lt_eq, above, has_mul, has_move}
 use Rattle.math_rows.specs.Reading.{Reading}
@@ -22,10 +20,9 @@ use Rattle.math_rows.proofs.Floors.{sized}
 use Rattle.math_turns.specs.Points.{Pt, Turned}
 use Rattle.math_turns.proofs.Turn.{turned_side, b_lt, c_lt}
 use Rattle.poly_cross.specs.Cross.{CrossInAsks, CrossInGives}
-use Rattle.basis_parts.specs.Frame.{Frame, Fine, Meaning, Short, rd, Ser, pt, X, Y, side, Ltμ, shift, rowμ}
-use Rattle.basis_parts.specs.Leaves.{PartAsks}
-use Rattle.basis_top.specs.Tops.{TopOfAsks, Topped}
-use Rattle.basis_clear.specs.Clear.{Rows, Room, RoomAt, CanceledAsks, CanceledGives}
+use Rattle.basis_parts.specs.Frame.{Frame, Meaning, rd, Ser, pt, X, Y, side, Ltμ, shift, rowμ}
+use Rattle.basis_top.specs.Tops.{TopOfAsks}
+use Rattle.basis_clear.specs.Clear.{CanceledAsks}
 use Rattle.basis_top.specs.declared.Top.{Top}
 
 module _ {p : ℕ} (ρ : Reading p) where
@@ -116,6 +113,3 @@ module _ {F : Frame} {e : Bool} {ab ac bb bc : List ℕ} {a b : Top} {top low : 
           room = omega arith;
           ends = λ μ. lt_eq (rd μ).𝓥 (cancel_drop μ) (sym (turned_side (rd μ) μ.r μ.w e (turned_at μ)));
         }
-
-    pub cancel_made : {t : Top} → Topped F e nb nc low (a.n - 1) t → CanceledGives F e ab ac a bb bc b top low nb nc t
-    cancel_made h = record { rows = record { hb = xb.short; hc = xc.short }; is = h; each = turned_at }

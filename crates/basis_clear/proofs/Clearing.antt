@@ -6,33 +6,19 @@ use mathlib.Core.Bool.{Bool, true}
 use mathlib.Core.List.{List}
 use Prim.Native.Nat.{ℕ, suc, ◌+◌, ◌-◌, ◌<◌, ◌≤◌, max}
 use native.Mathlib.Omega.{arith}
-use lib.ListN.{replicate}
-use Rattle.math_valued.specs.Val.{Valued}
 use Rattle.math_valued.proofs.Degree.{lt_eq, lt_up, lt_add, lt_neg, lt_mul, above}
-use Rattle.math_rows.specs.Reading.{Reading}
 use Rattle.math_rows.proofs.Turn.{comb_lt, lead_shift}
-use Rattle.math_turns.specs.Points.{Pt, Turned, Moved}
 use Rattle.math_turns.proofs.Turn.{turned_X, moved_start, moved_swap, moved_turn, moved_has, full}
-use Rattle.poly_rows.specs.Leaf.{Cut}
-use Rattle.basis_parts.specs.Frame.{Frame, Fine, Meaning, Point, point, Short, Held, rd, pt, X, Y, Ltμ, shift}
+use Rattle.basis_parts.specs.Frame.{Frame, Meaning, Point, point, Held, rd, pt, X, Ltμ, shift}
 use Rattle.basis_parts.specs.Leaves.{PartAsks, Parted}
 use Rattle.basis_top.specs.Tops.{TopOfAsks, Topped}
 use Rattle.basis_clear.specs.Clear.{Pair, Rows, Room, CanceledAsks, CanceledGives, ClearYAsks, Clearing, Cleared, pair, swap_if}
 use Rattle.basis_top.specs.declared.Top.{Top}
-use Rattle.math_rows.proofs.Tab.{zeros_at}
-use Rattle.poly_rows.proofs.Leaf.{zeros_row}
 use Rattle.basis_top.proofs.Tops.{part_lt, topped_up, topped_not, topped_most}
 
 -- what `part` asks, and what it gives
 pub part_in : {F : Frame} {top : ℕ} {b c : List ℕ} → Meaning F → Room F top → Rows F top b c → PartAsks F b c top
 part_in μ r h = record { fine = r.fine; some = μ; hb = h.hb; hc = h.hc; fits = r.fits; low_r = r.low_r; low_w = r.low_w }
-
--- zeros are a row of any length
-pub blank : {F : Frame} {top : ℕ} → Room F top → Short F.m.p (replicate 32 0) top
-blank {F} r = let b : 1 < F.m.p = r.fine.modulus.big in record { is_row = zeros_row F.m.p b; above = λ i u. zeros_at 32 i }
-
-pub part_below : {F : Frame} {e : Bool} {top : ℕ} {b c z : List ℕ} → Room F top → Parted F e b c top z → Cut z top
-part_below r o = record { size = o.short.is_row.size; fits = r.fits; above = o.short.above }
 
 pub part_held : {F : Frame} {e : Bool} {top : ℕ} {b c z : List ℕ} → Rows F top b c → Parted F e b c top z → Held F e top (point b c z)
 part_held h o = record { hb = h.hb; hc = h.hc; hz = o.short; floor = o.law }

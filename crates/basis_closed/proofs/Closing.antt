@@ -6,7 +6,7 @@
 --   under_unique                     two answers of one question are equal
 use mathlib.Core.Path.{◌≡◌, refl, sym, ap, ◌∙◌, subst}
 use mathlib.Core.Logic.{◌≢◌}
-use mathlib.Core.Bool.{Bool, true, false}
+use mathlib.Core.Bool.{Bool, true, false, true≢false}
 use mathlib.Core.List.{List}
 use Prim.Native.Nat.{ℕ, ◌*◌, ◌-◌, ◌%◌, ◌<◌, ◌≤◌}
 use native.Mathlib.Nat.{mul_comm}
@@ -22,7 +22,6 @@ use Rattle.math_rows.specs.Row.{Size}
 use Rattle.math_rows.proofs.Rows.{size_le}
 use Rattle.math_rows.proofs.Floors.{zero_row}
 use Rattle.poly_rows.specs.Leaf.{Cut, Short}
-use Rattle.num_mod.specs.Prepared.{Prepared}
 use Rattle.num_mod.specs.declared.Modulus.{Modulus}
 use Rattle.poly_rows.specs.Division.{Inverts}
 use Rattle.poly_rows.proofs.Leaf.{size_unique, zeros_row, zeros_size}
@@ -33,23 +32,32 @@ use Rattle.math_ideals.proofs.Sizes.{O_path}
 use Rattle.math_ideals.specs.Element.{times_r, times_w}
 use Rattle.field_open.specs.Refusal.{Accepted}
 use Rattle.basis_record.specs.Record.{setting, poly_of}
+use Rattle.base_answers.specs.Decides.{Decides}
 use Rattle.base_answers.proofs.Tests.{answer_no, decides_unique, carried}
-use Rattle.basis_record.specs.Seven.{Seven, rows_of, Holds}
+use Rattle.basis_record.specs.Seven.{rows_of, Holds}
+use Rattle.basis_record.specs.declared.Seven.{Seven}
 use Rattle.basis_record.proofs.Sevens.{every}
 use Rattle.basis_lattice.specs.Coordinates.{LengthsOfAsks, Found}
 use Rattle.basis_closed.specs.Closed.{ClosedUnderRAndWAsks, Under, ClosedOnAsks, Keeps, Kept, Closed, element}
 use Rattle.basis_lattice.specs.declared.Lengths.{Lengths}
 
-abbrev zeros : List ℕ
+refused : {r : Bool} {A : Type 0} → r ≡ false → (A → ⊥) → Decides r A
+refused f n = record { yes! = λ e. absurd (true≢false (sym e ∙ f)); no! = λ e. n }
+
+abbrev pub zeros : List ℕ
 zeros = replicate 32 0
 
 pub zeros_short : {p : ℕ} → 1 < p → Short p zeros 10
 zeros_short l = record { is_row = zeros_row _ l; above = λ i k. zeros_size.above i (omega arith) }
 
+-- what the rows of a lent basis keep
+pub on_rows : {p : ℕ} {g h gh : List ℕ} {b b' : Seven} {o : Bool} (va vb vc : Seven → List ℕ) → b' ≡ b → Keeps p g h gh (va b') (vb b') (vc b') b' o → Keeps p g h gh (va b) (vb b) (vc b) b o
+on_rows {p} {g} {h} {gh} {b} {b'} {o} va vb vc = subst (λ s. Keeps p g h gh (va s) (vb s) (vc s) s o)
+
 module _ {M : Modulus} {g h gh : List ℕ} {b : Seven} (i : ClosedUnderRAndWAsks M g h gh b) where
-  pub lengths_in : {e : List ℕ} → Prepared M → e ≡ replicate 32 0 → LengthsOfAsks M 17 b e
-  lengths_in w z = let r = i.room.rows in record {
-    modulus = w;
+  pub lengths_in : {e : List ℕ} → e ≡ replicate 32 0 → LengthsOfAsks M 17 b e
+  lengths_in z = let r = i.room.rows in record {
+    modulus = i.modulus;
     prime = i.given.σ.prime;
     rows = λ j. (r j).is_row;
     ends = every {b = b} (λ x. Cut x 17) (cut (r 0) (omega arith)) (cut (r 1) (omega arith)) (cut (r 2) (omega arith)) (cut (r 3) (omega arith)) (cut (r 4) (omega arith)) (cut (r 5) (omega arith)) (cut (r 6) (omega arith));
@@ -77,11 +85,11 @@ module _ {M : Modulus} {g h gh : List ℕ} {b : Seven} (i : ClosedUnderRAndWAsks
       e_inverts : Inverts M.p e ie
       e_inverts = record { below = inv.below; law = λ n t. ap (λ j. (ie * get_or e (j - 1) 0) % M.p) (size_unique t f.det.size) ∙ ap (λ z. z % M.p) (mul_comm ie (get_or e (l.e - 1) 0)) ∙ inv.law }
 
-      pub keep : {lg lh lk na nb nc : ℕ} {va vb vc : List ℕ} → Prepared M → Size g lg → Size h lh → Size gh lk → Short M.p va 17 → Short M.p vb 10 → Short M.p vc 10
+      pub keep : {lg lh lk na nb nc : ℕ} {va vb vc : List ℕ} → Size g lg → Size h lh → Size gh lk → Short M.p va 17 → Short M.p vb 10 → Short M.p vc 10
           → Size va na → Size vb nb → Size vc nc → ClosedOnAsks M g lg h lh gh lk va na vb nb vc nc b l e ie
-      keep w sg sh sk ha hb hc sa sb sc = record {
+      keep sg sh sk ha hb hc sa sb sc = record {
         given = i.given;
-        modulus = w;
+        modulus = i.modulus;
         sg = sg;
         sh = sh;
         sk = sk;
@@ -131,12 +139,12 @@ module _ {M : Modulus} {g h gh : List ℕ} {b : Seven} (i : ClosedUnderRAndWAsks
       }
 
     module _ {o : Bool} (hU : Keeps M.p g h gh b.u zeros zeros b o) where
-      pub no_U : o ≡ false → Under M.p g h gh b false
-      no_U t G H σ k = answer_no (λ c. (hU G H σ k).no! t (kept_one σ c))
+      pub no_U : {v : Bool} → v ≡ false → o ≡ false → Under M.p g h gh b v
+      no_U f t G H σ k = refused f (λ c. (hU G H σ k).no! t (kept_one σ c))
 
       module _ (tU : o ≡ true) {o₁ : Bool} (hM : Keeps M.p g h gh b.m0 b.m1 b.m2 b o₁) where
-        pub no_M : o₁ ≡ false → Under M.p g h gh b false
-        no_M t G H σ k = answer_no (λ c. (hM G H σ k).no! t (record { by_r = c.r_M; by_w = c.w_M }))
+        pub no_M : {v : Bool} → v ≡ false → o₁ ≡ false → Under M.p g h gh b v
+        no_M f t G H σ k = refused f (λ c. (hM G H σ k).no! t (record { by_r = c.r_M; by_w = c.w_M }))
 
         pub of_N : o₁ ≡ true → l.e ≢ 0 → {o₂ : Bool} → Keeps M.p g h gh b.n0 b.n1 b.n2 b o₂ → Under M.p g h gh b o₂
         of_N t nz hN G H σ k = carried (closed_of σ nz ((hU G H σ k).yes! tU) ((hM G H σ k).yes! t)) (λ c. record { by_r = c.r_N; by_w = c.w_N }) (hN G H σ k)

@@ -2,8 +2,8 @@
 --   r_in w_in              what `member` asks of r v and w v: every product fits
 --   decides_r decides_w    what its answer says of the lattice
 --   keeps_no keeps_yes     the two answers together
-use mathlib.Core.Path.{◌≡◌, refl, sym}
-use mathlib.Core.Bool.{Bool, true, false}
+use mathlib.Core.Path.{◌≡◌, refl, sym, ◌∙◌}
+use mathlib.Core.Bool.{Bool, true, false, true≢false}
 use mathlib.Core.List.{List}
 use Prim.Native.Nat.{ℕ, suc, ◌+◌, ◌≤◌}
 use native.Mathlib.Omega.{arith}
@@ -23,8 +23,9 @@ use Rattle.math_ideals.specs.Element.{times_r, times_w}
 use Rattle.field_open.specs.Refusal.{Accepted}
 use Rattle.basis_record.specs.Record.{setting}
 use Rattle.base_answers.specs.Decides.{Decides}
-use Rattle.base_answers.proofs.Tests.{answer_no, carried}
-use Rattle.basis_record.specs.Seven.{Seven, rows_of, Holds}
+use Rattle.base_answers.proofs.Tests.{carried}
+use Rattle.basis_record.specs.Seven.{rows_of, Holds}
+use Rattle.basis_record.specs.declared.Seven.{Seven}
 use Rattle.basis_lattice.specs.Lattice.{MemberAsks, Member}
 use Rattle.basis_closed.specs.Closed.{ClosedOnAsks, Keeps, element}
 use Rattle.basis_lattice.specs.declared.Lengths.{Lengths}
@@ -94,8 +95,8 @@ module _ {p : ℕ} {G H : List ℕ} (σ : Accepted p G H) (b : Seven) {e : List 
 module _ {M : Modulus} {g : List ℕ} {lg : ℕ} {h : List ℕ} {lh : ℕ} {gh : List ℕ} {lk : ℕ} {va : List ℕ} {na : ℕ} {vb : List ℕ} {nb : ℕ} {vc : List ℕ} {nc : ℕ} {b : Seven} {l : Lengths} {e : List ℕ} {ie : ℕ}
     (i : ClosedOnAsks M g lg h lh gh lk va na vb nb vc nc b l e ie) {ra rc : List ℕ} {o : Bool}
     (hra : Product M.p vc gh ra) (hrc : Product M.p vb h rc) (hr : Member M.p ra va rc b e o) where
-  pub keeps_no : o ≡ false → Keeps M.p g h gh va vb vc b false
-  keeps_no f G H σ k = answer_no (λ z. (decides_r σ b i.found.det k hra hrc hr).no! f z.by_r)
+  pub keeps_no : o ≡ false → Keeps M.p g h gh va vb vc b o
+  keeps_no f G H σ k = record { yes! = λ e. absurd (true≢false (sym e ∙ f)); no! = λ e z. (decides_r σ b i.found.det k hra hrc hr).no! e z.by_r }
 
   pub keeps_yes : o ≡ true → {wa wb : List ℕ} {o₁ : Bool} → Product M.p vb gh wa → Product M.p vc g wb → Member M.p wa wb va b e o₁ → Keeps M.p g h gh va vb vc b o₁
   keeps_yes t hwa hwb hw G H σ k = carried (λ z. record { by_r = (decides_r σ b i.found.det k hra hrc hr).yes! t; by_w = z }) (λ z. z.by_w) (decides_w σ b i.found.det k hwa hwb hw)

@@ -18,7 +18,8 @@ use Rattle.num_mod.specs.Prepared.{Prepared}
 use Rattle.num_mod.specs.declared.Modulus.{Modulus}
 use Rattle.poly_rows.specs.Division.{Inverts}
 use Rattle.base_answers.specs.Decides.{Decides}
-use Rattle.basis_record.specs.Seven.{Seven, row_at, rows_of, Holds}
+use Rattle.basis_record.specs.Seven.{row_at, rows_of, Holds}
+use Rattle.basis_record.specs.declared.Seven.{Seven}
 use Rattle.basis_lattice.specs.Coordinates.{Found}
 use Rattle.basis_lattice.specs.declared.Lengths.{Lengths}
 

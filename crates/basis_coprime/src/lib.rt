@@ -4,30 +4,22 @@
 
 ghost use Rattle.basis_coprime.specs.Coprime.{NoCommonFactorAsks, Alone};
 
+use basis_record::Seven;
 use num_mod::Modulus;
 use poly_euclid::gcd;
 use poly_rows::size;
 
 // Whether no factor divides all seven: the length of their greatest common divisor.
-pub fn no_common_factor(
-    q: Modulus,
-    m0: &[u64; 32],
-    m1: &[u64; 32],
-    m2: &[u64; 32],
-    n0: &[u64; 32],
-    n1: &[u64; 32],
-    n2: &[u64; 32],
-    u: &[u64; 32],
-) -> bool
-    requires { NoCommonFactorAsks q m0.now m1.now m2.now n0.now n1.now n2.now u.now }
-    ensures { Alone q.p m0.now m1.now m2.now n0.now n1.now n2.now u.now result }
+pub fn no_common_factor(q: Modulus, rows: &Seven) -> bool
+    requires { NoCommonFactorAsks q rows.now }
+    ensures { Alone q.p rows.now result }
 {
-    let a = gcd(q, u, m0);
-    let b = gcd(q, &a, m1);
-    let c = gcd(q, &b, m2);
-    let d = gcd(q, &c, n0);
-    let e = gcd(q, &d, n1);
-    let g = gcd(q, &e, n2);
+    let a = gcd(q, &rows.u, &rows.m0);
+    let b = gcd(q, &a, &rows.m1);
+    let c = gcd(q, &b, &rows.m2);
+    let d = gcd(q, &c, &rows.n0);
+    let e = gcd(q, &d, &rows.n1);
+    let g = gcd(q, &e, &rows.n2);
     let n = size(&g);
-    if n == 1 { true } else { false }
+    n == 1
 }

@@ -6,9 +6,8 @@ use mathlib.Core.Path.{◌≡◌, subst}
 use mathlib.Core.List.{List}
 use Prim.Native.Nat.{ℕ}
 use Rattle.field_open.specs.Refusal.{Accepted}
-use Rattle.field_series.specs.Answer.{Expands}
+use Rattle.field_series.specs.Answer.{Expands, OpenedAnswer}
 use Rattle.field_series.specs.Keeps.{Kept, Known}
-use Rattle.field_series.specs.declared.OpenedAnswer.{OpenedAnswer}
 use Rattle.field_series.proofs.Answer.{expands_holding}
 
 module _ {p : ℕ} {G H : List ℕ} {e : OpenedAnswer} (opens : Expands p G H e) (z : e.refusal ≡ 0) where

@@ -5,20 +5,21 @@
 ghost use Rattle.field_series.specs.Keeps.{Known};
 ghost use Rattle.basis_field.specs.First.{First};
 
-// The basis of the order of an opened field.
+// The basis of the order of an opened field. A frame of its own bounds the stack.
+#[inline(never)]
 pub fn order_basis(c: field_series::OpenedField) -> [u16; 119]
     requires { Known c }
     ensures { First c result }
 {
-    let f = c.field;
+    let k = c.field;
     let r = c.r;
     let w = c.w;
-    let m = num_mod::prepare(f.p);
-    let b = basis_parts::Bounds {
-        m,
-        dr: f.dr,
-        dw: f.dw,
-        top: f.dr + f.dw + 1,
+    let f = basis_parts::Frame {
+        m: num_mod::prepare(k.p),
+        r,
+        w,
+        dr: k.dr,
+        dw: k.dw,
     };
-    basis_scale::order(b, &r, &w)
+    basis_scale::order(&f, k.dr + k.dw + 1)
 }

@@ -3,38 +3,31 @@ use mathlib.Core.Path.{◌≡◌, refl, sym, ap, ap₂, ◌∙◌, subst}
 use mathlib.Core.Logic.{◌≢◌, inl}
 use mathlib.Core.Bool.{true, false}
 use mathlib.Core.List.{List, [], ◌∷◌, ◌++◌}
-use Prim.Native.Nat.{ℕ, zero, suc, ◌+◌, ◌*◌, ◌-◌, ◌/◌, ◌%◌, ◌<◌, ◌≤◌}
+use Prim.Native.Nat.{ℕ, zero, suc, ◌+◌, ◌*◌, ◌-◌, ◌/◌, ◌<◌, ◌≤◌}
 use native.Mathlib.Omega.{arith}
 use lib.ListN.{get_or, replicate}
 use Rattle.math_ring.proofs.Laws as rg
-use Rattle.math_ring.specs.Ring.{Ops, CRing}
 use Rattle.math_ring.proofs.Solve.{var, one, minus, ◌:+◌, ◌:*◌, hyp, solve, solve_by}
 use Rattle.math_fp.specs.Fp.{Prime}
-use Rattle.math_valued.specs.Val.{Valued}
 use Rattle.math_valued.proofs.Degree.{lead_eq, lt_eq, lt_add, lt_neg, lt_up}
-use Rattle.math_rows.specs.Reading.{Reading}
 use Rattle.math_rows.specs.Made.{reading}
-use Rattle.math_rows.specs.Row.{Row, Size, row}
+use Rattle.math_rows.specs.Row.{Size, row}
 use Rattle.math_rows.proofs.Rows.{size_lead, size_lead_at}
 use Rattle.math_rows.proofs.Floors.{floor_lt, floor_top}
 use Rattle.math_rows.proofs.Turn.{lead_scale, lt_scale}
 use Rattle.math_turns.specs.Points.{Pt, Moved}
 use Rattle.math_turns.proofs.Turn.{moved_scale, moved_then}
 use Rattle.math_rows.proofs.Unique.{cast_inj}
-use Rattle.num_mod.specs.Prepared.{Prepared}
-use Rattle.num_mod.specs.declared.Modulus.{Modulus}
 use Rattle.num_mod.proofs.Prepared.{bare}
-use Rattle.poly_cross.specs.Cross.{Scaled, ScaleInAsks, ScaleInGives}
+use Rattle.poly_cross.specs.Cross.{Scaled, ScaleInGives}
 use Rattle.poly_rows.proofs.Leaf.{size_unique}
-use Rattle.poly_lent.proofs.Mixing.{size_cut}
 use Rattle.basis_record.specs.Record.{part}
-use Rattle.basis_parts.specs.Frame.{Frame, Meaning, Short, Held, point, rd, Ser, rowμ, pt, X, Y, Ltμ}
-use Rattle.basis_top.specs.Tops.{LeadOfAsks, Led}
-use Rattle.basis_clear.specs.Clear.{Pair, ClearYAsks}
+use Rattle.basis_parts.specs.Frame.{Frame, Meaning, Held, point, rd, Ser, rowμ, pt, X, Y, Ltμ}
+use Rattle.basis_top.specs.Tops.{Led}
+use Rattle.basis_clear.specs.Clear.{Pair}
 use Rattle.basis_reduce.specs.Reduction.{Ends, Reduced}
 use Rattle.basis_store.specs.declared.Factors.{Factors}
 use Rattle.math_rows.proofs.Tab.{zeros_at}
-use Rattle.basis_clear.proofs.Clearing.{part_in, rows_of}
 use Rattle.basis_store.specs.Levels.{Monic}
 use Rattle.basis_store.specs.Place.{off, padded, ElementAsks, PlacedAt, FilledAsks, Filled}
 use Rattle.basis_store.specs.Scales.{FactorsOfAsks, Scaling}
@@ -48,21 +41,6 @@ positive : (v : ℕ) → v ≢ 0 → 0 < v
 positive zero h = absurd (h refl)
 positive (suc v) h = omega arith
 
--- what `scale_in` asks, where the length is known
-by_size : {q : Modulus} {c : ℕ} {x : List ℕ} {n : ℕ} → Prepared q → Prime q.p → c < q.p → Row q.p x → Size x n → ScaleInAsks q c x n
-by_size m pr l h s = record { modulus = m; prime = pr; hc = l; hx = record { is_row = h; above = s.above }; fits = (size_cut h s).fits }
-
-module _ {F : Frame} {q : Pair} {top : ℕ} {d x1 y1 : List ℕ} (g : BasisAsks F q top d x1 y1) where
-  two_low : 2 < F.m.p
-  two_low = let b : 1 < F.m.p = g.clear.room.fine.modulus.big in let o : F.m.p % 2 ≡ 1 = g.odd in omega arith
-
-  -- the doubles of x1 and y1
-  pub double_x : {n : ℕ} → Size x1 n → ScaleInAsks F.m 2 x1 n
-  double_x s = by_size g.clear.room.fine.modulus g.clear.some.prime two_low g.h1.is_row s
-
-  pub double_y : {n : ℕ} → Size y1 n → ScaleInAsks F.m 2 y1 n
-  double_y s = by_size g.clear.room.fine.modulus g.clear.some.prime two_low g.h2.is_row s
-
 module _ {F : Frame} {q : Pair} {top : ℕ} {d x1 y1 : List ℕ} (g : BasisAsks F q top d x1 y1) {lu : ℕ} (sd : Size d lu) where
   lu_is : lu ≡ suc g.u
   lu_is = size_unique sd g.d_size
@@ -70,16 +48,7 @@ module _ {F : Frame} {q : Pair} {top : ℕ} {d x1 y1 : List ℕ} (g : BasisAsks 
   pub based_lu : 0 < lu
   based_lu = let e : lu ≡ suc g.u = lu_is in omega arith
 
-  pub based_clear : ClearYAsks F q top lu
-  based_clear = subst (λ n. ClearYAsks F q top n) (sym lu_is) g.clear
-
-  pub based_u : {s : ℕ} → s < F.m.p → ScaleInAsks F.m s d lu
-  based_u l = by_size g.clear.room.fine.modulus g.clear.some.prime l g.hd.is_row sd
-
   module _ {o : Ends} (h : Reduced F q top lu o) where
-    pub based_part : LeadOfAsks F true o.nb o.nc top
-    based_part = let i = part_in g.clear.some g.clear.room (rows_of h.hn) in record { inp = i; d = h.y; has = h.y_has i.some }
-
     pub lx_pos : 0 < o.lx
     lx_pos = let l : h.x2 < o.lx = h.x_less in omega arith
 

@@ -8,11 +8,8 @@
 --   Left                      what the lent rows hold in the end: M1, M2, N1, N2, U of the record, and x1 and y1 doubled
 --   FinishedAsks, Finished    from a pair o that the reduction made: Based for every q that it is the reduction of, Left, and M0, N0 in the rows of X(m), X(n)
 use Rattle.std.specs.Prelude.{◌≡◌, ◌≢◌, List, ℕ, suc, ◌%◌, ◌<◌, ◌≤◌, length, get_or}
-use Rattle.math_ring.specs.Ring.{Ops, CRing}
 use Rattle.math_triple.specs.Tri.{Tri}
 use Rattle.math_triple.specs.Sizes.{size_z}
-use Rattle.math_valued.specs.Val.{Valued}
-use Rattle.math_rows.specs.Reading.{Reading}
 use Rattle.math_rows.specs.Row.{Size}
 use Rattle.poly_cross.specs.Cross.{Scaled}
 use Rattle.math_ideals.specs.Tests.{InNumbers}

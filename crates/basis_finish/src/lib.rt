@@ -1,44 +1,44 @@
 // From a reduced pair to the scaled basis. specs/Based.antt has what it is.
 #![tactic(auto)]
 
-ghost use Rattle.basis_parts.specs.Given.{given};
 ghost use Rattle.basis_clear.specs.Clear.{pair};
 ghost use Rattle.basis_reduce.specs.Reduction.{ends};
 ghost use Rattle.basis_finish.specs.Based.{FinishedAsks, Finished};
 
-use basis_parts::Bounds;
+use basis_parts::{Element, Frame};
 use basis_store::{factors_of, filled};
 use basis_top::lead_of;
 use poly_cross::scale_in;
+use poly_rows::{Poly, Row};
 
 // The scaled basis from a reduced pair m, n on, with l the length of X(m): all rows are scaled in place.
+// d, x1 and y1 stand beside their lengths, since they are changed in place.
 pub fn finished(
-    f: Bounds,
-    r: &[u64; 32],
-    w: &[u64; 32],
-    mb: &mut [u64; 32],
-    mc: &mut [u64; 32],
-    mx: &mut [u64; 32],
-    nb: &mut [u64; 32],
-    nc: &mut [u64; 32],
-    nx: &mut [u64; 32],
+    f: &Frame,
+    top: usize,
+    m: &mut Element,
+    mx: &mut Row,
+    n: &mut Element,
+    nx: &mut Row,
     l: usize,
-    d: &mut [u64; 32],
+    d: &mut Row,
     lu: usize,
-    x1: &mut [u64; 32],
+    x1: &mut Row,
     n1: usize,
-    y1: &mut [u64; 32],
+    y1: &mut Row,
     n2: usize,
 ) -> [u16; 119]
-    requires { FinishedAsks (given f r.now w.now) f.top (ends mb.old mc.old mx.old nb.old nc.old nx.old l) d.old lu x1.old n1 y1.old n2 }
-    ensures { Finished (given f r.now w.now) f.top (ends mb.old mc.old mx.old nb.old nc.old nx.old l) d.old lu x1.old y1.old (pair mb.new mc.new nb.new nc.new) mx.new nx.new d.new x1.new y1.new result }
+    requires { FinishedAsks f.now top (ends m.old.b m.old.c mx.old n.old.b n.old.c nx.old l) d.old lu x1.old n1 y1.old n2 }
+    ensures { Finished f.now top (ends m.old.b m.old.c mx.old n.old.b n.old.c nx.old l) d.old lu x1.old y1.old (pair m.new.b m.new.c n.new.b n.new.c) mx.new nx.new d.new x1.new y1.new result }
 {
     let q = f.m;
-    let top = f.top;
-    let y = lead_of(f, true, nb, nc, r, w);
-    let k = factors_of(q.p, d[lu - 1], mx[l - 1], y);
+    let b = lead_of(f, top, true, n);
+    let k = factors_of(q.p, d[lu - 1], mx[l - 1], b);
     scale_in(q, k.u, d, lu);
     scale_in(q, 2, x1, n1);
     scale_in(q, 2, y1, n2);
-    filled(q, top, k, mb, mc, mx, nb, nc, nx, x1, n1, y1, n2, d, lu)
+    let x = Poly { row: x1, len: n1 };
+    let y = Poly { row: y1, len: n2 };
+    let u = Poly { row: d, len: lu };
+    filled(q, top, k, m, mx, n, nx, x, y, u)
 }

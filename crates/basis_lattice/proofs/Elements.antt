@@ -14,7 +14,8 @@ use Rattle.math_ideals.specs.Element.{O}
 use Rattle.math_ideals.specs.Ideal.{Coords}
 use Rattle.field_open.specs.Refusal.{Accepted}
 use Rattle.basis_record.specs.Record.{setting}
-use Rattle.basis_record.specs.Seven.{Seven, rows_of, Holds}
+use Rattle.basis_record.specs.Seven.{rows_of, Holds}
+use Rattle.basis_record.specs.declared.Seven.{Seven}
 use Rattle.basis_lattice.specs.Coordinates.{Quotients}
 
 -- ---- the exact quotients: an element on rows, and in coordinates

@@ -1,3 +1,4 @@
 pub mod Elements
 pub mod Quotients
 pub mod Members
+pub mod Lent

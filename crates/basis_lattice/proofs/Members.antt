@@ -1,13 +1,12 @@
 -- Membership by exact divisions.
 --   rest_none, rest_some   a division is exact exactly where its rest has no coefficient
 --   inside_both            a rest by U times a row of 17 fits
---   inside_yes, inside_no  U divides a − (b m + c n) exactly where the last rest is 0
+--   inside_yes, inside_only   U divides a − (b m + c n) exactly where the last rest is 0
 --   member_first, member_second, member_of, member_in   and the three divisions
 use mathlib.Core.Path.{◌≡◌, sym, ap, ap₂, ◌∙◌, subst}
-use mathlib.Core.Logic.{◌≢◌}
 use mathlib.Core.Bool.{true}
 use mathlib.Core.List.{List, [], ◌∷◌}
-use Prim.Native.Nat.{ℕ, suc, ◌+◌, ◌*◌, ◌<◌, ◌≤◌}
+use Prim.Native.Nat.{ℕ, suc, ◌+◌, ◌<◌, ◌≤◌}
 use native.Mathlib.Omega.{arith}
 use Rattle.num_mod.specs.declared.Modulus.{Modulus}
 use Rattle.math_ring.proofs.Solve.{var, hyp, one, zer, minus, ◌:+◌, ◌:*◌, solve, solve_by}
@@ -27,7 +26,7 @@ use Rattle.poly_rows.proofs.Lengths.{size_below, size_of, inverts_has}
 use Rattle.poly_lent.specs.Sized.{BothInAsks, BothInGives}
 use Rattle.poly_divide.specs.Divide.{LessInGives, DivideInGives}
 use Rattle.poly_lent.proofs.Mixing.{size_cut}
-use Rattle.basis_record.specs.Seven.{Seven}
+use Rattle.basis_record.specs.declared.Seven.{Seven}
 use Rattle.basis_lattice.specs.Coordinates.{ElementAsks, OuterGives}
 use Rattle.basis_lattice.specs.Lattice.{InsideAsks, InsideAt, MemberAt}
 use Rattle.basis_lattice.specs.declared.Lengths.{Lengths}
@@ -106,10 +105,10 @@ module _ {p : ℕ} (pr : Prime p) where
           (db.law pr, (dc.law pr, (sym h_is ∙ rest_none dh s e, tt)));
     }
 
-    pub inside_no : l ≢ 0 → InsideAt pr a b c m n u → ⊥
-    inside_no ne t =
+    pub inside_only : InsideAt pr a b c m n u → l ≡ 0
+    inside_only t =
         let (k, hk) = inverts_has pr i.hu.is_row i.by_u in
-        ne (rest_some dh s k hk (t.α ⊕ (row ρ q₁ ⊗ row ρ m ⊕ row ρ q₂ ⊗ row ρ n))
+        (rest_some dh s k hk (t.α ⊕ (row ρ q₁ ⊗ row ρ m ⊕ row ρ q₂ ⊗ row ρ n))
         (𝓥.closed.add _ _ t.α_poly (𝓥.closed.add _ _ (𝓥.closed.mul _ _ (row_poly ρ q₁) (row_poly ρ m)) (𝓥.closed.mul _ _ (row_poly ρ q₂) (row_poly ρ n))))
         (h_is ∙ solve_by L (var 0 :+ minus (var 9 :* var 3 :+ var 10 :* var 4)) (var 5 :* (var 6 :+ (var 7 :* var 3 :+ var 8 :* var 4)))
         (hyp (var 3) (var 1) (var 7 :* var 5 :+ var 9) ∷ hyp (var 4) (var 2) (var 8 :* var 5 :+ var 10) ∷ hyp one (var 0 :+ minus (var 1 :* var 3 :+ var 2 :* var 4)) (var 5 :* var 6) ∷ []) tt
@@ -117,7 +116,7 @@ module _ {p : ℕ} (pr : Prime p) where
         (db.law pr, (dc.law pr, (t.U_α, tt))))).0
 
   module _ {mul lim : ℕ} {va : List ℕ} {na : ℕ} {vb : List ℕ} {nb : ℕ} {vc : List ℕ} {nc : ℕ} {b : Seven} {l : Lengths} {e : List ℕ} {ie : ℕ} (i : ElementAsks (of p mul lim) va na vb nb vc nc b l e ie)
-      {s t q₁ q₂ : List ℕ} {o : OuterSpans} (h : OuterGives p vb vc b.m1 b.m2 b.n1 b.n2 e s t q₁ q₂ o) {r₁ : List ℕ} {k : ℕ} (x : LessInGives p q₁ e s r₁ k) where
+      {s t q₁ q₂ : List ℕ} {o : OuterSpans} (h : OuterGives p vb vc b e s t q₁ q₂ o) {r₁ : List ℕ} {k : ℕ} (x : LessInGives p q₁ e s r₁ k) where
     he : (n : ℕ) × Has 𝓥 (row ρ e) n
     he = inverts_has pr i.he i.by_e
 
@@ -127,8 +126,8 @@ module _ {p : ℕ} (pr : Prime p) where
     first : MemberAt pr va vb vc b e → (k ≡ 0) × ((m : MemberAt pr va vb vc b e) → row ρ q₁ ≡ m.β)
     first m = ((rest_some by_β x.size he.0 he.1 m.β m.quotients.β_poly (h.s_is.law pr ∙ m.quotients.e_β)).0, λ o. (rest_some by_β x.size he.0 he.1 o.β o.quotients.β_poly (h.s_is.law pr ∙ o.quotients.e_β)).1)
 
-    pub member_first : k ≢ 0 → MemberAt pr va vb vc b e → ⊥
-    member_first ne m = ne (first m).0
+    pub member_first : MemberAt pr va vb vc b e → k ≡ 0
+    member_first m = (first m).0
 
     module _ {r₂ : List ℕ} {j : ℕ} (y : LessInGives p q₂ e t r₂ j) where
       by_γ : Divided p t e q₂ r₂
@@ -137,8 +136,8 @@ module _ {p : ℕ} (pr : Prime p) where
       second : (m : MemberAt pr va vb vc b e) → (j ≡ 0) × (row ρ q₂ ≡ m.γ)
       second m = rest_some by_γ y.size he.0 he.1 m.γ m.quotients.γ_poly (h.t_is.law pr ∙ m.quotients.e_γ)
 
-      pub member_second : j ≢ 0 → MemberAt pr va vb vc b e → ⊥
-      member_second ne m = ne (second m).0
+      pub member_second : MemberAt pr va vb vc b e → j ≡ 0
+      member_second m = (second m).0
 
       pub member_of : k ≡ 0 → j ≡ 0 → InsideAt pr va q₁ q₂ b.m0 b.n0 b.u → MemberAt pr va vb vc b e
       member_of ek el n = record {

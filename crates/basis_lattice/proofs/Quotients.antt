@@ -20,7 +20,8 @@ use Rattle.poly_rows.proofs.Lengths.{by_inverse}
 use Rattle.poly_lent.specs.Sized.{BothInAsks, BothInGives, DetInAsks}
 use Rattle.poly_divide.specs.Divide.{QuotientAsks, QuotientInGives}
 use Rattle.poly_lent.proofs.Mixing.{size_cut}
-use Rattle.basis_record.specs.Seven.{Seven, Three, three}
+use Rattle.basis_record.specs.Seven.{Three, three}
+use Rattle.basis_record.specs.declared.Seven.{Seven}
 use Rattle.basis_lattice.specs.Coordinates.{Quotients, AreLengths, ElementAsks, OuterGives, CoordinatesAsks, Coordinates}
 use Rattle.basis_lattice.specs.declared.Lengths.{Lengths}
 use Rattle.basis_lattice.specs.declared.OuterSpans.{OuterSpans}
@@ -78,7 +79,7 @@ module _ {M : Modulus} {va : List ℕ} {na : ℕ} {vb : List ℕ} {nb : ℕ} {vc
   by_u hs n z = record { inp = by_inverse (bare h.modulus) h.prime hs (h.rows 6) h.by_u; modulus = h.modulus; sa = n; sb = h.sizes 6; blank = z }
 
 module _ {M : Modulus} {va : List ℕ} {na : ℕ} {vb : List ℕ} {nb : ℕ} {vc : List ℕ} {nc : ℕ} {b : Seven} {l : Lengths} {e : List ℕ} {ie : ℕ} {t : Three} (c : CoordinatesAsks M va na vb nb vc nc b l e ie t)
-    {s₁ t₁ β γ : List ℕ} {o : OuterSpans} (h : OuterGives M.p vb vc b.m1 b.m2 b.n1 b.n2 e s₁ t₁ β γ o) where
+    {s₁ t₁ β γ : List ℕ} {o : OuterSpans} (h : OuterGives M.p vb vc b e s₁ t₁ β γ o) where
   β_is : (pr : Prime M.p) {x y z : (reading M.p pr).𝓥.L.El} → Quotients pr va vb vc b e x y z → row (reading M.p pr) β ≡ y
   β_is pr {x} {y} q = h.β_is.exact.law pr y q.β_poly (sym q.e_β ∙ sym (h.s_is.law pr))
 

@@ -9,7 +9,6 @@
 use Rattle.std.specs.Prelude.{◌≡◌, List, ℕ, zero, suc, ◌+◌, ◌≤◌, replicate}
 use Rattle.math_fp.specs.Fp.{Prime}
 use Rattle.math_valued.specs.Degree.{Lt}
-use Rattle.num_mod.specs.Residue.{IsModulus}
 use Rattle.math_rows.specs.Made.{reading}
 use Rattle.math_rows.specs.Row.{Row, Size, row}
 use Rattle.poly_rows.specs.Leaf.{Cut, Fits}
@@ -18,7 +17,8 @@ use Rattle.num_mod.specs.declared.Modulus.{Modulus}
 use Rattle.poly_rows.specs.Division.{Inverts}
 use Rattle.poly_lent.specs.Sized.{DetInGives}
 use Rattle.poly_divide.specs.Divide.{QuotientInGives}
-use Rattle.basis_record.specs.Seven.{Seven, seven, row_at, AreRows, Three, Blank}
+use Rattle.basis_record.specs.Seven.{row_at, AreRows, Three, Blank}
+use Rattle.basis_record.specs.declared.Seven.{Seven}
 use Rattle.basis_lattice.specs.declared.Lengths.{Lengths}
 use Rattle.basis_lattice.specs.declared.OuterSpans.{OuterSpans}
 use Rattle.basis_lattice.specs.declared.Spans.{Spans}
@@ -86,21 +86,18 @@ pub record ElementAsks (q : Modulus) (va : List ℕ) (na : ℕ) (vb : List ℕ) 
   pub c_m1 : Fits vc b.m1
   pub b_m2 : Fits vb b.m2
 
-pub record OuterAsks (q : Modulus) (vb : List ℕ) (nb : ℕ) (vc : List ℕ) (nc : ℕ) (m1 m2 n1 n2 : List ℕ) (l : Lengths) (e : List ℕ) (ie : ℕ) (s t β γ : List ℕ) : Type 0 where
+pub record OuterAsks (q : Modulus) (vb : List ℕ) (nb : ℕ) (vc : List ℕ) (nc : ℕ) (b : Seven) (l : Lengths) (e : List ℕ) (ie : ℕ) (s t β γ : List ℕ) : Type 0 where
   pub va : List ℕ
   pub na : ℕ
-  pub m0 : List ℕ
-  pub n0 : List ℕ
-  pub u : List ℕ
-  pub inp : ElementAsks q va na vb nb vc nc (seven m0 m1 m2 n0 n1 n2 u) l e ie
+  pub inp : ElementAsks q va na vb nb vc nc b l e ie
   pub blank_s : s ≡ replicate 32 0
   pub blank_t : t ≡ replicate 32 0
   pub blank_β : β ≡ replicate 32 0
   pub blank_γ : γ ≡ replicate 32 0
 
-pub record OuterGives (p : ℕ) (vb vc m1 m2 n1 n2 e s t β γ : List ℕ) (o : OuterSpans) : Type 0 where
-  pub s_is : DetInGives p vb n2 vc n1 s o.s
-  pub t_is : DetInGives p vc m1 vb m2 t o.t
+pub record OuterGives (p : ℕ) (vb vc : List ℕ) (b : Seven) (e s t β γ : List ℕ) (o : OuterSpans) : Type 0 where
+  pub s_is : DetInGives p vb b.n2 vc b.n1 s o.s
+  pub t_is : DetInGives p vc b.m1 vb b.m2 t o.t
   pub β_is : QuotientInGives p s e β o.b
   pub γ_is : QuotientInGives p t e γ o.c
 

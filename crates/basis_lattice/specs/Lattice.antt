@@ -1,9 +1,8 @@
 -- Membership in the lattice of a basis, and how the tests decide it.
 --   Inside    U divides a − (b m + c n)
---   Member    an element lies in the lattice: its coordinates are exact (`inside_yes`, `inside_no`, `member_of`, `member_in` in proofs/Members)
+--   Member    an element lies in the lattice: its coordinates are exact (`inside_yes`, `inside_only`, `member_of`, `member_in` in proofs/Members)
 use Rattle.std.specs.Prelude.{◌≡◌, Bool, List, ℕ}
 use Rattle.math_fp.specs.Fp.{Prime}
-use Rattle.num_mod.specs.Residue.{IsModulus}
 use Rattle.math_rows.specs.Made.{reading}
 use Rattle.math_rows.specs.Row.{Row, Size, row}
 use Rattle.base_answers.specs.Decides.{Decides}
@@ -11,7 +10,7 @@ use Rattle.poly_rows.specs.Leaf.{Short}
 use Rattle.num_mod.specs.Prepared.{Prepared}
 use Rattle.num_mod.specs.declared.Modulus.{Modulus}
 use Rattle.poly_rows.specs.Division.{Inverts}
-use Rattle.basis_record.specs.Seven.{Seven}
+use Rattle.basis_record.specs.declared.Seven.{Seven}
 use Rattle.basis_lattice.specs.Coordinates.{Quotients, ElementAsks}
 use Rattle.basis_lattice.specs.declared.Lengths.{Lengths}
 

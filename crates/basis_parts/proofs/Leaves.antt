@@ -1,7 +1,10 @@
 -- The laws behind the leaves.
 --   less_square               numbers below p p
 --   along_low                 terms that vanish
---   heap_start, heap_more, heap_end    the loop of `plain`
+--   run_start, run_more       the loop of `terms`
+--   heap_start, heap_more     the loop of `plain`
+--   part_minus, part_plus     one coefficient from two sums
+--   sums_quick, sums_large    the two sums, for p below 2^16 and for every p
 --   part_floor, part_high     the sums `along` are the coefficients of the polynomial part of b r ± c w, which ends before top
 use mathlib.Core.Path.{◌≡◌, refl, sym, ap, ap₂, ◌∙◌, subst}
 use mathlib.Core.Bool.{Bool, true, false}
@@ -20,12 +23,12 @@ use Rattle.math_valued.specs.Degree.{Lt}
 use Rattle.math_valued.proofs.Degree.{lead_eq, lt_eq, lt_add, lt_neg}
 use Rattle.math_rows.specs.Reading.{Reading}
 use Rattle.math_rows.specs.Made.{reading}
-use Rattle.math_rows.specs.Row.{Row, fall_at, tpow, psum, coefs, row, Reads}
+use Rattle.math_rows.specs.Row.{fall_at, tpow, psum, coefs, row, Reads}
 use Rattle.math_rows.proofs.Rows.{const_zero, const_neg, psum_ext, psum_plus, row_upto, row_tab}
 use Rattle.math_rows.proofs.Floors.{fall_in, fall_out}
 use Rattle.math_rows.proofs.Turn.{lt_scale}
-use Rattle.basis_parts.specs.Frame.{Frame, Meaning, Short, rd, pt, side, Ltμ}
-use Rattle.basis_parts.specs.Leaves.{PlusAsks, Summed, TermsAsks, PlainAsks, Terms, along, PartAsks, PartAtAsks, PartAt, part_at, signed, Parted}
+use Rattle.basis_parts.specs.Frame.{Frame, Meaning, rd, pt, side, Ltμ}
+use Rattle.basis_parts.specs.Leaves.{Summed, TermsAsks, PlainAsks, Terms, along, PartAsks, PartAtAsks, PartAt, part_at, signed, Parted}
 use Rattle.basis_parts.proofs.Laid.{Laid, laid_short, laid_row}
 
 -- ---- numbers
@@ -38,12 +41,6 @@ less_square (suc p) y z hy hz =
     let m : N.◌*◌ y z ≤ N.◌*◌ p p = mul-le-mul a b in
     let e : N.◌*◌ (suc p) (suc p) ≡ N.◌+◌ (N.◌+◌ (N.◌*◌ p p) (N.◌+◌ p p)) 1 = omega arith in
     omega arith
-
-pub square_small : (p : ℕ) → p < 2147483648 → N.◌*◌ p p < 4611686018427387904
-square_small p a = omega (arith, less_square 2147483648 p p a a)
-
-pub square_16 : (p : ℕ) → p < 65536 → N.◌*◌ p p ≤ 4294967296
-square_16 p h = let l : p ≤ 65536 = omega arith in mul-le-mul l l
 
 module _ {p : ℕ} (ρ : Reading p) where
   open ρ use {𝓥, cast}
@@ -181,9 +178,6 @@ module _ {p q : ℕ} {b : List ℕ} {n : ℕ} {s : List ℕ} {d j : ℕ} (g : Te
       low pr (yes u) = along_low (reading p pr) b s d j i (omega arith)
       low pr (no u) = let z : i ≡ 0 = omega arith in ap (along (reading p pr) b s d j) z ∙ along_none (reading p pr) b s d j
 
-  pub run_in : (i a : ℕ) → Run p q b n s d j i a → PlusAsks p q a (get_or b i 0) (get_or s (N.◌-◌ (N.◌+◌ d i) j) 0)
-  run_in i a h = record { modulus = g.modulus; is_q = g.is_q; hx = h.below; hy = g.hb.each i; hz = g.hs.each (N.◌-◌ (N.◌+◌ d i) j) }
-
   pub run_more : (i a a' : ℕ) → i < n → Run p q b n s d j i a → Summed p q a (get_or b i 0) (get_or s (N.◌-◌ (N.◌+◌ d i) j) 0) a' → Run p q b n s d j (N.◌+◌ i 1) a'
   run_more i a a' l h t =
       let f : j ≤ N.◌+◌ d i = h.from in record {
@@ -192,9 +186,6 @@ module _ {p q : ℕ} {b : List ℕ} {n : ℕ} {s : List ℕ} {d j : ℕ} (g : Te
         below = t.below;
         law = λ pr. t.law pr ∙ ap (λ v. (reading p pr).cast (N.◌+◌ a (N.◌*◌ (get_or b i 0) v))) (sym (fall_in s (N.◌+◌ d i) j f)) ∙ along_more (reading p pr) b s d j i a (h.law pr);
       }
-
-  pub run_end : (i a : ℕ) → n ≤ i → Run p q b n s d j i a → Terms p q b n s d j a
-  run_end i a l h = let u : i ≤ n = h.upto in let e : i ≡ n = omega arith in record { below = h.below; law = λ pr. h.law pr ∙ ap (along (reading p pr) b s d j) e }
 
 -- the invariant of `plain`: the sum is kept as it is
 module _ {p : ℕ} {b : List ℕ} {n : ℕ} {s : List ℕ} {d j : ℕ} (g : PlainAsks p b n s d j) where
@@ -207,18 +198,6 @@ module _ {p : ℕ} {b : List ℕ} {n : ℕ} {s : List ℕ} {d j : ℕ} (g : Plai
   pub heap_term : (i : ℕ) → N.◌*◌ (get_or b i 0) (get_or s (N.◌-◌ (N.◌+◌ d i) j) 0) < N.◌*◌ p p
   heap_term i = less_square p _ _ (g.inp.hb.each i) (g.inp.hs.each (N.◌-◌ (N.◌+◌ d i) j))
 
-  pub heap_square : N.◌*◌ p p ≤ 4294967296
-  heap_square = square_16 p g.small
-
-  pub heap_room : (i a : ℕ) → Heap i a → a ≤ 137438953472
-  heap_room i a h =
-      let u : i ≤ n = h.upto in
-      let f : N.◌+◌ n d ≤ 32 = g.inp.fits in
-      let l : i ≤ 32 = omega arith in
-      let m : N.◌*◌ i (N.◌*◌ p p) ≤ N.◌*◌ 32 4294967296 = mul-le-mul l heap_square in
-      let k : a < N.◌+◌ (N.◌*◌ i (N.◌*◌ p p)) 1 = h.below in
-      omega arith
-
   pub heap_more : (i a : ℕ) → i < n → Heap i a → Heap (N.◌+◌ i 1) (N.◌+◌ a (N.◌*◌ (get_or b i 0) (get_or s (N.◌-◌ (N.◌+◌ d i) j) 0)))
   heap_more i a l h =
       let f : j ≤ N.◌+◌ d i = h.from in
@@ -230,17 +209,6 @@ module _ {p : ℕ} {b : List ℕ} {n : ℕ} {s : List ℕ} {d j : ℕ} (g : Plai
         below = omega arith;
         law = λ pr. ap (λ v. (reading p pr).cast (N.◌+◌ a (N.◌*◌ (get_or b i 0) v))) (sym (fall_in s (N.◌+◌ d i) j f)) ∙ along_more (reading p pr) b s d j i a (h.law pr);
       }
-
-  pub heap_end : (i a : ℕ) → n ≤ i → Heap i a → Terms p (N.◌+◌ (N.◌*◌ 32 (N.◌*◌ p p)) 1) b n s d j a
-  heap_end i a l h =
-      let u : i ≤ n = h.upto in
-      let f : N.◌+◌ n d ≤ 32 = g.inp.fits in
-      let e : i ≡ n = omega arith in
-      let v : i ≤ 32 = omega arith in
-      let w : N.◌*◌ p p ≤ N.◌*◌ p p = omega arith in
-      let m : N.◌*◌ i (N.◌*◌ p p) ≤ N.◌*◌ 32 (N.◌*◌ p p) = mul-le-mul v w in
-      let k : a < N.◌+◌ (N.◌*◌ i (N.◌*◌ p p)) 1 = h.below in
-      record { below = omega arith; law = λ pr. h.law pr ∙ ap (along (reading p pr) b s d j) e }
 
 -- ---- one coefficient of a size, from two sums; p divides q
 module _ {F : Frame} {b c : List ℕ} {top j : ℕ} (g : PartAsks F b c top) (q Q x y : ℕ) (none : (pr : Prime F.m.p) → (reading F.m.p pr).cast q ≡ (reading F.m.p pr).𝓥.K.ops.𝟎)
@@ -262,6 +230,27 @@ module _ {F : Frame} {b c : List ℕ} {top j : ℕ} (g : PartAsks F b c top) (q 
     law = λ pr. let ρ = reading F.m.p pr in ρ.cast_mod (N.◌+◌ x y) ∙ ρ.cast_add x y ∙ ap₂ ρ.𝓥.K.ops.add (hx.law pr) (hy.law pr);
   })
 
-  -- a number of the same remainder
-  pub part_as : {e : Bool} {u v : ℕ} → v ≡ u → PartAt F e b c top j u → PartAt F e b c top j v
-  part_as {e} q h = subst (λ a. PartAt F e b c top j a) (sym q) h
+-- a number of the same remainder
+pub part_as : {F : Frame} {e : Bool} {b c : List ℕ} {top j u v : ℕ} → v ≡ u → PartAt F e b c top j u → PartAt F e b c top j v
+part_as {F} {e} {b} {c} {top} {j} q h = subst (λ a. PartAt F e b c top j a) (sym q) h
+
+-- the two sums that `digit` takes, and a multiple of p that the second does not pass: t is x, y, most
+pub record Sums (F : Frame) (b c : List ℕ) (top j : ℕ) (t : ℕ × ℕ × ℕ) : Type 0 where
+  pub Q : ℕ
+  pub none : (pr : Prime F.m.p) → (reading F.m.p pr).cast t.2 ≡ (reading F.m.p pr).𝓥.K.ops.𝟎
+  pub hx : Terms F.m.p Q b (N.◌-◌ top F.dr) F.r F.dr j t.0
+  pub hy : Terms F.m.p Q c (N.◌-◌ top F.dw) F.w F.dw j t.1
+  pub le : t.1 ≤ t.2
+
+module _ {F : Frame} {b c : List ℕ} {top j q x y : ℕ} (g : PartAtAsks F q b c top j) where
+  pub sums_quick : Terms F.m.p (N.◌+◌ (N.◌*◌ 32 (N.◌*◌ F.m.p F.m.p)) 1) b (N.◌-◌ top F.dr) F.r F.dr j x
+      → Terms F.m.p (N.◌+◌ (N.◌*◌ 32 (N.◌*◌ F.m.p F.m.p)) 1) c (N.◌-◌ top F.dw) F.w F.dw j y → Sums F b c top j (x, y, N.◌*◌ 32 q)
+  sums_quick hx hy =
+      let e : q ≡ N.◌*◌ F.m.p F.m.p = g.is_q in
+      let l : y < N.◌+◌ (N.◌*◌ 32 (N.◌*◌ F.m.p F.m.p)) 1 = hy.below in
+      record { Q = _; none = λ pr. cast_squares (reading F.m.p pr) 32 q e; hx = hx; hy = hy; le = omega arith }
+
+  pub sums_large : Terms F.m.p q b (N.◌-◌ top F.dr) F.r F.dr j x → Terms F.m.p q c (N.◌-◌ top F.dw) F.w F.dw j y → Sums F b c top j (x, y, q)
+  sums_large hx hy =
+      let l : y < q = hy.below in
+      record { Q = _; none = λ pr. ap (reading F.m.p pr).cast g.is_q ∙ cast_square (reading F.m.p pr); hx = hx; hy = hy; le = omega arith }

@@ -1,5 +1,5 @@
 -- What the reduction is given of a field, and what that stands for.
---   Frame          a modulus m with its number p, two lists r, w and two numbers dr, dw
+--   Frame          the struct: a modulus m with its number p, two lists r, w and two numbers dr, dw
 --   Fine F         m is prepared, r and w are rows of numbers below p
 --   Meaning F      p is prime, 2 is not 0 mod p, and r, w hold the first coefficients of two series of degrees dr, dw. A
 --                  contract asks for one where it bounds a size, and holds at each
@@ -9,9 +9,7 @@
 --   Short          a row that is 0 from a place on (crate poly_rows)
 --   Held F e top q    q's rows end before top − dr, top − dw and top, and z is the polynomial part of a size
 use Rattle.std.specs.Prelude.{◌≢◌, Bool, List, ℕ, ◌-◌}
-use Rattle.math_ring.specs.Ring.{Ops, CRing}
 use Rattle.math_fp.specs.Fp.{Prime}
-use Rattle.math_valued.specs.Val.{Valued}
 use Rattle.math_valued.specs.Degree.{Has, Lt}
 use Rattle.math_rows.specs.Reading.{Reading}
 use Rattle.math_rows.specs.Made.{reading}
@@ -21,13 +19,11 @@ use Rattle.num_mod.specs.declared.Modulus.{Modulus}
 use Rattle.math_turns.specs.Points as T
 use Rattle.math_turns.specs.Points.{Pt}
 pub use Rattle.poly_rows.specs.Leaf.{Short}
+use Rattle.basis_parts.specs.declared.Frame as Given
 
-pub record Frame : Type 0 where
-  pub m : Modulus
-  pub r : List ℕ
-  pub w : List ℕ
-  pub dr : ℕ
-  pub dw : ℕ
+-- the struct
+abbrev pub Frame : Type 0
+Frame = Given.Frame
 
 abbrev pub frame : Modulus → List ℕ → List ℕ → ℕ → ℕ → Frame
 frame m r w dr dw = record { m = m; r = r; w = w; dr = dr; dw = dw }

@@ -3,9 +3,8 @@
 --   PartAt .. v              v is the coefficient at t^j of b r ± c w, below p
 --   Parted F e b c top z     z is the polynomial part of b r + c w (e false) or b r − c w (e true)
 use Rattle.std.specs.Prelude.{◌≡◌, Bool, true, false, List, ℕ, zero, suc, ◌+◌, ◌*◌, ◌-◌, ◌<◌, ◌≤◌, get_or}
-use Rattle.math_ring.specs.Ring.{Ops, CRing}
+use Rattle.math_ring.specs.Ring.{Ops}
 use Rattle.math_fp.specs.Fp.{Prime}
-use Rattle.math_valued.specs.Val.{Valued}
 use Rattle.math_rows.specs.Reading.{Reading}
 use Rattle.math_rows.specs.Made.{reading}
 use Rattle.math_rows.specs.Row.{Row, fall_at, Floor}
@@ -59,15 +58,6 @@ pub record PartAtAsks (F : Frame) (q : ℕ) (b c : List ℕ) (top j : ℕ) : Typ
   pub inp : PartAsks F b c top
   pub is_q : q ≡ F.m.p * F.m.p
   pub high : j < top
-
--- the same into z
-pub record FloorInAsks (F : Frame) (b c : List ℕ) (top : ℕ) (z : List ℕ) : Type 0 where
-  pub inp : PartAsks F b c top
-  pub hz : Short F.m.p z top
-
-pub record QuickAtAsks (F : Frame) (q : ℕ) (b c : List ℕ) (top j : ℕ) : Type 0 where
-  pub inp : PartAtAsks F q b c top j
-  pub small : F.m.p < 65536
 
 -- x + y or x − y
 abbrev pub signed : {A : Type 0} → Ops A → Bool → A → A → A

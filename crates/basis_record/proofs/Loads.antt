@@ -11,7 +11,8 @@ use Rattle.math_rows.specs.Row.{Row}
 use Rattle.field_open.specs.Refusal.{Accepted}
 use Rattle.math_ideals.specs.Basis.{Good}
 use Rattle.basis_record.specs.Record.{part, setting, poly_of, basis_of}
-use Rattle.basis_record.specs.Seven.{Seven, row_at, AreRows, rows_of}
+use Rattle.basis_record.specs.Seven.{row_at, AreRows, rows_of}
+use Rattle.basis_record.specs.declared.Seven.{Seven}
 use Rattle.basis_record.specs.Store.{SevenLoaded}
 use Rattle.basis_record.proofs.Sevens.{every}
 

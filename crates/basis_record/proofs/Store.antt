@@ -1,22 +1,21 @@
 -- Storing and loading rows.
 --   stored_part, stored_other, stored_blank   the row that was stored, and the others
---   Storing, Loading            the invariants of the two loops
+--   Storing, Loading            the invariants of the two loops, and what `load` has at its end
 use mathlib.Core.Path.{◌≡◌, refl, sym, ap, ◌∙◌}
 use mathlib.Core.Logic.{◌⊎◌, inl, inr}
 use mathlib.Core.List.{List}
 use Prim.Native.Nat.{ℕ, ◌+◌, ◌*◌, ◌-◌, ◌<◌, ◌≤◌}
 use native.Mathlib.Omega.{arith}
-use native.Mathlib.Decide.{dec_lt, ℕ_discrete}
-use lib.ListN.{length, get_or, set, length-set, replicate, get_or-eq_default}
-use lib.Seq.{get_or-set_same, get_or-set_other, ext_get_or}
-use Rattle.math_fp.specs.Fp.{Prime}
+use native.Mathlib.Decide.{dec_lt}
+use lib.ListN.{length, get_or, replicate}
+use lib.Seq.{ext_get_or}
 use Rattle.math_rows.specs.Reading.{Reading}
 use Rattle.math_rows.specs.Made.{reading}
-use Rattle.math_rows.specs.Row.{Row, row, coefs}
+use Rattle.math_rows.specs.Row.{row, coefs}
 use Rattle.math_rows.proofs.Tab.{length_tab, at_tab, zeros_at}
 use Rattle.math_rows.proofs.Rows.{row_upto, row_tab, psum_ext}
 use Rattle.basis_record.specs.Record.{part}
-use Rattle.basis_record.specs.Store.{StoredAsks, Stored, LoadAsks, Loaded}
+use Rattle.basis_record.specs.Store.{Stored, Loaded}
 
 -- ---- what was stored
 pub stored_part : (B : List ℕ) (i : ℕ) (a B' : List ℕ) → Stored B i a B' → ((j : ℕ) → 17 ≤ j → get_or a j 0 ≡ 0) → {p : ℕ} (ρ : Reading p) → row ρ (part i B') ≡ row ρ a
@@ -60,42 +59,6 @@ pub record Storing (B : List ℕ) (i : ℕ) (a b : List ℕ) (j : ℕ) : Type 0 
   pub here : (k : ℕ) → k < j → get_or b (17 * i + k) 0 ≡ get_or a k 0
   pub there : (k : ℕ) → (k < 17 * i) ⊎ (17 * i + j ≤ k) → get_or b k 0 ≡ get_or B k 0
 
-pub storing_start : (B : List ℕ) (i : ℕ) (a : List ℕ) → length B ≡ 119 → Storing B i a B 0
-storing_start B i a e = record { size = e; upto = omega arith; here = λ k l. absurd (omega arith); there = λ k o. refl }
-
-pub storing_more : (B : List ℕ) (i : ℕ) (a b : List ℕ) (j : ℕ) → i < 7 → j < 17 → Storing B i a b j → Storing B i a (set b (17 * i + j) (get_or a j 0)) (j + 1)
-storing_more B i a b j li lj h = record {
-  size = length-set b (17 * i + j) (get_or a j 0) ∙ h.size;
-  upto = omega arith;
-  here = λ k l. at k l (ℕ_discrete k j);
-  there = λ k o. get_or-set_other b (17 * i + j) k (get_or a j 0) 0 (λ e. clash k o e) ∙ h.there k (more k o);
-}
-  where
-    at : (k : ℕ) → k < j + 1 → Dec (k ≡ j) → get_or (set b (17 * i + j) (get_or a j 0)) (17 * i + k) 0 ≡ get_or a k 0
-    at k l (yes e) =
-        let s : length b ≡ 119 = h.size in
-        ap (λ n. get_or (set b (17 * i + j) (get_or a j 0)) (17 * i + n) 0) e ∙ get_or-set_same b (17 * i + j) (get_or a j 0) 0 (omega arith) ∙ ap (λ n. get_or a n 0) (sym e)
-    at k l (no e) = get_or-set_other b (17 * i + j) (17 * i + k) (get_or a j 0) 0 (λ q. e (let z : 17 * i + k ≡ 17 * i + j = q in omega arith)) ∙ h.here k (omega arith)
-
-    clash : (k : ℕ) → (k < 17 * i) ⊎ (17 * i + (j + 1) ≤ k) → k ≡ 17 * i + j → ⊥
-    clash k (inl l) e = absurd (omega arith)
-    clash k (inr l) e = absurd (omega arith)
-
-    more : (k : ℕ) → (k < 17 * i) ⊎ (17 * i + (j + 1) ≤ k) → (k < 17 * i) ⊎ (17 * i + j ≤ k)
-    more k (inl l) = inl l
-    more k (inr l) = inr (omega arith)
-
-pub storing_end : (B : List ℕ) (i : ℕ) (a b : List ℕ) (n j : ℕ) → StoredAsks B i a n → n ≤ j → Storing B i a b j → Stored B i a b
-storing_end B i a b n j g l h = record { size = h.size; here = λ k w. at k (dec_lt k j); there = λ k o. h.there k (same k o) }
-  where
-    at : (k : ℕ) → Dec (k < j) → get_or b (17 * i + k) 0 ≡ get_or a k 0
-    at k (yes w) = h.here k w
-    at k (no w) = h.there (17 * i + k) (inr (omega arith)) ∙ g.blank (17 * i + k) (omega arith) ∙ sym (g.above k (omega arith))
-
-    same : (k : ℕ) → (k < 17 * i) ⊎ (17 * i + 17 ≤ k) → (k < 17 * i) ⊎ (17 * i + j ≤ k)
-    same k (inl w) = inl w
-    same k (inr w) = inr (let u : j ≤ 17 = h.upto in omega arith)
-
 -- ---- the loop of `load`
 pub record Loading (B : List ℕ) (i : ℕ) (r : List ℕ) (j : ℕ) : Type 0 where
   pub size : length r ≡ 32
@@ -105,18 +68,6 @@ pub record Loading (B : List ℕ) (i : ℕ) (r : List ℕ) (j : ℕ) : Type 0 wh
 
 pub loading_start : (B : List ℕ) (i : ℕ) → Loading B i (replicate 32 0) 0
 loading_start B i = record { size = refl; upto = omega arith; done = λ k l. absurd (omega arith); rest = λ k l. zeros_at 32 k }
-
-pub loading_more : (B : List ℕ) (i : ℕ) (r : List ℕ) (j v : ℕ) → j < 17 → v ≡ get_or B (17 * i + j) 0 → Loading B i r j → Loading B i (set r j v) (j + 1)
-loading_more B i r j v l e h = record {
-  size = length-set r j v ∙ h.size;
-  upto = omega arith;
-  done = λ k w. at k w (ℕ_discrete k j);
-  rest = λ k w. get_or-set_other r j k v 0 (λ q. absurd (omega arith)) ∙ h.rest k (omega arith);
-}
-  where
-    at : (k : ℕ) → k < j + 1 → Dec (k ≡ j) → get_or (set r j v) k 0 ≡ get_or B (17 * i + k) 0
-    at k w (yes q) = let s : length r ≡ 32 = h.size in ap (λ n. get_or (set r j v) n 0) q ∙ get_or-set_same r j v 0 (omega arith) ∙ e ∙ ap (λ n. get_or B (17 * i + n) 0) (sym q)
-    at k w (no q) = get_or-set_other r j k v 0 q ∙ h.done k (omega arith)
 
 pub loading_end : (B : List ℕ) (i : ℕ) (r : List ℕ) (j : ℕ) → 17 ≤ j → Loading B i r j → Loaded B i r
 loading_end B i r j l h = record {

@@ -1,29 +1,18 @@
 -- The seven rows of a basis, as the code holds them, by name and by number.
---   Seven           the rows of M0, M1, M2, N0, N1, N2, U
+--   Seven           the rows of M0, M1, M2, N0, N1, N2, U: the code's struct
 --   row_at b i       the i-th of them, i from 0 to 6 (past 6 it is U again)
 --   AreRows p b     each is a row of numbers below p
 --   rows_of σ b      the basis that they stand for
 --   Holds σ g h gh  g, h, gh are rows of G, H and G H
 --   Three, Blank    three rows a, b, c for coordinates; three zero rows
--- What holds of each of the seven holds of every row: `every`, `each_of_seven` in proofs/Sevens.antt.
+-- What holds of each of the seven holds of every row: `every` in proofs/Sevens.antt.
 use Rattle.std.specs.Prelude.{◌≡◌, List, ℕ, zero, suc, replicate}
 use Rattle.math_rows.specs.Made.{reading}
 use Rattle.math_rows.specs.Row.{Row, row}
 use Rattle.math_ideals.specs.Ideal.{Basis}
 use Rattle.field_open.specs.Refusal.{Accepted}
 use Rattle.basis_record.specs.Record.{setting, poly_of}
-
-pub record Seven : Type 0 where
-  pub m0 : List ℕ
-  pub m1 : List ℕ
-  pub m2 : List ℕ
-  pub n0 : List ℕ
-  pub n1 : List ℕ
-  pub n2 : List ℕ
-  pub u : List ℕ
-
-abbrev pub seven : List ℕ → List ℕ → List ℕ → List ℕ → List ℕ → List ℕ → List ℕ → Seven
-seven m0 m1 m2 n0 n1 n2 u = record { m0 = m0; m1 = m1; m2 = m2; n0 = n0; n1 = n1; n2 = n2; u = u }
+use Rattle.basis_record.specs.declared.Seven.{Seven}
 
 abbrev pub row_at : Seven → ℕ → List ℕ
 row_at b zero = b.m0

@@ -9,7 +9,8 @@ use Rattle.math_fp.specs.Fp.{Prime}
 use Rattle.math_rows.specs.Made.{reading}
 use Rattle.math_rows.specs.Row.{row, Row}
 use Rattle.basis_record.specs.Record.{part}
-use Rattle.basis_record.specs.Seven.{Seven, row_at}
+use Rattle.basis_record.specs.Seven.{row_at}
+use Rattle.basis_record.specs.declared.Seven.{Seven}
 
 pub record StoredAsks (B : List ℕ) (i : ℕ) (a : List ℕ) (n : ℕ) : Type 0 where
   pub size : length B ≡ 119

@@ -1,6 +1,5 @@
 -- The second loop of the reduction: m stays, n loses leading terms of X, and Y(n) keeps its degree.
---   shear_in (from the end of the first loop), shear_pos, shear_low, shear_top and shear_turn_in (demands of callees), shear_start, shear_less,
---   shear_turn, shear_end
+--   shear_in (from the end of the first loop), shear_pos, shear_top and shear_turn_in (demands of callees), shear_start, shear_turn, shear_end
 --   reduced_end     both loops
 use mathlib.Core.Path.{◌≡◌, refl, sym, subst}
 use mathlib.Core.Logic.{◌⊎◌, inl, inr}
@@ -9,18 +8,15 @@ use mathlib.Core.List.{List}
 use Prim.Native.Nat.{ℕ, suc, ◌+◌, ◌-◌, ◌<◌, ◌≤◌}
 use native.Mathlib.Omega.{arith}
 use lib.ListN.{get_or}
-use Rattle.math_valued.specs.Val.{Valued}
 use Rattle.math_valued.proofs.Degree.{has_eq, lt_up, has_up, above, same, look}
-use Rattle.math_rows.specs.Reading.{Reading}
 use Rattle.math_rows.specs.Row.{Size}
 use Rattle.math_rows.proofs.Turn.{comb_keep, lead_shift}
 use Rattle.math_rows.proofs.Floors.{sized, floor_lt, floor_le}
-use Rattle.math_turns.specs.Points.{Pt, Turned, Moved}
 use Rattle.math_turns.proofs.Turn.{turned_Y, moved_start, moved_swap, moved_turn, moved_then, moved_has, full}
-use Rattle.basis_parts.specs.Frame.{Frame, Fine, Meaning, Short, Held, rd, pt, X, Y, Ltμ, Hasμ, shift}
+use Rattle.basis_parts.specs.Frame.{Frame, Meaning, rd, pt, X, Y, Ltμ, Hasμ, shift}
 use Rattle.basis_parts.specs.Leaves.{Parted}
 use Rattle.basis_top.specs.Tops.{TopOfAsks, Topped}
-use Rattle.basis_clear.specs.Clear.{Pair, Rows, Room, CanceledAsks, CanceledGives, Clearing, Cleared, Movedμ}
+use Rattle.basis_clear.specs.Clear.{Pair, CanceledAsks, CanceledGives, Cleared}
 use Rattle.basis_reduce.specs.Reduction.{ShearAsks, Shearing, Sheared, Reduced, Ends, ends}
 use Rattle.basis_top.specs.declared.Top.{Top}
 use Rattle.basis_top.proofs.Tops.{part_lt, part_top, topped_up, topped_not, topped_has}
@@ -103,13 +99,6 @@ module _ {F : Frame} {q : Pair} {top : ℕ} (i : ShearAsks F q top) {mx : List �
   pub shear_pos : 0 < l
   shear_pos = let e : l ≡ suc i.x = shear_length in omega arith
 
-  pub shear_low : l - 1 < 32
-  shear_low =
-      let e : l ≡ suc i.x = shear_length in
-      let b : i.x < top = i.bm in
-      let f : top ≤ 32 = i.room.fits in
-      omega arith
-
   pub shear_top : TopOfAsks F false q.nb q.nc top top (l - 1)
   shear_top =
       let e : l ≡ suc i.x = shear_length in
@@ -184,12 +173,6 @@ module _ {F : Frame} {q : Pair} {top : ℕ} {nb nc : List ℕ} {x1 x2 : Top} (i 
       }
 
   module _ {nb' nc' : List ℕ} {t : Top} (h : CanceledGives F false nb nc x2 q.mb q.mc x1 top (x1.n - 1) nb' nc' t) where
-    pub shear_less : t.n < x2.n
-    shear_less =
-        let z : x1.n - 1 < x1.n = past in
-        let d : t.n ≤ x2.n - 1 = h.is.upto in
-        omega arith
-
     pub shear_turn : Shearing F q top nb' nc' x1 t
     shear_turn =
         let b : x2.n ≤ top = i.tx2.upto in record {

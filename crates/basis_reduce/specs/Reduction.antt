@@ -7,10 +7,10 @@
 -- The lemmas of the turns are in proofs/Shearing.antt.
 use Rattle.std.specs.Prelude.{◌≡◌, Bool, true, false, List, ℕ, suc, ◌+◌, ◌-◌, ◌<◌, ◌≤◌}
 use Rattle.math_rows.specs.Row.{Size}
-use Rattle.basis_parts.specs.Frame.{Frame, Meaning, point, Short, Held, pt, X, Y, Ltμ, Hasμ}
+use Rattle.basis_parts.specs.Frame.{Frame, Meaning, point, Held, pt, X, Y, Ltμ, Hasμ}
 use Rattle.basis_top.specs.Tops.{Topped}
 use Rattle.basis_top.specs.declared.Top.{Top}
-use Rattle.basis_clear.specs.Clear.{Pair, Rows, Room, Movedμ, ClearYAsks}
+use Rattle.basis_clear.specs.Clear.{Pair, Rows, Room, Movedμ}
 
 -- two elements with the polynomial parts of X, and the length of m's
 pub record Ends : Type 0 where
@@ -47,12 +47,6 @@ pub record ShearAsks (F : Frame) (q : Pair) (top : ℕ) : Type 0 where
   pub bm : x < top
   pub xn : Ltμ some (X some (pt some q.nb q.nc)) top
 
--- the same with the rows that X(m), X(n) go into
-pub record ClearXAsks (F : Frame) (q : Pair) (top : ℕ) (mx nx : List ℕ) : Type 0 where
-  pub inp : ShearAsks F q top
-  pub hmx : Short F.m.p mx top
-  pub hnx : Short F.m.p nx top
-
 -- x1 is the top of X(m), and x2 that of X(n) from there on
 pub record Shearing (F : Frame) (q : Pair) (top : ℕ) (nb nc : List ℕ) (x1 x2 : Top) : Type 0 where
   pub room : Room F top
@@ -83,11 +77,6 @@ pub record Sheared (F : Frame) (q : Pair) (top : ℕ) (o : Ends) : Type 0 where
   pub moved : (μ : Meaning F) → Movedμ μ q o.mb o.mc o.nb o.nc
 
 -- ---- both
-pub record ReducedAsks (F : Frame) (q : Pair) (top lu : ℕ) (mx nx : List ℕ) : Type 0 where
-  pub inp : ClearYAsks F q top lu
-  pub hmx : Short F.m.p mx top
-  pub hnx : Short F.m.p nx top
-
 pub record Reduced (F : Frame) (q : Pair) (top lu : ℕ) (o : Ends) : Type 0 where
   pub hm : Held F false top (point o.mb o.mc o.mx)
   pub hn : Held F false top (point o.nb o.nc o.nx)

@@ -3,21 +3,17 @@
 --   order_in, order_by    what `order` asks of its callee
 --   order_start           the theorem
 use mathlib.Core.Path.{◌≡◌, refl, sym, ap, ap₂, ◌∙◌}
-use mathlib.Core.List.{List, [], ◌∷◌}
+use mathlib.Core.List.{[], ◌∷◌}
 use Prim.Native.Nat.{ℕ, zero, suc, ◌+◌, ◌-◌, ◌<◌, ◌≤◌}
 use native.Mathlib.Omega.{arith}
 use lib.ListN.{get_or}
-use Rattle.math_ring.specs.Ring.{Ops, CRing}
 use Rattle.math_ring.proofs.Solve.{var, one, zer, minus, ◌:+◌, ◌:*◌, solve}
-use Rattle.math_valued.specs.Val.{Valued}
-use Rattle.math_valued.specs.Degree.{Has, Lt}
+use Rattle.math_valued.specs.Degree.{Has}
 use Rattle.math_valued.proofs.Degree.{has_eq, has_up, has_mul, has_neg, has_move}
 use Rattle.math_rows.specs.Reading.{Reading}
 use Rattle.math_rows.specs.Row.{Row, Size, row, psum, tpow}
 use Rattle.math_rows.proofs.Rows.{row_cut}
-use Rattle.math_turns.specs.Points.{Pt}
-use Rattle.basis_parts.specs.Frame.{Frame, Meaning, Short, rd, Ser, pt, X, Y, D, Hasμ}
-use Rattle.basis_clear.specs.Clear.{ClearYAsks, Room, Rows}
+use Rattle.basis_parts.specs.Frame.{Frame, Short, rd, pt, X, Y, D}
 use Rattle.math_rows.proofs.Tab.{zeros_at}
 use Rattle.poly_rows.proofs.Leaf.{zeros_row, zeros_size}
 use Rattle.basis_finish.specs.Based.{BasisAsks, ReducedBasisAsks}

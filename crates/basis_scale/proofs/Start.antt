@@ -4,7 +4,6 @@ use mathlib.Core.Path.{◌≡◌, refl, sym, ap, ap₂, ◌∙◌, subst}
 use mathlib.Core.List.{List}
 use Prim.Native.Nat.{ℕ}
 use native.Mathlib.Omega.{arith}
-use Rattle.math_ring.proofs.Laws as rg
 use Rattle.math_valued.specs.Polynomial.{polys}
 use Rattle.math_valued.proofs.Degree.{lead_eq, same}
 use Rattle.math_valued.proofs.Polynomial.{P_path}
@@ -13,7 +12,6 @@ use Rattle.math_rows.specs.Made.{reading}
 use Rattle.math_rows.specs.Row.{Reads}
 use Rattle.math_turns.specs.Points.{Moved}
 use Rattle.field_open.specs.Refusal.{Accepted}
-use Rattle.math_ideals.specs.Setting.{P}
 use Rattle.math_ideals.specs.Next.{Start}
 use Rattle.math_chain.proofs.Changed.{Changed, changed_of}
 use Rattle.math_chain.proofs.Frame.{pair}

@@ -1,25 +1,18 @@
 -- Lengths are settled.
---   too_long, ends_at        a length against a bound
 --   not_ordered, not_units   no shape, where lengths or leading coefficients are not in order
 --   shape_from               the shape, where the lengths are in order
 use mathlib.Core.Path.{◌≡◌, ap, ◌∙◌}
 use mathlib.Core.Logic.{inl, inr}
 use mathlib.Core.Bool.{Bool}
 use mathlib.Core.List.{List}
-use Prim.Native.Nat.{ℕ, ◌-◌, ◌<◌, ◌≤◌}
+use Prim.Native.Nat.{ℕ, ◌-◌}
 use native.Mathlib.Omega.{arith}
 use lib.ListN.{get_or}
 use Rattle.math_rows.specs.Row.{Size}
 use Rattle.poly_rows.proofs.Leaf.{size_unique}
 use Rattle.base_answers.specs.Decides.{Decides}
 use Rattle.basis_bounds.specs.Bounds.{Ordered}
-use Rattle.basis_shape.specs.Lengths.{Ends, Units, Shape}
-
-pub too_long : {l : List ℕ} {n k : ℕ} → Size l n → k < n → Ends l k → ⊥
-too_long {l} {n} {k} s h e = s.top (omega arith) (e (n - 1) (omega arith))
-
-pub ends_at : {l : List ℕ} {n k : ℕ} → Size l n → n ≤ k → Ends l k
-ends_at s h i g = s.above i (omega arith)
+use Rattle.basis_shape.specs.Lengths.{Units, Shape}
 
 -- lengths are settled
 pub not_ordered : {u mx my nx ny zm zn : List ℕ} {lu lx ly ln lm a b : ℕ} → Size u lu → Size mx lx → Size ny ly → Size nx ln → Size my lm → Size zm a → Size zn b

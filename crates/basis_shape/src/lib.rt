@@ -6,53 +6,22 @@ ghost use Rattle.base_answers.specs.Decides.{Decides};
 ghost use Rattle.basis_shape.specs.Lengths.{Narrow, RowsFitAsks, Units, Shape, ShapeAsks};
 
 use basis_bounds::ordered;
+use basis_record::Seven;
 use poly_rows::size;
 
-// Whether m1 and n1 end before kb, and m2 and n2 before kc.
-pub fn rows_fit(
-    kb: usize,
-    kc: usize,
-    m1: &[u64; 32],
-    m2: &[u64; 32],
-    n1: &[u64; 32],
-    n2: &[u64; 32],
-) -> bool
-    requires { RowsFitAsks m1.now m2.now n1.now n2.now }
-    ensures { Decides result (Narrow kb kc m1.now m2.now n1.now n2.now) }
+// Whether M1 and N1 end before kb, and M2 and N2 before kc.
+pub fn rows_fit(kb: usize, kc: usize, rows: &Seven) -> bool
+    requires { RowsFitAsks rows.now.m1 rows.now.m2 rows.now.n1 rows.now.n2 }
+    ensures { Decides result (Narrow kb kc rows.now.m1 rows.now.m2 rows.now.n1 rows.now.n2) }
 {
-    let a = size(m1);
-    let b = size(m2);
-    let c = size(n1);
-    let d = size(n2);
-    if kb < a {
-        return false;
-    }
-    if kc < b {
-        return false;
-    }
-    if kb < c {
-        return false;
-    }
-    if kc < d {
-        return false;
-    }
-    true
+    size(&rows.m1) <= kb && size(&rows.m2) <= kc && size(&rows.n1) <= kb && size(&rows.n2) <= kc
 }
 
 // The leading coefficients of a scaled basis.
 fn units(u: u64, x: u64, y: u64) -> bool
     ensures { Decides result (Units u x y) }
 {
-    if u != 1 {
-        return false;
-    }
-    if x != 2 {
-        return false;
-    }
-    if y != 1 {
-        return false;
-    }
-    true
+    u == 1 && x == 2 && y == 1
 }
 
 // Lengths and leading coefficients of U and of the polynomial parts of X(M), Y(M), X(N), Y(N), Z(M), Z(N).
@@ -75,10 +44,5 @@ pub fn shape(
     let lm = size(my);
     let a = size(zm);
     let b = size(zn);
-    let ok = ordered(lu, lx, ly, ln, lm, a, b);
-    if ok {
-        units(u[lu - 1], mx[lx - 1], ny[ly - 1])
-    } else {
-        false
-    }
+    ordered(lu, lx, ly, ln, lm, a, b) && units(u[lu - 1], mx[lx - 1], ny[ly - 1])
 }

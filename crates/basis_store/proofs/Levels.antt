@@ -7,15 +7,12 @@ use Prim.Native.Nat as N
 use native.Mathlib.Nat.{mod-eq_of_lt}
 use native.Mathlib.Omega.{arith}
 use lib.ListN.{get_or}
-use Rattle.math_ring.specs.Ring.{Ops, CRing}
 use Rattle.math_ring.proofs.Solve.{var, one, minus, ◌:+◌, ◌:*◌, hyp, solve_by}
 use Rattle.math_fp.specs.Fp.{Prime}
-use Rattle.math_valued.specs.Val.{Valued}
 use Rattle.math_valued.specs.Degree.{Has, Lt}
 use Rattle.math_valued.proofs.Degree.{lt_eq, lt_neg, lt_up}
 use Rattle.num_mod.specs.declared.Modulus.{Modulus}
 use Rattle.num_mod.proofs.Prepared.{bare}
-use Rattle.math_rows.specs.Reading.{Reading}
 use Rattle.math_rows.specs.Made.{reading}
 use Rattle.math_rows.specs.Row.{row, shift_at, tpow}
 use Rattle.math_rows.proofs.Rows.{row_poly, size_has_at}
@@ -24,7 +21,7 @@ use Rattle.poly_rows.specs.Division.{DivisionAsks, Quotient}
 use Rattle.poly_rows.proofs.Leaf.{size_unique}
 use Rattle.poly_lent.specs.Sized.{Mixed}
 use Rattle.basis_parts.specs.Frame.{Short}
-use Rattle.basis_store.specs.Levels.{RowZeroAsks, Leveled, Monic}
+use Rattle.basis_store.specs.Levels.{RowZeroAsks, Leveled}
 use Rattle.basis_store.proofs.Two.{half}
 use Rattle.poly_rows.proofs.Lengths.{row_short}
 

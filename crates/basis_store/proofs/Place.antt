@@ -10,26 +10,24 @@ use lib.ListN.{length, get_or, replicate, length-append, get_or-append}
 use lib.Seq.{ext_get_or, get_or-append-add}
 use Rattle.math_ring.proofs.Solve.{var, minus, ◌:+◌, solve}
 use Rattle.math_fp.specs.Fp.{Prime}
-use Rattle.math_valued.specs.Val.{Valued}
-use Rattle.math_valued.specs.Degree.{Lt}
-use Rattle.math_valued.proofs.Degree.{lt_eq, above}
+use Rattle.math_valued.proofs.Degree.{lt_eq}
 use Rattle.num_mod.specs.declared.Modulus.{Modulus}
 use Rattle.math_rows.specs.Reading.{Reading}
 use Rattle.math_rows.specs.Made.{reading}
 use Rattle.math_rows.specs.Row.{Size, row}
 use Rattle.math_rows.proofs.Tab.{length_tab, at_tab, zeros_at}
 use Rattle.poly_rows.specs.Leaf.{Cut}
-use Rattle.poly_cross.specs.Cross.{ScaleInAsks, ScaleInGives}
-use Rattle.poly_rows.proofs.Lengths.{size_below, short_up, short_cut, scaled_short}
+use Rattle.poly_cross.specs.Cross.{ScaleInGives}
+use Rattle.poly_rows.proofs.Lengths.{size_below, short_cut, scaled_short}
 use Rattle.poly_lent.specs.Sized.{BothInAsks, BothInGives}
 use Rattle.poly_lent.proofs.Mixing.{size_cut}
 use Rattle.basis_record.specs.Record.{part}
 use Rattle.basis_parts.specs.Frame.{Short}
 use Rattle.basis_record.specs.Store.{StoredAsks, Stored}
-use Rattle.basis_store.specs.Levels.{RowZeroAsks, Leveled}
+use Rattle.basis_store.specs.Levels.{Leveled}
 use Rattle.basis_store.specs.Place.{StoreElementAsks, padded, Placed, FilledAsks}
 use Rattle.basis_store.specs.declared.Factors.{Factors}
-use Rattle.basis_record.proofs.Store.{stored_part, stored_other, stored_blank, stored_each}
+use Rattle.basis_record.proofs.Store.{stored_part, stored_other, stored_each}
 
 -- a row that was stored is the record's, padded
 pub stored_padded : {B : List ℕ} {i : ℕ} {a B' : List ℕ} {p n : ℕ} → Stored B i a B' → Short p a n → n ≤ 17 → a ≡ padded i B'
@@ -45,9 +43,6 @@ stored_padded {B} {i} {a} {B'} {n = n} h s f = ext_get_or 0 a (padded i B') (s.i
         s.above j (let f : n ≤ 17 = f in omega arith) ∙ sym (ap (λ n. get_or (padded i B') n 0) (sym e) ∙ get_or-append-add (part i B') (replicate 15 0) (j - 17) 0 ∙ zeros_at 15 (j - 17))
 
 module _ {M : Modulus} {i top s : ℕ} {b c x x1 : List ℕ} {n1 : ℕ} {y1 : List ℕ} {n2 : ℕ} {u : List ℕ} {lu : ℕ} {B : List ℕ} (g : StoreElementAsks M i top s b c x x1 n1 y1 n2 u lu B) where
-  pub place_scale : {l : List ℕ} {n : ℕ} → Short M.p l n → n ≤ top → ScaleInAsks M s l top
-  place_scale h w = let f : top ≤ 17 = g.inp.fits in record { modulus = g.inp.modulus; prime = g.inp.prime; hc = g.inp.hs; hx = short_up h w; fits = omega arith }
-
   pub place_cut : {l : List ℕ} → Short M.p l top → Cut l top
   place_cut h = let f : top ≤ 17 = g.inp.fits in short_cut h (omega arith)
 
@@ -80,44 +75,9 @@ module _ {M : Modulus} {i top s : ℕ} {b c x x1 : List ℕ} {n1 : ℕ} {y1 : Li
 
     -- k = s x + s b x1 + s c y1
     module _ {k : List ℕ} {l : ℕ} (ek : BothInGives M.p false mb x1 false mc y1 t k l) where
-      pub place_level : RowZeroAsks M u lu k l t top
-      place_level = let f : top ≤ 17 = g.inp.fits in record {
-        modulus = g.inp.modulus;
-        prime = g.inp.prime;
-        odd = g.inp.odd;
-        monic = g.inp.monic;
-        hk = ek.is_row;
-        sk = ek.size;
-        hx = st.short;
-        low = g.inp.low_u;
-        fits = omega arith;
-      }
-
       module _ {a : List ℕ} (la : Leveled M.p u k t top a) where
-        store : {A l : List ℕ} (j : ℕ) → j < 7 → length A ≡ 119 → ((m : ℕ) → 17 * j ≤ m → get_or A m 0 ≡ 0) → Short M.p l top → StoredAsks A j l top
-        store {l = l} j w e z h = record {
-          size = e;
-          blank = z;
-          row = w;
-          each = λ m. let q : get_or l m 0 < M.p = h.is_row.each m in let w : M.p ≤ 65535 = g.inp.small in omega arith;
-          fits = g.inp.fits;
-          above = h.above;
-        }
-
-        pub place_0 : StoredAsks B i a top
-        place_0 = let w : i + 2 < 7 = g.at in store i (omega arith) g.size g.blank la.short
-
         module _ {B₀ : List ℕ} (s₀ : Stored B i a B₀) where
-          blank_1 : (m : ℕ) → 17 * (i + 1) ≤ m → get_or B₀ m 0 ≡ 0
-          blank_1 = stored_blank B i a B₀ s₀ g.blank
-
-          pub place_1 : StoredAsks B₀ (i + 1) mb top
-          place_1 = let w : i + 2 < 7 = g.at in store (i + 1) (omega arith) s₀.size blank_1 sb.short
-
           module _ {B₁ : List ℕ} (s₁ : Stored B₀ (i + 1) mb B₁) where
-            pub place_2 : StoredAsks B₁ (i + 2) mc top
-            place_2 = store (i + 2) g.at s₁.size (λ m l. stored_blank B₀ (i + 1) mb B₁ s₁ blank_1 m (omega arith)) sc.short
-
             module _ {B₂ : List ℕ} (s₂ : Stored B₁ (i + 2) mc B₂) where
               is_a : (ρ : Reading M.p) → row ρ (part i B₂) ≡ row ρ a
               is_a ρ = ap (row ρ) (stored_other B₁ (i + 2) mc B₂ s₂ i (inl (omega arith)) ∙ stored_other B₀ (i + 1) mb B₁ s₁ i (inl (omega arith))) ∙ stored_part B i a B₀ s₀ (λ j l. let f : top ≤ 17 = g.inp.fits in la.short.above j (omega arith)) ρ

@@ -1,14 +1,12 @@
 -- One inversion for three: with i = 1/(abc), j = i c is 1/(ab), so j b = 1/a, 2 j a = 2/b and i ab = 1/c.
 use mathlib.Core.Path.{◌≡◌, sym, ap, ap₂, ◌∙◌}
-use mathlib.Core.List.{List, [], ◌∷◌}
+use mathlib.Core.List.{[], ◌∷◌}
 use Prim.Native.Nat.{ℕ, ◌<◌, ◌%◌}
 use Prim.Native.Nat as N
 use native.Mathlib.Nat.{mod-lt}
 use native.Mathlib.Omega.{arith}
-use Rattle.math_ring.specs.Ring.{Ops, CRing}
 use Rattle.math_ring.proofs.Solve.{var, one, ◌:+◌, ◌:*◌, solve}
 use Rattle.math_fp.specs.Fp.{Prime}
-use Rattle.math_valued.specs.Val.{Valued}
 use Rattle.num_mod.specs.Residue.{IsModulus}
 use Rattle.num_power.specs.Powers.{Nonzero, Inverse}
 use Rattle.math_rows.specs.Made.{reading}
@@ -16,7 +14,6 @@ use Rattle.math_rows.proofs.Numbers.{cast_product, product_some}
 use Rattle.basis_parts.proofs.Leaves.{less_square}
 use Rattle.basis_store.specs.Scales.{FactorsOfAsks, Scaling}
 use Rattle.basis_store.proofs.Two.{cast_two}
-use Rattle.basis_store.specs.declared.Factors.{Factors}
 
 module _ {p a b c : ℕ} (g : FactorsOfAsks p a b c) where
   pos : 0 < p

@@ -5,7 +5,6 @@ use Prim.Native.Nat as N
 use native.Mathlib.Nat.{mod_self}
 use native.Mathlib.Omega.{arith}
 use Rattle.math_ring.proofs.Laws as r
-use Rattle.math_ring.specs.Ring.{CRing}
 use Rattle.math_rows.specs.Reading.{Reading}
 
 module _ {p : ℕ} (ρ : Reading p) where

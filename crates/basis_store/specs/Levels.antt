@@ -2,12 +2,8 @@
 --   Leveled p u k x top a   2a = x − k modulo u, and 2a − x lies below u; a ends before top. With x the polynomial part of X, and with
 --                           (x − k)/2 the first coordinate of any element of the lattice over b r + c w, that is row 0
 use Rattle.std.specs.Prelude.{◌≡◌, List, ℕ, ◌-◌, ◌%◌, ◌<◌, ◌≤◌, get_or}
-use Rattle.math_ring.specs.Ring.{Ops, CRing}
 use Rattle.math_fp.specs.Fp.{Prime}
-use Rattle.math_valued.specs.Val.{Valued}
 use Rattle.math_valued.specs.Degree.{Has, Lt}
-use Rattle.num_mod.specs.Residue.{IsModulus}
-use Rattle.math_rows.specs.Reading.{Reading}
 use Rattle.math_rows.specs.Made.{reading}
 use Rattle.math_rows.specs.Row.{Row, Size, row}
 use Rattle.num_mod.specs.Prepared.{Prepared}

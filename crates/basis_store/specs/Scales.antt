@@ -1,11 +1,8 @@
 -- The three factors that scale a basis.
 --   Scaling p a b c u m n   u is 1/a, m is 2/b and n is 1/c mod p
 use Rattle.std.specs.Prelude.{◌≡◌, ℕ, ◌<◌}
-use Rattle.math_ring.specs.Ring.{Ops, CRing}
 use Rattle.math_fp.specs.Fp.{Prime}
-use Rattle.math_valued.specs.Val.{Valued}
 use Rattle.num_mod.specs.Residue.{IsModulus}
-use Rattle.math_rows.specs.Reading.{Reading}
 use Rattle.math_rows.specs.Made.{reading}
 use Rattle.basis_store.specs.declared.Factors.{Factors}
 

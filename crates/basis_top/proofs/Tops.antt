@@ -1,6 +1,6 @@
 -- The leading term of b r ± c w, found from above.
 --   part_lt                  the size ends before top
---   seek_start, seek_more, seek_found, seek_end    the loop of `top_of`: the size ends before j
+--   seek_more, seek_found    the loop of `top_of`: the size ends before j
 --   topped_up, topped_not, topped_has, topped_le, topped_most    what a top says of the size
 --   part_top, top_led        from a polynomial part to its top, and from a top to the leading coefficient
 use mathlib.Core.Path.{◌≡◌, refl, sym, ap, ◌∙◌, subst}
@@ -12,7 +12,6 @@ use Prim.Native.Nat as N
 use native.Mathlib.Omega.{arith}
 use native.Mathlib.Decide.{dec_lt}
 use lib.ListN.{get_or}
-use Rattle.math_ring.specs.Ring.{CRing}
 use Rattle.math_ring.proofs.Solve.{var, zer, minus, ◌:+◌, ◌:*◌, solve}
 use Rattle.math_valued.specs.Degree.{Lt}
 use Rattle.math_valued.proofs.Degree.{lead_eq, lt_eq, lt_up, lt_add, lt_neg, above, same}
@@ -75,9 +74,6 @@ pub record Seek (F : Frame) (e : Bool) (b c : List ℕ) (low l j : ℕ) : Type 0
   pub ends : (μ : Meaning F) → Ltμ μ (side μ e (pt μ b c)) j
 
 module _ {F : Frame} {e : Bool} {b c : List ℕ} {top l low : ℕ} (g : TopOfAsks F e b c top l low) where
-  pub seek_start : Seek F e b c low l l
-  seek_start = record { from = g.room; upto = omega arith; ends = g.ends }
-
   module _ (j v : ℕ) (past : low < j) (h : Seek F e b c low l j) (d : PartAt F e b c top (j - 1) v) where
     seek_lead : (μ : Meaning F) → (rd μ).𝓥.Lead (side μ e (pt μ b c)) (j - 1) 0 ((rd μ).cast v)
     seek_lead μ =
@@ -88,13 +84,12 @@ module _ {F : Frame} {e : Bool} {b c : List ℕ} {top l low : ℕ} (g : TopOfAsk
     pub seek_more : v ≡ 0 → Seek F e b c low l (j - 1)
     seek_more z = let u : j ≤ l = h.upto in record { from = omega arith; upto = omega arith; ends = λ μ. lead_eq (rd μ).𝓥 (seek_lead μ) refl (ap (rd μ).cast z ∙ (rd μ).cast_zero) }
 
-    pub seek_found : 0 < v → Topped F e b c low l (record { n = j; c = v })
-    seek_found z = record { from = h.from; upto = h.upto; below = d.below; ends = h.ends; none = λ q. absurd (omega arith); some = λ u. z; lead = λ u. seek_lead }
-
-  pub seek_end : (j : ℕ) → j ≤ low → Seek F e b c low l j → Topped F e b c low l (record { n = low; c = 0 })
-  seek_end j u h =
-      let k : 1 < F.m.p = g.inp.fine.modulus.big in
-      record { from = omega arith; upto = g.room; below = omega arith; ends = λ μ. lt_up (rd μ).𝓥 low (h.ends μ) u; none = λ q. refl; some = λ u. absurd (omega arith); lead = λ u. absurd (omega arith) }
+    -- the index at which the loop finds it is j - 1
+    pub seek_found : 0 < v → Topped F e b c low l (record { n = N.◌+◌ (j - 1) 1; c = v })
+    seek_found z =
+        let k : j ≡ N.◌+◌ (j - 1) 1 = omega arith in
+        subst (λ n. Topped F e b c low l (record { n = n; c = v })) k
+        (record { from = h.from; upto = h.upto; below = d.below; ends = h.ends; none = λ q. absurd (omega arith); some = λ u. z; lead = λ u. seek_lead })
 
 -- ---- what a top says of the size
 module _ {F : Frame} {e : Bool} {b c : List ℕ} {low l : ℕ} {t : Top} (h : Topped F e b c low l t) where

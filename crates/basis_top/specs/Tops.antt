@@ -3,9 +3,7 @@
 --                            true), or low and 0 where it ends at or before low
 --   Led F e b c r            r is the leading coefficient; asked for where there is one (LeadOfAsks)
 use Rattle.std.specs.Prelude.{◌≡◌, Bool, List, ℕ, ◌-◌, ◌<◌, ◌≤◌}
-use Rattle.math_valued.specs.Val.{Valued}
 use Rattle.math_valued.specs.Degree.{Has}
-use Rattle.math_rows.specs.Reading.{Reading}
 use Rattle.basis_parts.specs.Frame.{Frame, Meaning, rd, pt, side, Ltμ}
 use Rattle.basis_parts.specs.Leaves.{PartAsks}
 use Rattle.basis_top.specs.declared.Top.{Top}

@@ -2,59 +2,37 @@
 // contracts.
 #![tactic(auto)]
 
-ghost use Rattle.basis_parts.specs.Given.{given};
 ghost use Rattle.basis_top.specs.Tops.{TopOfAsks, Topped, LeadOfAsks, Led};
 
-use basis_parts::{Bounds, digit};
+use basis_parts::{Element, Frame, digit};
 
-// A length and a leading coefficient
+// A length and a leading coefficient. Where there is none it is the least length and 0, and not None: lengths are compared in either case.
 #[derive(Clone, Copy)]
 pub struct Top {
     pub n: usize,
     pub c: u64,
 }
 
-// The length and the leading coefficient of the polynomial part of b r + c w, or of b r - c w, which ends before l;
-// where it ends at or before low, low and 0.
-pub fn top_of(
-    f: Bounds,
-    minus: bool,
-    b: &[u64; 32],
-    c: &[u64; 32],
-    r: &[u64; 32],
-    w: &[u64; 32],
-    l: usize,
-    low: usize,
-) -> Top
-    requires { TopOfAsks (given f r.now w.now) minus b.now c.now f.top l low }
-    ensures { Topped (given f r.now w.now) minus b.now c.now low l result }
+// The length and the leading coefficient of the polynomial part of X(a), or of Y(a), which ends before l; where it ends at or before low,
+// low and 0.
+pub fn top_of(f: &Frame, top: usize, minus: bool, a: &Element, l: usize, low: usize) -> Top
+    requires { TopOfAsks f.now minus a.now.b a.now.c top l low }
+    ensures { Topped f.now minus a.now.b a.now.c low l result }
 {
-    let p = f.m.p;
-    let q = p * p;
-    let mut j = l;
-    while low < j {
-        let v = digit(f, q, minus, b, c, r, w, j - 1);
-        if 0 < v {
-            return Top { n: j, c: v };
-        } else {
-            j -= 1;
+    let q = f.m.p * f.m.p;
+    for j in (low..l).rev() {
+        let v = digit(f, top, q, minus, &a.b, &a.c, j);
+        if v > 0 {
+            return Top { n: j + 1, c: v };
         }
     }
     Top { n: low, c: 0 }
 }
 
-// The leading coefficient of b r + c w, or of b r - c w, where its degree is not below 0
-pub fn lead_of(
-    f: Bounds,
-    minus: bool,
-    b: &[u64; 32],
-    c: &[u64; 32],
-    r: &[u64; 32],
-    w: &[u64; 32],
-) -> u64
-    requires { LeadOfAsks (given f r.now w.now) minus b.now c.now f.top }
-    ensures { Led (given f r.now w.now) minus b.now c.now result }
+// The leading coefficient of X(a), or of Y(a), where its degree is not below 0
+pub fn lead_of(f: &Frame, top: usize, minus: bool, a: &Element) -> u64
+    requires { LeadOfAsks f.now minus a.now.b a.now.c top }
+    ensures { Led f.now minus a.now.b a.now.c result }
 {
-    let t = top_of(f, minus, b, c, r, w, f.top, 0);
-    t.c
+    top_of(f, top, minus, a, top, 0).c
 }

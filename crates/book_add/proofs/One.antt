@@ -2,49 +2,26 @@
 --   add_unique       what is said, and the slice
 --   added_unique     the answer itself, and the slice
 --   verdict_unique   whether a body may be added
-use mathlib.Core.Path.{◌≡◌, refl, sym, ap, ◌∙◌}
+use mathlib.Core.Path.{◌≡◌, sym, ap, ◌∙◌}
 use mathlib.Core.Logic.{◌⊎◌, inl, inr}
 use mathlib.Core.List.{List}
-use Prim.Native.Nat.{ℕ, zero, suc, ◌-◌, ◌<◌, ◌≤◌}
+use Prim.Native.Nat.{ℕ, ◌<◌, ◌≤◌}
 use native.Mathlib.Omega.{arith}
 use lib.ListN.{length, take}
 use Rattle.base_answers.specs.Said.{Said}
 use Rattle.book_body.specs.Body.{Finished}
 use Rattle.book_check.specs.Book.{Accepted}
-use Rattle.book_check.proofs.One.{tells_unique, body_unique, finished_no, reason, reason_of, reason_unique}
+use Rattle.book_check.proofs.One.{tells_unique, body_unique, finished_no}
+use Rattle.std.specs.declared.result.Result.{Result}
+use Rattle.std.specs.declared.result.Result.TheVariants.{Ok, Err}
+use Rattle.base_answers.specs.declared.Fault.{Fault}
 use Rattle.book_judge.specs.declared.Reason.{Reason}
-use Rattle.book_judge.specs.declared.Reason.TheVariants.{Mark, Contents, BodyRule, Field, Twice}
+use Rattle.book_judge.specs.declared.BookRefusal.{BookRefusal}
+use Rattle.book_judge.specs.declared.BookRefusal.TheVariants.{Malformed, Other}
+use Rattle.book_judge.proofs.Says.{reason_unique, length_unique}
 use Rattle.book_may.specs.May.{VerdictTells}
-use Rattle.book_add.specs.declared.Added.{Added}
-use Rattle.book_add.specs.declared.Added.TheVariants.{Length, LengthOut, Refused, Known, Short}
-use Rattle.book_may.specs.declared.Verdict.{Verdict}
-use Rattle.book_may.specs.declared.Verdict.TheVariants.{May, No, Has}
 use Rattle.book_put.specs.Code.{new_length}
 use Rattle.book_add.specs.Add.{added_says, AddTells, length_out, book, body, known, short, added}
-
--- ---- the code's answer out of the numbers: 0, 11, 13, 14 and 15
-abbrev answer : ℕ → ℕ → Reason → Added
-answer zero n why = Length n
-answer (suc zero) n why = Short
-answer (suc (suc zero)) n why = Short
-answer (suc (suc (suc zero))) n why = Refused why
-answer (suc (suc (suc (suc zero)))) n why = LengthOut
-answer (suc (suc (suc (suc (suc k))))) n why = Known
-
-abbrev added_said : Said → Added
-added_said x = answer (x.number - 10) x.result (reason_of x)
-
-added_back : (r : Added) → added_said (added_says r) ≡ r
-unfolding reason
-added_back (Length m) = refl
-added_back LengthOut = refl
-added_back (Refused Mark) = refl
-added_back (Refused Contents) = refl
-added_back (Refused (BodyRule i)) = refl
-added_back (Refused (Field i n)) = refl
-added_back (Refused (Twice i j)) = refl
-added_back Known = refl
-added_back Short = refl
 
 module _ (d : List ℕ) (n : ℕ) (b : List ℕ) where
   no_room : (length d < new_length n b) ⊎ (65536 < new_length n b) → new_length n b ≤ length d → new_length n b ≤ 65536 → ⊥
@@ -89,33 +66,32 @@ module _ (d : List ℕ) (n : ℕ) (b : List ℕ) where
   add_unique (added h f i w z c p q) (short k a g l r u v) = absurd (no_room r z c)
   add_unique (added h f i w z c p q) (added k a g l r m u v) = (p ∙ sym u, q ∙ sym v)
 
-  pub added_unique : (r q : Added) {e f : List ℕ} → AddTells d n b (added_says r) e → AddTells d n b (added_says q) f → (r ≡ q) × (e ≡ f)
-  added_unique r q t u = let w = add_unique t u in (sym (added_back r) ∙ ap added_said w.0 ∙ added_back q, w.1)
+  pub added_unique : (r q : Result ℕ BookRefusal) {e f : List ℕ} → AddTells d n b (added_says r) e → AddTells d n b (added_says q) f → (r ≡ q) × (e ≡ f)
+  added_unique r q t u = let w = add_unique t u in (length_unique r q w.0, w.1)
 
 -- ---- whether a body may be added
 module _ (s b : List ℕ) where
-  -- May and Has
-  apart : {c : ℕ} → VerdictTells s b (May c) → VerdictTells s b Has → ⊥
-  apart t u = t.3 u.2.0 u.2.1 u.2.2
+  apart : {c : ℕ} {k : Fault} → VerdictTells s b (Ok c) → VerdictTells s b (Err (Other k)) → ⊥
+  apart t u = t.3 u.3.0 u.3.1 u.3.2
 
-  -- No and the other two
-  refused : (why : Reason) → VerdictTells s b (No why) → Accepted s → Finished b → ⊥
+  -- a reason, and no reason
+  refused : (why : Reason) → VerdictTells s b (Err (Malformed why)) → Accepted s → Finished b → ⊥
   refused why (inl w) a f = w.0 a
   refused why (inr w) a f = finished_no f w.1
 
-  why_unique : (why wer : Reason) → VerdictTells s b (No why) → VerdictTells s b (No wer) → why ≡ wer
+  why_unique : (why wer : Reason) → VerdictTells s b (Err (Malformed why)) → VerdictTells s b (Err (Malformed wer)) → why ≡ wer
   why_unique why wer (inl w) (inl z) = reason_unique why wer (tells_unique s w.1 z.1)
   why_unique why wer (inl w) (inr z) = absurd (w.0 z.0)
   why_unique why wer (inr w) (inl z) = absurd (z.0 w.0)
   why_unique why wer (inr w) (inr z) = reason_unique why wer (body_unique w.1 z.1)
 
-  pub verdict_unique : (r q : Verdict) → VerdictTells s b r → VerdictTells s b q → r ≡ q
-  verdict_unique (May c) (May k) t u = ap May (t.0 ∙ sym u.0)
-  verdict_unique (May c) (No why) t u = absurd (refused why u t.1 t.2)
-  verdict_unique (May c) Has t u = absurd (apart t u)
-  verdict_unique (No why) (May k) t u = absurd (refused why t u.1 u.2)
-  verdict_unique (No why) (No wer) t u = ap No (why_unique why wer t u)
-  verdict_unique (No why) Has t u = absurd (refused why t u.0 u.1)
-  verdict_unique Has (May k) t u = absurd (apart u t)
-  verdict_unique Has (No why) t u = absurd (refused why u t.0 t.1)
-  verdict_unique Has Has t u = refl
+  pub verdict_unique : (r q : Result ℕ BookRefusal) → VerdictTells s b r → VerdictTells s b q → r ≡ q
+  verdict_unique (Ok c) (Ok k) t u = ap Ok (t.0 ∙ sym u.0)
+  verdict_unique (Ok c) (Err (Malformed why)) t u = absurd (refused why u t.1 t.2)
+  verdict_unique (Ok c) (Err (Other k)) t u = absurd (apart {k = k} t u)
+  verdict_unique (Err (Malformed why)) (Ok k) t u = absurd (refused why t u.1 u.2)
+  verdict_unique (Err (Malformed why)) (Err (Malformed wer)) t u = ap (λ w. Err (Malformed w)) (why_unique why wer t u)
+  verdict_unique (Err (Malformed why)) (Err (Other k)) t u = absurd (refused why t u.1 u.2)
+  verdict_unique (Err (Other j)) (Ok k) t u = absurd (apart {k = j} u t)
+  verdict_unique (Err (Other j)) (Err (Malformed why)) t u = absurd (refused why u t.1 t.2)
+  verdict_unique (Err (Other j)) (Err (Other k)) t u = ap (λ w. Err (Other w)) (t.0 ∙ sym u.0)

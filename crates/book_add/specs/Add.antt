@@ -1,32 +1,28 @@
 -- Adding a finished body to a book that stands in a lent slice.
 --   new_book s b         the book s with the body b last
---   added_says r         what the answer says in document 01's numbers
+--   added_says r         what the answer says in document 01's numbers: the new length, or the refusal
 --   AddTells d n b x d' adding b to the book of length n in the slice d, which is d' then, says x: 14 when the length exceeds the
 --                       slice; 13 for the book; 13 for the body, with the old count as its entry; 15; 11 when there is too little room
 --                       in the slice or in 65,536 bytes; else the new length, and only the book's new extent is changed
 -- `new_length` is of crate book_put, `Unlisted` of crate book_may.
 -- That x and d', and the answer itself, are settled by d, n and b is `add_unique` and `added_unique`, in proofs/One.antt; that after 0 the
 -- new book is accepted and says the old bodies and the new one is `added_accepted`, in proofs/Accepted.antt.
-use Rattle.std.specs.Prelude.{◌≡◌, ◌⊎◌, List, [], ◌∷◌, ◌++◌, ℕ, ◌<◌, ◌≤◌, length, take, drop}
+use Rattle.std.specs.Prelude.{◌≡◌, ◌⊎◌, List, [], ◌∷◌, ◌++◌, ℕ, ◌<◌, ◌≤◌, length, take, drop, Result}
 use Rattle.base_answers.specs.Said.{Said, passed, refused}
 use Rattle.book_body.specs.Body.{OneField, body_of, Finished}
 use Rattle.book_check.specs.Book.{count, entry, Accepted}
 use Rattle.book_check.specs.Value.{bytes_of_book, value_of}
-use Rattle.book_check.specs.Answer.{reason_says, BodyFault, Tells}
+use Rattle.book_check.specs.Answer.{BodyFault, Tells}
+use Rattle.book_judge.specs.Reasons.{length_says}
+use Rattle.book_judge.specs.declared.BookRefusal.{BookRefusal}
 use Rattle.book_may.specs.May.{Unlisted}
 use Rattle.book_put.specs.Code.{new_length}
-use Rattle.book_add.specs.declared.Added.{Added}
-use Rattle.book_add.specs.declared.Added.TheVariants.{Length, LengthOut, Refused, Known, Short}
 
 abbrev pub new_book : List ℕ → List ℕ → List ℕ
 new_book s b = bytes_of_book (value_of s ++ (body_of b ∷ []))
 
-abbrev pub added_says : Added → Said
-added_says (Length m) = passed m
-added_says LengthOut = refused 14
-added_says (Refused why) = reason_says why
-added_says Known = refused 15
-added_says Short = refused 11
+abbrev pub added_says : Result ℕ BookRefusal → Said
+added_says = length_says
 
 module _ (d : List ℕ) (n : ℕ) (b : List ℕ) where
   pub data AddTells (x : Said) (d' : List ℕ) : Type 0 where

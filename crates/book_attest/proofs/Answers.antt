@@ -1,20 +1,21 @@
 -- From the answer to asking for an entry, and from its body, to the answer to attesting it.
 use mathlib.Core.Path.{◌≡◌, refl, sym, subst}
+use mathlib.Core.Logic.{◌≢◌}
+use mathlib.Core.Bool.{Bool, true, false}
 use mathlib.Core.List.{List}
 use Prim.Native.Nat.{ℕ, ◌<◌}
-use native.Mathlib.Omega.{arith}
-use Rattle.base_answers.specs.Said.{Said, passed, refused}
+use Rattle.base_answers.specs.Said.{Said, passed}
+use Rattle.base_answers.specs.Decides.{Decides}
 use Rattle.base_answers.proofs.Said.{number_of}
+use Rattle.std.specs.declared.result.Result.TheVariants.{Ok}
 use Rattle.book_body.specs.Body.{body_of, Finished}
 use Rattle.book_check.specs.Book.{count, part, Accepted}
 use Rattle.book_check.specs.Answer as asking
-use Rattle.book_check.specs.Answer.{reason_says, request_says, Tells, AskTells}
-use Rattle.book_check.proofs.Facts.{thirteen, fault_thirteen}
-use Rattle.book_judge.specs.declared.Reason.{Reason}
-use Rattle.book_check.specs.declared.Request.{Request}
-use Rattle.book_check.specs.declared.Request.TheVariants as asked
+use Rattle.book_check.specs.Answer.{refusal_says, AskTells}
+use Rattle.book_judge.specs.declared.BookRefusal.{BookRefusal}
+use Rattle.book_judge.proofs.Says.{refusal_number}
 use Rattle.book_norm.specs.Attested.{Attested}
-use Rattle.book_attest.specs.Attest.{AttestTells, book, no_entry, yes, no}
+use Rattle.book_attest.specs.Attest.{attest_says, AttestTells, book, no_entry, yes, no}
 
 module _ (s : List ℕ) (i : ℕ) where
   pub finished_part : (b : List ℕ) → b ≡ part s i → Accepted s × (i < count s) → Finished b
@@ -26,25 +27,15 @@ module _ (s : List ℕ) (i : ℕ) where
   pub attest_no : (b : List ℕ) → b ≡ part s i → Accepted s × (i < count s) → (Attested (body_of b) → ⊥) → AttestTells s i (passed 0)
   attest_no b e w f = no w.0 w.1 (λ a. f (subst (λ (z : List ℕ). Attested (body_of z)) (sym e) a)) refl
 
-  -- a book that is refused is refused with 13
-  book_thirteen : {x : Said} → (Accepted s → ⊥) → Tells s x → x.number ≡ 13
-  book_thirteen f (asking.mark g e) = number_of e
-  book_thirteen f (asking.contents m g e) = number_of e
-  book_thirteen f (asking.at_entry m l j h g t) = fault_thirteen t
-  book_thirteen f (asking.fine a e) = absurd (f a)
+  -- what is refused when an entry is asked for is refused when it is attested
+  from_asked : {x : Said} → AskTells s i x → x.number ≢ 0 → AttestTells s i x
+  from_asked (asking.book f t) n = book f t
+  from_asked (asking.no_entry a h e) n = no_entry a h e
+  from_asked (asking.there a h e) n = absurd (n (number_of e))
 
-  from_thirteen : {x : Said} → AskTells s i x → x.number ≡ 13 → AttestTells s i x
-  from_thirteen (asking.book f t) n = book f t
-  from_thirteen (asking.no_entry a h e) n = let m = number_of e in absurd (omega arith)
-  from_thirteen (asking.there a h e) n = let m = number_of e in absurd (omega arith)
+  pub attest_refused : (r : BookRefusal) → AskTells s i (refusal_says r) → AttestTells s i (refusal_says r)
+  attest_refused r t = from_asked t (refusal_number r)
 
-  from_fourteen : {x : Said} → AskTells s i x → x.number ≡ 14 → AttestTells s i x
-  from_fourteen (asking.book f t) n = let m = book_thirteen f t in absurd (omega arith)
-  from_fourteen (asking.no_entry a h e) n = no_entry a h e
-  from_fourteen (asking.there a h e) n = let m = number_of e in absurd (omega arith)
-
-  pub attest_refused : (r : Request) (why : Reason) → r ≡ asked.Refused why → AskTells s i (request_says r) → AttestTells s i (reason_says why)
-  attest_refused r why e t = from_thirteen (subst (λ (z : Request). AskTells s i (request_says z)) e t) (thirteen why)
-
-  pub attest_none : (r : Request) → r ≡ asked.NoEntry → AskTells s i (request_says r) → AttestTells s i (refused 14)
-  attest_none r e t = from_fourteen (subst (λ (z : Request). AskTells s i (request_says z)) e t) refl
+  pub attested : {b : List ℕ} (r : Bool) → b ≡ part s i → Accepted s × (i < count s) → Decides r (Attested (body_of b)) → AttestTells s i (attest_says (Ok r))
+  attested {b} true e w d = attest_yes b e w (d.yes! refl)
+  attested {b} false e w d = attest_no b e w (d.no! refl)

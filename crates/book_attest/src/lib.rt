@@ -3,27 +3,12 @@
 
 ghost use Rattle.book_attest.specs.Attest.{attest_says, AttestTells};
 
-// The answer to attesting an entry: yes or no; 13 with the reason; 14.
-#[derive(Clone, Copy)]
-pub enum Attestation {
-    Yes,
-    No,
-    Refused(book_judge::Reason),
-    NoEntry,
-}
+use book_judge::BookRefusal;
 
-// Attests entry i of a book.
-pub fn attest(s: &[u8], i: usize) -> Attestation
+// Attests entry i of a book: yes or no; 13 with the reason; 14.
+pub fn attest(s: &[u8], i: usize) -> Result<bool, BookRefusal>
     ensures { AttestTells s.now i (attest_says result) }
 {
-    let a = book_check::ask_answer(s, i);
-    match a {
-        book_check::Request::There => {
-            let b = book_contents::entry_bytes(s, i);
-            let u = book_norm::constant_norm(b);
-            if u { Attestation::Yes } else { Attestation::No }
-        }
-        book_check::Request::Refused(why) => Attestation::Refused(why),
-        book_check::Request::NoEntry => Attestation::NoEntry,
-    }
+    book_check::ask_answer(s, i)?;
+    Ok(book_norm::constant_norm(book_contents::entry_bytes(s, i)))
 }

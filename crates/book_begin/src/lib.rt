@@ -10,7 +10,6 @@ pub fn begin(out: &mut [u8]) -> [u64; 5]
     if out.len() < 6 {
         return [11, 0, 0, 0, 0];
     }
-    let empty: [u8; 6] = [80, 67, 70, 49, 0, 0];
-    let n = book_bytes::copy_in(out, 0, &empty);
+    let n = book_bytes::copy_in(out, 0, b"PCF1\0\0");
     [0, 0, 0, 0, n as u64]
 }

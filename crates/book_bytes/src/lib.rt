@@ -44,11 +44,8 @@ pub fn start(s: &[u8], head: usize, from: usize, k: usize) -> usize
     ensures { (result ≡ list_start head from s.now k) × (result < 2000000) }
 {
     let mut at = head;
-    let mut i: usize = 0;
-    while i < k {
-        let n = two(s, from + 2 * i);
-        at += 2 * n;
-        i += 1;
+    for i in 0..k {
+        at += 2 * two(s, from + 2 * i);
     }
     at
 }
@@ -58,11 +55,8 @@ pub fn item(s: &[u8], head: usize, from: usize, k: usize, i: usize) -> u64
     requires { (head < 1000) × (from < 1000) × (k < 8) }
     ensures { result ≡ get_or (list_at head from s.now k) i 0 }
 {
-    let n = two(s, from + 2 * k);
-    if i < n {
-        let at = start(s, head, from, k);
-        let v = two(s, at + 2 * i);
-        v as u64
+    if i < two(s, from + 2 * k) {
+        two(s, start(s, head, from, k) + 2 * i) as u64
     } else {
         0
     }
@@ -75,13 +69,10 @@ pub fn read_list(s: &[u8], head: usize, from: usize, k: usize, out: &mut [u64]) 
 {
     let n = two(s, from + 2 * k);
     let at = start(s, head, from, k);
-    let mut i: usize = 0;
-    while i < n {
-        let v = two(s, at + 2 * i);
-        out[i] = v as u64;
-        i += 1;
+    for i in 0..n {
+        out[i] = two(s, at + 2 * i) as u64;
     }
-    i
+    n
 }
 
 // v in 2 bytes at `at`; the place after them.
@@ -89,9 +80,7 @@ pub fn put_two(out: &mut [u8], at: usize, v: u64) -> usize
     requires { (at + 2 ≤ length out.old) × (v < 65536) }
     ensures { Written out.old at (le 2 v) 2 result out.new }
 {
-    out[at] = (v % 256) as u8;
-    out[at + 1] = (v / 256 % 256) as u8;
-    at + 2
+    copy_in(out, at, &(v as u16).to_le_bytes())
 }
 
 // v in 4 bytes at `at`; the place after them.
@@ -99,11 +88,7 @@ pub fn put_four(out: &mut [u8], at: usize, v: u64) -> usize
     requires { (at + 4 ≤ length out.old) × (v < 4294967296) }
     ensures { Written out.old at (le 4 v) 4 result out.new }
 {
-    out[at] = (v % 256) as u8;
-    out[at + 1] = (v / 256 % 256) as u8;
-    out[at + 2] = (v / 256 / 256 % 256) as u8;
-    out[at + 3] = (v / 256 / 256 / 256 % 256) as u8;
-    at + 4
+    copy_in(out, at, &(v as u32).to_le_bytes())
 }
 
 // A list, 2 bytes a number, at `at`; the place after it.
@@ -112,12 +97,8 @@ pub fn put_list(out: &mut [u8], at: usize, l: &[u64]) -> usize
     ensures { Written out.old at (words l.now) (2 * length l.now) result out.new }
 {
     let mut o = at;
-    let mut i: usize = 0;
-    while i < l.len() {
-        let v = l[i];
-        let next = put_two(out, o, v);
-        o = next;
-        i += 1;
+    for v in l {
+        o = put_two(out, o, *v);
     }
     o
 }
@@ -127,15 +108,9 @@ pub fn copy_in(out: &mut [u8], at: usize, s: &[u8]) -> usize
     requires { at + length s.now ≤ length out.old }
     ensures { Written out.old at s.now (length s.now) result out.new }
 {
-    let mut o = at;
-    let mut i: usize = 0;
-    while i < s.len() {
-        let v = s[i];
-        out[o] = v;
-        o += 1;
-        i += 1;
-    }
-    o
+    let end = at + s.len();
+    out[at..end].copy_from_slice(s);
+    end
 }
 
 // The bytes from `from` to `to`, moved up by `by`; the place after them.
@@ -143,11 +118,6 @@ pub fn lift(out: &mut [u8], from: usize, to: usize, by: usize) -> usize
     requires { (from ≤ to) × (to + by ≤ length out.old) }
     ensures { Written out.old (from + by) (take (to - from) (drop from out.old)) (to - from) result out.new }
 {
-    let mut i = to;
-    while i > from {
-        let v = out[i - 1];
-        out[i - 1 + by] = v;
-        i -= 1;
-    }
+    out.copy_within(from..to, from + by);
     to + by
 }

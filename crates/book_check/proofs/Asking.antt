@@ -1,5 +1,5 @@
 -- From the check's answer to the answer of asking for an entry, and from that to the part that is handed out.
-use mathlib.Core.Path.{◌≡◌, refl, subst}
+use mathlib.Core.Path.{◌≡◌, refl}
 use mathlib.Core.List.{List, []}
 use Prim.Native.Nat.{ℕ, ◌<◌}
 use native.Mathlib.Omega.{arith}
@@ -10,18 +10,14 @@ use Rattle.book_check.specs.Answer.{reason_says, answer_says, request_says, Tell
 use Rattle.book_contents.specs.Contents.{Ready}
 use Rattle.book_check.proofs.Facts.{told_fine, thirteen}
 use Rattle.book_check.proofs.One.{accepted_fine}
+use Rattle.std.specs.declared.result.Result.TheVariants.{Ok, Err}
 use Rattle.book_judge.specs.declared.Reason.{Reason}
-use Rattle.book_check.specs.declared.Answer.{Answer}
-use Rattle.book_check.specs.declared.Answer.TheVariants.{Yes, Refused}
-use Rattle.book_check.specs.declared.Request.{Request}
-use Rattle.book_check.specs.declared.Request.TheVariants as asked
+use Rattle.book_judge.specs.declared.BookRefusal.{BookRefusal}
+use Rattle.book_judge.proofs.Says.{refusal_number}
 
 module _ (s : List ℕ) where
-  pub yes_of : (r : Answer) → r ≡ Yes → Tells s (answer_says r) → Accepted s
-  yes_of r e t = told_fine (subst (λ (z : Answer). Tells s (answer_says z)) e t) refl
-
-  pub refused_of : (r : Answer) (why : Reason) → r ≡ Refused why → Tells s (answer_says r) → Tells s (reason_says why)
-  refused_of r why e t = subst (λ (z : Answer). Tells s (answer_says z)) e t
+  pub yes_of : Tells s (answer_says (Ok tt)) → Accepted s
+  yes_of t = told_fine t refl
 
   pub refused_no : (why : Reason) → Tells s (reason_says why) → Accepted s → ⊥
   refused_no why t a =
@@ -29,8 +25,8 @@ module _ (s : List ℕ) where
       let m : (reason_says why).number ≡ 13 = thirteen why in
       omega arith
 
-  pub ask_refused : (i : ℕ) (r : Answer) (why : Reason) → r ≡ Refused why → Tells s (answer_says r) → AskTells s i (reason_says why)
-  ask_refused i r why e t = let u = refused_of r why e t in book (refused_no why u) u
+  pub ask_refused : (i : ℕ) (why : Reason) → Tells s (reason_says why) → AskTells s i (reason_says why)
+  ask_refused i why t = book (refused_no why t) t
 
   -- the entry is there exactly when the number is 0
   pub told_there : {i : ℕ} {x : Said} → AskTells s i x → x.number ≡ 0 → Accepted s × (i < count s)
@@ -43,16 +39,11 @@ module _ (s : List ℕ) where
   told_none (no_entry b k e) z a h = omega arith
   told_none (there b k e) z a h = z (number_of e)
 
-  pub there_of : (i : ℕ) (r : Request) → r ≡ asked.There → AskTells s i (request_says r) → Accepted s × (i < count s)
-  there_of i r e t = told_there (subst (λ (z : Request). AskTells s i (request_says z)) e t) refl
+  pub there_of : {i : ℕ} → AskTells s i (request_says (Ok tt)) → Accepted s × (i < count s)
+  there_of t = told_there t refl
 
   pub ready_of : (i : ℕ) → Accepted s × (i < count s) → Ready s i
   ready_of i w = record { marked = w.0.marked; listed = w.0.listed; there = w.1 }
 
-  pub part_refused : (i : ℕ) (r : Request) (why : Reason) → r ≡ asked.Refused why → AskTells s i (request_says r) → AskedPart s i []
-  part_refused i r why e t =
-      let m : (reason_says why).number ≡ 13 = thirteen why in
-      empty (told_none (subst (λ (z : Request). AskTells s i (request_says z)) e t) (λ z. omega arith)) refl
-
-  pub part_none : (i : ℕ) (r : Request) → r ≡ asked.NoEntry → AskTells s i (request_says r) → AskedPart s i []
-  part_none i r e t = empty (told_none (subst (λ (z : Request). AskTells s i (request_says z)) e t) (λ z. omega arith)) refl
+  pub part_refused : {i : ℕ} (r : BookRefusal) → AskTells s i (request_says (Err r)) → AskedPart s i []
+  part_refused r t = empty (told_none t (refusal_number r)) refl

@@ -10,12 +10,9 @@ use Rattle.book_check.specs.Book.{part, entry, Sound, Accepted}
 use Rattle.book_check.specs.Answer as says
 use Rattle.book_check.specs.Answer.{reason_says, BodyFault, Fault, Tells}
 use Rattle.book_first.specs.Earliest.{Earliest}
-use Rattle.book_judge.specs.Reasons.{JudgeTells}
-use Rattle.book_check.specs.Code.{EntryTells}
+pub use Rattle.book_judge.proofs.Says.{thirteen}
 use Rattle.book_judge.specs.declared.Reason.{Reason}
-use Rattle.book_judge.specs.declared.Reason.TheVariants.{Mark, Contents, BodyRule, Field, Twice}
-use Rattle.book_judge.specs.declared.Seen.{Seen}
-use Rattle.book_judge.specs.declared.Seen.TheVariants.{Good, Bad}
+use Rattle.book_judge.specs.declared.Reason.TheVariants.{Twice}
 
 -- ---- one entry
 module _ (s b : List ℕ) (i : ℕ) (e : b ≡ part s i) where
@@ -35,26 +32,6 @@ module _ (s b : List ℕ) (i : ℕ) (e : b ≡ part s i) where
       says.twice (subst Formed e g.0) (subst (λ (z : List ℕ). FieldSays (body_of z) 0) e g.1) j h
       (subst (λ (z : List ℕ). OneField (body_of z) (entry s j)) e (f.found h))
       (λ k u o. f.none k u (subst (λ (z : List ℕ). OneField (body_of z) (entry s k)) (sym e) o)) refl
-
--- ---- answers by their cases
-pub judge_good : (b : List ℕ) (i : ℕ) (r : Seen) → r ≡ Good → JudgeTells b i r → Formed b × FieldSays (body_of b) 0
-judge_good b i r e t = subst (JudgeTells b i) e t
-
-pub judge_bad : (b : List ℕ) (i : ℕ) (r : Seen) (why : Reason) → r ≡ Bad why → JudgeTells b i r → BodyFault b i (reason_says why)
-judge_bad b i r why e t = subst (JudgeTells b i) e t
-
-pub sound_of : (s : List ℕ) (i : ℕ) (r : Seen) → r ≡ Good → EntryTells s i r → Sound s i
-sound_of s i r e t = subst (EntryTells s i) e t
-
-pub fault_of : (s : List ℕ) (i : ℕ) (r : Seen) (why : Reason) → r ≡ Bad why → EntryTells s i r → Fault s i (reason_says why)
-fault_of s i r why e t = subst (EntryTells s i) e t
-
-pub thirteen : (why : Reason) → (reason_says why).number ≡ 13
-thirteen Mark = refl
-thirteen Contents = refl
-thirteen (BodyRule i) = refl
-thirteen (Field i n) = refl
-thirteen (Twice i j) = refl
 
 pub body_thirteen : {b : List ℕ} {i : ℕ} {x : Said} → BodyFault b i x → x.number ≡ 13
 body_thirteen (says.rule f e) = ap (λ (x : Said). x.number) e

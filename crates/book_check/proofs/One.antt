@@ -6,7 +6,7 @@
 --   judge_unique, earliest_unique    judging a body by itself; the first entry of one field with it
 use mathlib.Core.Path.{◌≡◌, refl, sym, ap, ◌∙◌, subst}
 use mathlib.Core.List.{List}
-use Prim.Native.Nat.{ℕ, zero, suc, ◌<◌, ◌≤◌}
+use Prim.Native.Nat.{ℕ, ◌<◌, ◌≤◌}
 use native.Mathlib.Omega.{arith}
 use native.Mathlib.Decide.{dec_lt}
 use Rattle.field_open.proofs.Stages.{refusal_unique}
@@ -16,14 +16,14 @@ use Rattle.book_check.specs.Book.{Sound, Accepted, entry}
 use Rattle.book_first.specs.Earliest.{Earliest}
 use Rattle.book_judge.specs.Reasons.{JudgeTells}
 use Rattle.book_check.specs.Answer.{reason_says, answer_says, request_says, BodyFault, Fault, Tells, AskTells, AskedPart, rule, field, body, twice, mark, contents, at_entry, fine, book, no_entry, there, found, empty}
+use Rattle.std.specs.declared.result.Result.{Result}
+use Rattle.std.specs.declared.result.Result.TheVariants.{Ok, Err}
+use Rattle.base_answers.proofs.Said.{number_of}
+pub use Rattle.book_judge.proofs.Says.{reason_unique}
+use Rattle.book_judge.proofs.Says.{refusal_number, refusal_unique as one_refusal}
 use Rattle.book_judge.specs.declared.Reason.{Reason}
-use Rattle.book_judge.specs.declared.Reason.TheVariants.{Mark, Contents, BodyRule, Field, Twice}
-use Rattle.book_judge.specs.declared.Seen.{Seen}
-use Rattle.book_judge.specs.declared.Seen.TheVariants.{Good, Bad}
-use Rattle.book_check.specs.declared.Answer.{Answer}
-use Rattle.book_check.specs.declared.Answer.TheVariants.{Yes, Refused}
-use Rattle.book_check.specs.declared.Request.{Request}
-use Rattle.book_check.specs.declared.Request.TheVariants as asked
+use Rattle.book_judge.specs.declared.BookRefusal.{BookRefusal}
+use Rattle.book_judge.specs.declared.BookRefusal.TheVariants.{Malformed}
 
 pub field_unique : (b : Body) (n m : ℕ) → FieldSays b n → FieldSays b m → n ≡ m
 field_unique b = refusal_unique b.p b.G b.H
@@ -96,79 +96,29 @@ module _ (s : List ℕ) where
   part_unique (empty f e) (found b k u) = absurd (f b k)
   part_unique (empty f e) (empty g u) = e ∙ sym u
 
--- ---- the code's answer out of the numbers
-unfoldable pub reason : ℕ → ℕ → ℕ → Reason
-reason zero i j = Mark
-reason (suc zero) i j = Mark
-reason (suc (suc zero)) i j = Contents
-reason (suc (suc (suc zero))) i j = BodyRule i
-reason (suc (suc (suc (suc zero)))) i j = Field i j
-reason (suc (suc (suc (suc (suc n))))) i j = Twice i j
+-- ---- what is said settles the code's answer
+pub answer_unique : (a b : Result (Unit {0}) Reason) → answer_says a ≡ answer_says b → a ≡ b
+answer_unique (Ok u) (Ok v) e = refl
+answer_unique (Ok u) (Err why) e = absurd (refusal_number (Malformed why) (sym (number_of e)))
+answer_unique (Err why) (Ok v) e = absurd (refusal_number (Malformed why) (number_of e))
+answer_unique (Err why) (Err wer) e = ap Err (reason_unique why wer e)
 
-abbrev pub reason_of : Said → Reason
-reason_of x = reason x.reason x.entry x.other
-
-abbrev answer : ℕ → Reason → Answer
-answer zero why = Yes
-answer (suc n) why = Refused why
-
-abbrev request : ℕ → ℕ → Reason → Request
-request zero n why = asked.There
-request (suc k) zero why = asked.NoEntry
-request (suc k) (suc n) why = asked.Refused why
-
-abbrev answer_of : Said → Answer
-answer_of x = answer x.number (reason_of x)
-
-abbrev request_of : Said → Request
-request_of x = request x.number x.reason (reason_of x)
-
-pub reason_back : (a : Reason) → reason_of (reason_says a) ≡ a
-unfolding reason
-reason_back Mark = refl
-reason_back Contents = refl
-reason_back (BodyRule i) = refl
-reason_back (Field i n) = refl
-reason_back (Twice i j) = refl
-
-answer_back : (a : Answer) → answer_of (answer_says a) ≡ a
-unfolding reason
-answer_back Yes = refl
-answer_back (Refused Mark) = refl
-answer_back (Refused Contents) = refl
-answer_back (Refused (BodyRule i)) = refl
-answer_back (Refused (Field i n)) = refl
-answer_back (Refused (Twice i j)) = refl
-
-request_back : (a : Request) → request_of (request_says a) ≡ a
-unfolding reason
-request_back asked.There = refl
-request_back asked.NoEntry = refl
-request_back (asked.Refused Mark) = refl
-request_back (asked.Refused Contents) = refl
-request_back (asked.Refused (BodyRule i)) = refl
-request_back (asked.Refused (Field i n)) = refl
-request_back (asked.Refused (Twice i j)) = refl
-
-pub reason_unique : (a b : Reason) → reason_says a ≡ reason_says b → a ≡ b
-reason_unique a b e = sym (reason_back a) ∙ ap reason_of e ∙ reason_back b
-
-pub answer_unique : (a b : Answer) → answer_says a ≡ answer_says b → a ≡ b
-answer_unique a b e = sym (answer_back a) ∙ ap answer_of e ∙ answer_back b
-
-pub request_unique : (a b : Request) → request_says a ≡ request_says b → a ≡ b
-request_unique a b e = sym (request_back a) ∙ ap request_of e ∙ request_back b
+pub request_unique : (a b : Result (Unit {0}) BookRefusal) → request_says a ≡ request_says b → a ≡ b
+request_unique (Ok u) (Ok v) e = refl
+request_unique (Ok u) (Err q) e = absurd (refusal_number q (sym (number_of e)))
+request_unique (Err r) (Ok v) e = absurd (refusal_number r (number_of e))
+request_unique (Err r) (Err q) e = ap Err (one_refusal r q e)
 
 -- ---- whole answers
 pub finished_no : {b : List ℕ} {i : ℕ} {x : Said} → Finished b → BodyFault b i x → ⊥
 finished_no f (rule g e) = g f.formed
 finished_no {b} f (field g n h o e) = h (field_unique (body_of b) n 0 o f.field)
 
-pub judge_unique : (b : List ℕ) (i : ℕ) (r q : Seen) → JudgeTells b i r → JudgeTells b i q → r ≡ q
-judge_unique b i Good Good t u = refl
-judge_unique b i Good (Bad why) t u = absurd (finished_no (record { formed = t.0; field = t.1 }) u)
-judge_unique b i (Bad why) Good t u = absurd (finished_no (record { formed = u.0; field = u.1 }) t)
-judge_unique b i (Bad why) (Bad wer) t u = ap Bad (reason_unique why wer (body_unique t u))
+pub judge_unique : (b : List ℕ) (i : ℕ) (r q : Result (Unit {0}) Reason) → JudgeTells b i r → JudgeTells b i q → r ≡ q
+judge_unique b i (Ok u) (Ok v) t w = refl
+judge_unique b i (Ok u) (Err why) t w = absurd (finished_no (record { formed = t.0; field = t.1 }) w)
+judge_unique b i (Err why) (Ok v) t w = absurd (finished_no (record { formed = w.0; field = w.1 }) t)
+judge_unique b i (Err why) (Err wer) t w = ap Err (reason_unique why wer (body_unique t w))
 
 pub earliest_unique : {s : List ℕ} {b : Body} {i j k : ℕ} → Earliest s b i j → Earliest s b i k → j ≡ k
 earliest_unique {s} {b} {i} {j} {k} t u = least (dec_lt j k) (dec_lt k j)

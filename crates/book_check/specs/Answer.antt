@@ -1,29 +1,27 @@
 -- What is answered of given bytes, in document 01's numbers.
---   answer_says, request_says    what the code's answers say; of a reason it is `reason_says` of crate book_judge
+--   answer_says, request_says    what the code's answers say; of a reason and of a refusal it is `reason_says` and
+--                     `refusal_says` of crate book_judge
 --   Fault s i x       what is wrong with entry i of the book s, the first found: its body (`BodyFault` of crate book_judge), or twice
 --                     (entry, earlier entry)
 --   Tells s x         the check of s says x: mark; contents; the first entry with a fault; or the book is fine
 --   AskTells s i x    asking for entry i of s says x: 13 for the book first, then 14 if the entry is not there
 --   AskedPart s i r   r is the part that is handed out: the one that the entry names, or the empty one
 -- That the bytes settle each of them is in proofs/One.antt: tells_unique, ask_unique, part_unique.
-use Rattle.std.specs.Prelude.{◌≡◌, List, [], ℕ, ◌<◌, ◌≤◌}
+use Rattle.std.specs.Prelude.{◌≡◌, List, [], ℕ, ◌<◌, ◌≤◌, Result, Ok, Err}
 use Rattle.base_answers.specs.Said.{Said, passed, refused, malformed}
 use Rattle.book_body.specs.Body.{FieldSays, OneField, Formed}
-pub use Rattle.book_judge.specs.Reasons.{reason_says, BodyFault, rule, field}
+pub use Rattle.book_judge.specs.Reasons.{reason_says, refusal_says, BodyFault, rule, field}
+use Rattle.book_judge.specs.declared.Reason.{Reason}
+use Rattle.book_judge.specs.declared.BookRefusal.{BookRefusal}
 use Rattle.book_check.specs.Book.{Marked, Listed, count, part, entry, Sound, Accepted}
-use Rattle.book_check.specs.declared.Answer.{Answer}
-use Rattle.book_check.specs.declared.Answer.TheVariants.{Yes, Refused}
-use Rattle.book_check.specs.declared.Request.{Request}
-use Rattle.book_check.specs.declared.Request.TheVariants as asked
 
-abbrev pub answer_says : Answer → Said
-answer_says Yes = passed 0
-answer_says (Refused why) = reason_says why
+abbrev pub answer_says : Result (Unit {0}) Reason → Said
+answer_says (Ok u) = passed 0
+answer_says (Err why) = reason_says why
 
-abbrev pub request_says : Request → Said
-request_says asked.There = passed 0
-request_says (asked.Refused why) = reason_says why
-request_says asked.NoEntry = refused 14
+abbrev pub request_says : Result (Unit {0}) BookRefusal → Said
+request_says (Ok u) = passed 0
+request_says (Err r) = refusal_says r
 
 pub data Fault (s : List ℕ) (i : ℕ) (x : Said) : Type 0 where
   body : BodyFault (part s i) i x → Fault s i x

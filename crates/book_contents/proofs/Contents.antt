@@ -1,13 +1,11 @@
--- The code's tests of mark and contents against the definitions, and the part that an entry names.
+-- What the contents name: where the bodies end, and that each part lies within the file.
 use mathlib.Core.Path.{◌≡◌, refl, sym, ap, ◌∙◌}
-use mathlib.Core.Logic.{◌≢◌}
 use mathlib.Core.List.{List}
 use Prim.Native.Nat.{ℕ, zero, suc, ◌+◌, ◌-◌, ◌*◌, ◌<◌, ◌≤◌}
 use native.Mathlib.Numerals.{add-one}
 use native.Mathlib.Omega.{arith}
-use lib.ListN.{length, get_or, take, drop}
-use lib.Seq.{ext_get_or, get_or-take, length-take-le}
-use Rattle.book_contents.specs.Contents.{mark, Marked, Listed, count, start_at, length_at, ends, part}
+use lib.ListN.{length}
+use Rattle.book_contents.specs.Contents.{Marked, Listed, count, start_at, length_at, ends}
 
 -- ---- the contents
 pub ends_more : (s : List ℕ) (i : ℕ) → ends s (i + 1) ≡ ends s i + length_at s i
@@ -36,30 +34,8 @@ inside s i l h =
     let w : ends s (count s) ≡ length s = l.whole in
     omega arith
 
-pub listed_no : (s : List ℕ) (n at i a : ℕ) → n ≡ count s → i < n → at ≡ ends s i → a ≡ start_at s i → a ≢ at → Listed s → ⊥
-listed_no s n at i a e h f g z l = z (g ∙ l.starts i (omega arith) ∙ sym f)
-
 pub ends_first : (s : List ℕ) (n : ℕ) → n ≡ count s → 6 + 8 * n ≡ ends s 0
 ends_first s n e = ap (λ (x : ℕ). 6 + 8 * x) e ∙ sym (ends_zero s)
-
-pub ends_all : (s : List ℕ) (n i at : ℕ) → n ≡ count s → i ≤ n → n ≤ i → at ≡ ends s i → at ≡ ends s (count s)
-ends_all s n i at e h l f = let q : i ≡ count s = omega arith in f ∙ ap (ends s) q
-
--- ---- the mark
-pub mark_yes : (s m : List ℕ) → m ≡ mark → 4 ≤ length s → ((k : ℕ) → k < 4 → get_or s k 0 ≡ get_or m k 0) → take 4 s ≡ mark
-mark_yes s m e h f =
-    let l : length (take 4 s) ≡ 4 = length-take-le 4 s h in
-    ext_get_or 0 (take 4 s) mark l
-    (λ k u. let v : k < 4 = omega arith in get_or-take 4 s k 0 v ∙ f k v ∙ ap (λ (x : List ℕ). get_or x k 0) e)
-
-pub mark_no : (s m : List ℕ) (k : ℕ) → m ≡ mark → k < 4 → (get_or s k 0 ≡ get_or m k 0 → ⊥) → take 4 s ≡ mark → ⊥
-mark_no s m k e h f t = f (sym (get_or-take 4 s k 0 h) ∙ ap (λ (x : List ℕ). get_or x k 0) (t ∙ sym e))
-
--- ---- the part
-pub part_read : (s : List ℕ) (i a l : ℕ) → a ≡ start_at s i → l ≡ length_at s i → take (a + l - a) (drop a s) ≡ part s i
-part_read s i a l e f =
-    let q : a + l - a ≡ l = omega arith in
-    rw (q, e, f) refl
 
 -- ---- how many entries there may be
 pub few_of : (s : List ℕ) → Marked s → Listed s → count s < 8192

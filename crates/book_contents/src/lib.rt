@@ -6,29 +6,16 @@ ghost use Rattle.base_answers.specs.Decides.{Decides};
 ghost use Rattle.book_contents.specs.Contents.{Marked, Listed, count, part, Ready};
 
 // The bytes of a contents entry: start and length.
-const WIDTH: usize = 8;
+pub const WIDTH: usize = 8;
+
+// The most bytes that a book may have.
+pub const MOST: usize = 65536;
 
 // The mark: its bytes, and the file's length.
 pub fn marked(s: &[u8]) -> bool
     ensures { Decides result (Marked s.now) }
 {
-    if s.len() < 6 {
-        return false;
-    }
-    if s.len() > 65536 {
-        return false;
-    }
-    let mark = b"PCF1";
-    let mut i: usize = 0;
-    while i < 4 {
-        let x = s[i];
-        let y = mark[i];
-        if x != y {
-            return false;
-        }
-        i += 1;
-    }
-    true
+    (6..=MOST).contains(&s.len()) && s.starts_with(b"PCF1")
 }
 
 // The contents.
@@ -37,20 +24,13 @@ pub fn listed(s: &[u8]) -> bool
 {
     let n = book_bytes::two(s, 4);
     let mut at = 6 + WIDTH * n;
-    let mut i: usize = 0;
-    while i < n {
-        let a = book_bytes::four(s, 6 + WIDTH * i);
-        if a != at {
+    for i in 0..n {
+        if book_bytes::four(s, 6 + WIDTH * i) != at {
             return false;
         }
-        let l = book_bytes::four(s, 10 + WIDTH * i);
-        at += l;
-        i += 1;
+        at += book_bytes::four(s, 10 + WIDTH * i);
     }
-    if at != s.len() {
-        return false;
-    }
-    true
+    at == s.len()
 }
 
 // The number of bodies.
@@ -67,6 +47,5 @@ pub fn entry_bytes(s: &[u8], i: usize) -> &[u8]
 {
     let a = book_bytes::four(s, 6 + WIDTH * i);
     let l = book_bytes::four(s, 10 + WIDTH * i);
-    let e = a + l;
-    &s[a..e]
+    &s[a..a + l]
 }

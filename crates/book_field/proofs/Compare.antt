@@ -2,10 +2,9 @@
 --   sold             the field that the bytes say
 --   short_g, short_h its lists are at most 13 long
 --   both_read        what is read out of a body over p can be compared
---   one_read         and what that decides; one_p_no: two primes decide it alone
+--   one_read         and what that decides
 --   own_sold, own_field, field_own   a body's own p, G, H stand for it
 use mathlib.Core.Path.{◌≡◌, sym, ◌∙◌, subst}
-use mathlib.Core.Logic.{◌≢◌}
 use mathlib.Core.Bool.{Bool}
 use mathlib.Core.List.{List}
 use Prim.Native.Nat.{ℕ, ◌≤◌}
@@ -45,10 +44,6 @@ module _ {p : ℕ} {G H : List ℕ} (b : List ℕ) (s : SoldOver p G H b) {g h :
   one_read r d =
       let e : Decides r (pairs.OneField p G H (list_at b 0) (list_at b 1)) = rw (sym eg, sym eh) d in
       record { yes! = λ t. record { p = s.over; pair = e.yes! t }; no! = λ t o. e.no! t o.pair }
-
-pub one_p_no : (p : ℕ) (G H b : List ℕ) (q : ℕ) → q ≡ u2 b 0 → p ≢ q → OneField (pair_of p G H) (body_of b) → ⊥
-unfolding body_of
-one_p_no p G H b q f z o = z (o.p ∙ sym f)
 
 -- ---- a body's own p, G, H, read once, stand for it
 module _ (a : List ℕ) {p : ℕ} {g h : List ℕ} (e : p ≡ u2 a 0) (eg : g ≡ list_at a 0) (eh : h ≡ list_at a 1) where

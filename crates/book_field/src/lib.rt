@@ -4,9 +4,11 @@
 ghost use Rattle.std.specs.Prelude.{◌≡◌, ◌<◌, get_or};
 ghost use Rattle.math_rows.specs.Row.{tab};
 ghost use Rattle.base_answers.specs.Decides.{Decides};
+ghost use Rattle.base_answers.specs.Faults.{no_of};
 ghost use Rattle.book_body.specs.Body.{FieldSays, OneField, list_at, body_of};
 ghost use Rattle.book_field.specs.Code.{pair_of, Sold, SoldOver, Clipped};
 
+use base_answers::Fault;
 use book_body::{HEAD, LENGTHS};
 
 // The first 14 coefficients of list k: one more than a field's lists may have.
@@ -14,26 +16,19 @@ fn first_14(s: &[u8], k: usize) -> [u64; 14]
     requires { k < 5 }
     ensures { result ≡ tab 14 (λ i. get_or (list_at s.now k) i 0) }
 {
-    let mut r: [u64; 14] = [0; 14];
-    let mut i: usize = 0;
-    while i < 14 {
-        let v = book_bytes::item(s, HEAD, LENGTHS, k, i);
-        r[i] = v;
-        i += 1;
-    }
-    r
+    std::array::from_fn(|i| book_bytes::item(s, HEAD, LENGTHS, k, i))
 }
 
 // A length, at most 14.
 fn clip(n: usize) -> usize
     ensures { Clipped n result }
 {
-    if n > 14 { 14 } else { n }
+    n.min(14)
 }
 
-// The field's refusal, 1 to 8, or 0.
-pub fn field_refusal(s: &[u8]) -> u32
-    ensures { FieldSays (body_of s.now) result }
+// The field of a body: its refusal, if it has one.
+pub fn field_refusal(s: &[u8]) -> Result<(), Fault>
+    ensures { FieldSays (body_of s.now) (no_of result) }
 {
     let p = book_bytes::two(s, 0);
     let g = first_14(s, 0);
@@ -56,13 +51,10 @@ fn same_pair(p: u64, g: &[u64], h: &[u64], b: &[u8]) -> bool
 }
 
 // Is a body of the field p, G, H? A body over another prime never is.
+#[tactic(auto, unfolding(book_body::specs::Body::body_of))]
 pub fn of_field(p: u64, g: &[u64], h: &[u64], b: &[u8]) -> bool
     requires { Sold p g.now h.now b.now }
     ensures { Decides result (OneField (pair_of p g.now h.now) (body_of b.now)) }
 {
-    let q = book_bytes::two(b, 0);
-    if p != q as u64 {
-        return false;
-    }
-    same_pair(p, g, h, b)
+    p == book_bytes::two(b, 0) as u64 && same_pair(p, g, h, b)
 }

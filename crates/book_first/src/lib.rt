@@ -5,22 +5,18 @@ ghost use Rattle.book_body.specs.Body.{body_of};
 ghost use Rattle.book_field.specs.Code.{pair_of};
 ghost use Rattle.book_first.specs.Earliest.{EarlierAsks, FirstOfAsks, Earliest};
 
-// The first of the entries before i that is of the field p, G, H, or i.
-fn first_of(s: &[u8], p: u64, g: &[u64], h: &[u64], i: usize) -> usize
-    requires { FirstOfAsks s.now p g.now h.now i }
-    ensures { Earliest s.now (pair_of p g.now h.now) i result }
+// The first of the entries before `end` that is of the field p, G, H, or `end`.
+fn first_of(s: &[u8], p: u64, g: &[u64], h: &[u64], end: usize) -> usize
+    requires { FirstOfAsks s.now p g.now h.now end }
+    ensures { Earliest s.now (pair_of p g.now h.now) end result }
 {
-    let mut r = i;
-    let mut j: usize = 0;
-    while j < r {
-        let o = book_contents::entry_bytes(s, j);
-        let same = book_field::of_field(p, g, h, o);
-        if same {
-            r = j;
+    for j in 0..end {
+        if book_field::of_field(p, g, h, book_contents::entry_bytes(s, j)) {
+            return j;
         }
-        j += 1;
     }
-    r
+    // `end` for none: `Earliest` says so, and both who ask compare.
+    end
 }
 
 // The first of the entries before i that is of one field with the body b, or i. The body's own lists, which are short, are read once.

@@ -1,36 +1,57 @@
 // A body by itself: the body rule and the field. specs/Reasons.antt says what the answer means.
 #![tactic(auto)]
 
+ghost use Rattle.std.specs.Prelude.{◌≡◌};
 ghost use Rattle.book_judge.specs.Reasons.{JudgeTells};
 
+use base_answers::Fault;
+
 // What is wrong with a book: the first found.
-#[derive(Clone, Copy)]
+#[derive(Clone, Copy, PartialEq, Eq)]
 pub enum Reason {
     Mark,
     Contents,
+    // the entry
     BodyRule(usize),
-    Field(usize, u32),
+    // the entry, and the refusal of its field
+    Field(usize, Fault),
+    // the entry, and an earlier one of the same field
     Twice(usize, usize),
 }
 
-// One entry's answer.
-#[derive(Clone, Copy)]
-pub enum Seen {
-    Good,
-    Bad(Reason),
+// What is refused of a book: it is malformed (13), or anything else.
+#[derive(Clone, Copy, PartialEq, Eq)]
+pub enum BookRefusal {
+    Malformed(Reason),
+    Other(Fault),
+}
+
+impl From<Reason> for BookRefusal {
+    ghost use Rattle.book_judge.specs.declared.BookRefusal.TheVariants.{Malformed};
+
+    ghost from_gives = { λ why r. r ≡ Malformed why };
+
+    fn from(why: Reason) -> BookRefusal {
+        BookRefusal::Malformed(why)
+    }
+}
+
+impl From<Fault> for BookRefusal {
+    ghost use Rattle.book_judge.specs.declared.BookRefusal.TheVariants.{Other};
+
+    ghost from_gives = { λ k r. r ≡ Other k };
+
+    fn from(k: Fault) -> BookRefusal {
+        BookRefusal::Other(k)
+    }
 }
 
 // A body by itself, as entry i: the body rule, then the field.
-pub fn judge(b: &[u8], i: usize) -> Seen
+pub fn judge(b: &[u8], i: usize) -> Result<(), Reason>
     ensures { JudgeTells b.now i result }
 {
-    let ok = book_rule::body_rule(b);
-    if !ok {
-        return Seen::Bad(Reason::BodyRule(i));
+    if !book_rule::body_rule(b) {
+        return Err(Reason::BodyRule(i));
     }
-    let x = book_field::field_refusal(b);
-    if x != 0 {
-        return Seen::Bad(Reason::Field(i, x));
-    }
-    Seen::Good
+    book_field::field_refusal(b).map_err(|k| Reason::Field(i, k))
 }

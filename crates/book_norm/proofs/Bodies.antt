@@ -12,7 +12,6 @@ use Rattle.math_rows.specs.Reading.{Reading}
 use Rattle.math_rows.specs.Made.{reading}
 use Rattle.math_rows.specs.Row.{Size, coefs, row}
 use Rattle.math_rows.proofs.Rows.{psum_ext, row_upto}
-use Rattle.math_rows.proofs.Tab.{Filled}
 use Rattle.field_open.specs.Refusal as field
 use Rattle.field_open.proofs.Accept.{accepted}
 use Rattle.book_body.specs.Body.{list_at, body_of, Finished}
@@ -25,13 +24,6 @@ use Rattle.book_norm.specs.Code.{LoadAsks, Loaded, BodyNorm}
 -- ---- one list
 past : (l : List ℕ) (i : ℕ) → length l ≤ i → get_or l i 0 ≡ 0
 past l i h = get_or-eq_default l 0 {n = i} h
-
-pub loaded : (s : List ℕ) (k : ℕ) (d r : List ℕ) (i : ℕ) → LoadAsks s k d → Filled (length d) (λ j. get_or (list_at s k) j 0) r i → length d ≤ i → Loaded s k d r
-loaded s k d r i w f h = record { size = f.size; places = λ j. at j (dec_lt j (length d)) }
-  where
-    at : (j : ℕ) → Dec (j < length d) → get_or r j 0 ≡ get_or (list_at s k) j 0
-    at j (yes u) = f.done j (omega arith)
-    at j (no u) = past r j (omega (arith, f.size)) ∙ sym (past (list_at s k) j (omega (arith, w.fits)))
 
 below : (p : ℕ) (l : List ℕ) → 0 < p → ((i : ℕ) → i < length l → get_or l i 0 < p) → (i : ℕ) → get_or l i 0 < p
 below p l z h i = at (dec_lt i (length l))

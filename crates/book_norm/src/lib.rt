@@ -15,11 +15,8 @@ fn load(s: &[u8], k: usize, out: &mut [u16])
     requires { LoadAsks s.now k out.old }
     ensures { Loaded s.now k out.old out.new }
 {
-    let mut i: usize = 0;
-    while i < out.len() {
-        let v = book_bytes::item(s, HEAD, LENGTHS, k, i);
-        out[i] = v as u16;
-        i += 1;
+    for (i, x) in out.iter_mut().enumerate() {
+        *x = book_bytes::item(s, HEAD, LENGTHS, k, i) as u16;
     }
 }
 
@@ -49,9 +46,5 @@ pub fn constant_norm(s: &[u8]) -> bool
 {
     let mut n: [u16; 12327] = [0; 12327];
     body_norm(s, &mut n);
-    let d = size(&n);
-    if d != 1 {
-        return false;
-    }
-    true
+    size(&n) == 1
 }

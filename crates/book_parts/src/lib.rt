@@ -3,17 +3,16 @@
 
 ghost use Rattle.book_parts.specs.Parts.{PrimeSays, PeriodSays, ListSays};
 
+use book_judge::judge;
+use book_numbers::{got_row, reason_row};
+
 // The prime of a body, as the result in five numbers.
 pub fn prime(s: &[u8]) -> [u64; 5]
     ensures { PrimeSays s.now result }
 {
-    let own = book_judge::judge(s, 0);
-    match own {
-        book_judge::Seen::Good => {
-            let p = book_body::prime_of(s);
-            [0, 0, 0, 0, p]
-        }
-        book_judge::Seen::Bad(why) => book_numbers::reason_row(why),
+    match judge(s, 0) {
+        Ok(()) => [0, 0, 0, 0, book_body::prime_of(s)],
+        Err(why) => reason_row(why),
     }
 }
 
@@ -21,13 +20,9 @@ pub fn prime(s: &[u8]) -> [u64; 5]
 pub fn period(s: &[u8]) -> [u64; 5]
     ensures { PeriodSays s.now result }
 {
-    let own = book_judge::judge(s, 0);
-    match own {
-        book_judge::Seen::Good => {
-            let t = book_body::period_of(s);
-            [0, 0, 0, 0, t.0]
-        }
-        book_judge::Seen::Bad(why) => book_numbers::reason_row(why),
+    match judge(s, 0) {
+        Ok(()) => [0, 0, 0, 0, book_body::period_of(s).0],
+        Err(why) => reason_row(why),
     }
 }
 
@@ -35,12 +30,8 @@ pub fn period(s: &[u8]) -> [u64; 5]
 pub fn list(s: &[u8], k: usize, out: &mut [u64]) -> [u64; 5]
     ensures { ListSays s.now k out.old out.new result }
 {
-    let own = book_judge::judge(s, 0);
-    match own {
-        book_judge::Seen::Good => {
-            let a = book_body::list_of(s, k, out);
-            book_numbers::got_row(a)
-        }
-        book_judge::Seen::Bad(why) => book_numbers::reason_row(why),
+    match judge(s, 0) {
+        Ok(()) => got_row(book_body::list_of(s, k, out)),
+        Err(why) => reason_row(why),
     }
 }

@@ -6,8 +6,7 @@ ghost use Rattle.base_lists.specs.Pieces.{Written};
 ghost use Rattle.book_bytes.specs.Bytes.{le};
 ghost use Rattle.book_put.specs.Code.{new_length, line_end, lines, Place, new_bytes};
 
-// The bytes of a contents entry: start and length.
-pub const WIDTH: usize = 8;
+use book_contents::WIDTH;
 
 // One contents entry at `at`; the place after it.
 fn put_line(out: &mut [u8], at: usize, start: u64, len: u64) -> usize
@@ -25,13 +24,10 @@ fn put_lines(out: &mut [u8], c: usize) -> usize
 {
     let mut at = 6 + WIDTH * (c + 1);
     let mut o: usize = 6;
-    let mut i: usize = 0;
-    while i < c {
+    for i in 0..c {
         let l = book_bytes::four(out, 10 + WIDTH * i);
-        let next = put_line(out, o, at as u64, l as u64);
-        o = next;
+        o = put_line(out, o, at as u64, l as u64);
         at += l;
-        i += 1;
     }
     o
 }
@@ -43,8 +39,8 @@ pub fn put_body(out: &mut [u8], n: usize, c: usize, b: &[u8]) -> usize
         × (out.new ≡ new_bytes out.old n c b.now ++ drop (new_length n b.now) out.old) }
 {
     let end = book_bytes::lift(out, 6 + WIDTH * c, n, WIDTH);
-    let x = book_bytes::put_two(out, 4, (c + 1) as u64);
+    book_bytes::put_two(out, 4, (c + 1) as u64);
     let y = put_lines(out, c);
-    let z = put_line(out, y, (n + WIDTH) as u64, b.len() as u64);
+    put_line(out, y, (n + WIDTH) as u64, b.len() as u64);
     book_bytes::copy_in(out, end, b)
 }

@@ -79,5 +79,5 @@ module _ {p : ℕ} {G H : List ℕ} {t : ℕ} (l : List ℕ) {d : List ℕ} {r :
   pub refused_rows : {n : ℕ} → n ≢ 0 → Refusal p G H n → RowsSays p G H t l d d (n ∷ 0 ∷ 0 ∷ 0 ∷ 0 ∷ [])
   refused_rows {n} h o = record { said = refused n; tells = field (six_none l (no_six q e)) n h o refl refl; written = refl }
 
-  pub unfit_rows : {n : ℕ} → n ≡ 0 → Refusal p G H n → RowsSays p G H t l d d (14 ∷ 0 ∷ 0 ∷ 0 ∷ 0 ∷ [])
-  unfit_rows h o = record { said = refused 14; tells = unfit (six_none l (no_six q e)) (subst (Refusal p G H) h o) refl refl; written = refl }
+  pub unfit_rows : Refusal p G H 0 → RowsSays p G H t l d d (14 ∷ 0 ∷ 0 ∷ 0 ∷ 0 ∷ [])
+  unfit_rows o = record { said = refused 14; tells = unfit (six_none l (no_six q e)) o refl refl; written = refl }

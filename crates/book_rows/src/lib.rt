@@ -2,11 +2,14 @@
 #![tactic(auto)]
 
 ghost use Rattle.std.specs.Prelude.{◌≤◌, length};
-ghost use Rattle.book_write.specs.Write.{wrote_says, WriteTells, Numbered};
+ghost use Rattle.book_write.specs.Write.{wrote_says, WriteTells};
 ghost use Rattle.base_answers.specs.Limits.{Six};
 ghost use Rattle.book_rows.specs.Rows.{body_of_rows, RowsSays};
 ghost use Rattle.book_rows.specs.Code.{Widened};
 ghost use Rattle.field_open.specs.Padding.{unpad};
+
+use base_answers::Period;
+use book_judge::BookRefusal;
 
 // A row without the zeros at its end, into the front of a lent slice; its length.
 fn widen(row: &[u16], out: &mut [u64]) -> usize
@@ -14,13 +17,10 @@ fn widen(row: &[u16], out: &mut [u64]) -> usize
     ensures { Widened row.now out.old result out.new }
 {
     let n = poly_long::size(row);
-    let mut i: usize = 0;
-    while i < n {
-        let v = row[i];
-        out[i] = base_lists::wide(v);
-        i += 1;
+    for i in 0..n {
+        out[i] = base_lists::wide(row[i]);
     }
-    i
+    n
 }
 
 // Writes the body of the first three of six rows of c numbers.
@@ -28,14 +28,14 @@ fn put_rows(
     p: u64,
     g: &[u64],
     h: &[u64],
-    period: base_answers::Period,
+    period: Period,
     c: usize,
     rows: &[u16],
     out: &mut [u8],
-) -> book_write::Wrote
+) -> Result<usize, BookRefusal>
     requires { Six c rows.now }
     ensures { WriteTells (body_of_rows p (unpad g.now) (unpad h.now) period.0 c rows.now)
-        out.old (wrote_says result) out.new × Numbered result }
+        out.old (wrote_says result) out.new }
 {
     let d = c + c;
     let e = d + c;
@@ -53,20 +53,18 @@ pub fn write_rows(
     p: u64,
     g: &[u64],
     h: &[u64],
-    period: base_answers::Period,
+    period: Period,
     rows: &[u16],
     out: &mut [u8],
 ) -> [u64; 5]
     ensures { RowsSays p (unpad g.now) (unpad h.now) period.0 rows.now out.old out.new result }
 {
     let n = rows.len();
-    let odd = base_answers::no_six_rows(n);
-    if odd {
-        let x = field_open::refusal(p, g, h);
-        if x != 0 {
-            return [x as u64, 0, 0, 0, 0];
-        }
-        return [14, 0, 0, 0, 0];
+    if base_answers::no_six_rows(n) {
+        return match field_open::refusal(p, g, h) {
+            Ok(()) => [14, 0, 0, 0, 0],
+            Err(k) => [u32::from(k) as u64, 0, 0, 0, 0],
+        };
     }
     let w = put_rows(p, g, h, period, n / 6, rows, out);
     book_numbers::wrote_row(w)

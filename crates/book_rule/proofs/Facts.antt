@@ -1,4 +1,4 @@
--- The code's tests against the definitions: the rule of an E list, the body rule.
+-- The code's tests against the definitions: the rule of an E list, and of a list that was read.
 use mathlib.Core.Path.{◌≡◌, sym, ◌∙◌, subst}
 use mathlib.Core.Logic.{◌≢◌}
 use mathlib.Core.Bool.{Bool}
@@ -10,10 +10,10 @@ use Rattle.base_lists.specs.Pieces.{Written}
 use Rattle.base_lists.specs.Coefficients.{Coefficients, ListLength}
 use Rattle.base_lists.proofs.Coefs.{list_degree}
 use Rattle.base_lists.proofs.Puts.{front_is}
-use Rattle.book_bytes.specs.Bytes.{u2, u4}
+use Rattle.book_bytes.specs.Bytes.{u2}
 use Rattle.base_answers.specs.Decides.{Decides}
 use Rattle.book_bytes.proofs.Lists.{length_list}
-use Rattle.book_body.specs.Body.{UnitList, First, FirstList, list_start, list_at, body_of, Formed}
+use Rattle.book_body.specs.Body.{UnitList, First, FirstList, list_at}
 
 -- ---- a list's rule
 pub row_short : (s : List ℕ) (k n p : ℕ) → n ≡ u2 s (2 + 2 * k) → 4096 < n → UnitList p (list_at s k) → ⊥
@@ -25,55 +25,13 @@ list_unit p l n h z =
     subst (Coefficients 4096 p l) (let e : length l ≡ suc (n - 1) = d.whole in let o : n - 1 ≡ length l - 1 = omega arith in o) d
 
 -- ---- the rule of E0
-pub first_some : (s : List ℕ) (p : ℕ) → UnitList p (list_at s 2) → 0 < u2 s 6
-first_some s p r = let a : length (list_at s 2) ≡ suc (length (list_at s 2) - 1) = r.whole in let b : length (list_at s 2) ≡ u2 s 6 = length_list 16 2 s 2 in omega arith
+pub first_some : (s : List ℕ) → UnitList (u2 s 0) (list_at s 2) → 0 < u2 s 6
+first_some s r = let a : length (list_at s 2) ≡ suc (length (list_at s 2) - 1) = r.whole in let b : length (list_at s 2) ≡ u2 s 6 = length_list 16 2 s 2 in omega arith
 
 pub first_decided : (s : List ℕ) (n top : ℕ) (b : Bool) → n ≡ u2 s 6 → top ≡ get_or (list_at s 2) (n - 1) 0 → Decides b (First n top) → Decides b (FirstList (list_at s 2))
 first_decided s n top b e f w =
     let l : n ≡ length (list_at s 2) = e ∙ sym (length_list 16 2 s 2) in
     subst (λ (k : ℕ). Decides b (First k (get_or (list_at s 2) (k - 1) 0))) l (subst (λ (x : ℕ). Decides b (First n x)) f w)
-
--- ---- the body rule
-module _ (s : List ℕ) where
-  pub body_from_lem : (t : ℕ) → t ≡ u4 s 12 → t < 1 → Formed s → ⊥
-  unfolding body_of
-  body_from_lem t e z b = let h : 1 ≤ u4 s 12 = b.rule.from in omega arith
-
-  pub body_to : (t : ℕ) → t ≡ u4 s 12 → 1000000 < t → Formed s → ⊥
-  unfolding body_of
-  body_to t e z b = let h : u4 s 12 ≤ 1000000 = b.rule.to in omega arith
-
-  pub body_row0 : (UnitList (u2 s 0) (list_at s 2) → ⊥) → Formed s → ⊥
-  unfolding body_of
-  body_row0 f b = f b.rule.row0
-
-  pub body_row1 : (UnitList (u2 s 0) (list_at s 3) → ⊥) → Formed s → ⊥
-  unfolding body_of
-  body_row1 f b = f b.rule.row1
-
-  pub body_row2 : (UnitList (u2 s 0) (list_at s 4) → ⊥) → Formed s → ⊥
-  unfolding body_of
-  body_row2 f b = f b.rule.row2
-
-  pub body_first : (FirstList (list_at s 2) → ⊥) → Formed s → ⊥
-  unfolding body_of
-  body_first f b = f b.rule.first
-
-  pub body_yes : (size t : ℕ) → size ≡ list_start s 5 → length s ≡ size → t ≡ u4 s 12 → 1 ≤ t → t ≤ 1000000
-      → UnitList (u2 s 0) (list_at s 2) → UnitList (u2 s 0) (list_at s 3) → UnitList (u2 s 0) (list_at s 4) → FirstList (list_at s 2) → Formed s
-  unfolding body_of
-  body_yes size t a b c d e r0 r1 r2 f =
-      record {
-        size = b ∙ a;
-        rule = record {
-          from = (let z : 1 ≤ u4 s 12 = omega arith in z);
-          to = (let z : u4 s 12 ≤ 1000000 = omega arith in z);
-          row0 = r0;
-          row1 = r1;
-          row2 = r2;
-          first = f;
-        };
-      }
 
 -- ---- a list as it was read
 module _ (s : List ℕ) (k : ℕ) (d d' : List ℕ) (r : ℕ) (h : u2 s (2 + 2 * k) ≤ length d) (q : Written d 0 (list_at s k) (u2 s (2 + 2 * k)) r d') where

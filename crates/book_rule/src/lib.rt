@@ -12,14 +12,11 @@ use book_body::{HEAD, LENGTHS};
 const LONGEST: usize = 4096;
 
 // A list of a unit: its rule.
+#[tactic(auto, using(crate::proofs::Facts::list_unit))]
 pub fn unit_list(p: u64, l: &[u64]) -> bool
     ensures { Decides result (UnitList p l.now) }
 {
-    let n = base_lists::list_length(LONGEST, p, l);
-    if n == 0 {
-        return false;
-    }
-    true
+    base_lists::list_length(LONGEST, p, l) != 0
 }
 
 // The same of list k of a body.
@@ -29,6 +26,7 @@ fn unit_at(s: &[u8], k: usize) -> bool
 {
     let p = book_bytes::two(s, 0);
     let n = book_bytes::two(s, LENGTHS + 2 * k);
+    // Before the list is read into an array of so many.
     if n > LONGEST {
         return false;
     }
@@ -41,16 +39,7 @@ fn unit_at(s: &[u8], k: usize) -> bool
 pub fn first_list(n: usize, top: u64) -> bool
     ensures { Decides result (First n top) }
 {
-    if n < 3 {
-        return false;
-    }
-    if n % 2 != 1 {
-        return false;
-    }
-    if top != 1 {
-        return false;
-    }
-    true
+    n >= 3 && n % 2 == 1 && top == 1
 }
 
 // The same of list 2 of a body.
@@ -64,35 +53,14 @@ fn first_at(s: &[u8]) -> bool
 }
 
 // The body rule.
+#[tactic(auto, using(crate::proofs::Facts::first_some), unfolding(book_body::specs::Body::body_of))]
 pub fn body_rule(s: &[u8]) -> bool
     ensures { Decides result (Formed s.now) }
 {
-    let size = book_bytes::start(s, HEAD, LENGTHS, 5);
-    if s.len() != size {
-        return false;
-    }
-    let t = book_bytes::four(s, 12);
-    if t < 1 {
-        return false;
-    }
-    if t > 1000000 {
-        return false;
-    }
-    let r0 = unit_at(s, 2);
-    if !r0 {
-        return false;
-    }
-    let r1 = unit_at(s, 3);
-    if !r1 {
-        return false;
-    }
-    let r2 = unit_at(s, 4);
-    if !r2 {
-        return false;
-    }
-    let first = first_at(s);
-    if !first {
-        return false;
-    }
-    true
+    s.len() == book_bytes::start(s, HEAD, LENGTHS, 5)
+        && (1..=1000000).contains(&book_bytes::four(s, 12))
+        && unit_at(s, 2)
+        && unit_at(s, 3)
+        && unit_at(s, 4)
+        && first_at(s)
 }

@@ -1,21 +1,19 @@
 -- Head and lists, one piece after another, are the body; what the code knows on the way.
 use mathlib.Core.Path.{◌≡◌, refl, sym, ap, ◌∙◌, subst}
-use mathlib.Core.Logic.{◌≢◌}
 use mathlib.Core.List.{List, [], ◌++◌, append_assoc, append-nil}
-use Prim.Native.Nat.{ℕ, zero, suc, ◌+◌, ◌≤◌}
+use Prim.Native.Nat.{ℕ, ◌+◌, ◌≤◌}
 use native.Mathlib.Omega.{arith}
 use lib.ListN.{length, drop, length-append}
 use lib.Seq.{sets-eq}
 use Rattle.field_open.specs.Refusal.{Refusal}
-use Rattle.field_open.proofs.Stages.{numbered}
 use Rattle.base_lists.specs.Pieces.{Written}
 use Rattle.book_bytes.specs.Bytes.{le}
 use Rattle.book_bytes.proofs.Read.{length_words}
 use Rattle.base_lists.proofs.Puts.{written_then}
-use Rattle.base_answers.specs.Said.{passed, refused}
+use Rattle.base_answers.specs.Said.{passed}
 use Rattle.book_body.specs.Body.{Body, Rule, FieldSays, body_bytes}
 use Rattle.book_body.proofs.Field.{Fits, fits}
-use Rattle.book_write.specs.Write.{body_from, WriteTells, field, done}
+use Rattle.book_write.specs.Write.{body_from, WriteTells, done}
 use Rattle.book_pieces.specs.Code.{Head, head_bytes, Lists, list_bytes, list_long}
 use Rattle.book_pieces.proofs.Put.{PutLists}
 
@@ -63,25 +61,13 @@ done_of b d d1 d2 x r o ru m q u =
     let f : 0 + length (body_bytes b) ≡ length (body_bytes b) = omega arith in
     done o ru (omega arith) (ap passed e) (w.done ∙ sets-eq (body_bytes b) d 0 (omega arith) ∙ ap (λ (z : ℕ). body_bytes b ++ drop z d) f)
 
--- the field is refused with one of its numbers
-pub field_of : (b : Body) (d : List ℕ) (n : ℕ) → n ≢ 0 → FieldSays b n → WriteTells b d (refused n) d × ((1 ≤ n) × (n ≤ 8))
-field_of b d n h o = (field n h o refl refl, (low n h, numbered b.p b.G b.H n o))
-  where
-    low : (k : ℕ) → k ≢ 0 → 1 ≤ k
-    low zero h = absurd (h refl)
-    low (suc k) h = omega arith
-
 -- ---- what the code knows once the field and the rule are passed
 pub record Known (b : Body) : Type 0 where
   pub field : FieldSays b 0
   pub rule : Rule b
 
-pub says_none : (b : Body) (x : ℕ) → x ≡ 0 → FieldSays b x → FieldSays b 0
-says_none b x = subst (FieldSays b)
-
-pub known : (p : ℕ) (G H : List ℕ) (t : ℕ) (a b c : List ℕ) (x : ℕ) → x ≡ 0 → Refusal p G H x → Rule (body_from p [] [] t a b c) → Known (body_from p G H t a b c)
-known p G H t a b c x e o r =
-    record { field = says_none (body_from p G H t a b c) x e o; rule = rule_any p [] [] G H t a b c r }
+pub known : (p : ℕ) (G H : List ℕ) (t : ℕ) (a b c : List ℕ) → Refusal p G H 0 → Rule (body_from p [] [] t a b c) → Known (body_from p G H t a b c)
+known p G H t a b c o r = record { field = o; rule = rule_any p [] [] G H t a b c r }
 
 pub head_of : (b : Body) (d : List ℕ) → Known b → 16 + list_long b.G b.H b.E0 b.E1 b.E2 ≤ length d
     → Head d b.p (length b.G) (length b.H) (length b.E0) (length b.E1) (length b.E2) b.period

@@ -14,16 +14,16 @@ use Rattle.book_write.proofs.One.{write_unique}
 use Rattle.book_add.proofs.One.{add_unique}
 use Rattle.book_attest.proofs.One.{attest_unique}
 use Rattle.book_numbers.proofs.Same.{same_numbers}
-use Rattle.door_order.specs.declared.OrderAnswer.{OrderAnswer}
+use Rattle.door_order.specs.Answer.{OrderAnswer}
 use Rattle.door_order.proofs.Answer.{orders_unique}
-use Rattle.door_step.specs.declared.StepAnswer.{StepAnswer}
+use Rattle.door_step.specs.Answer.{StepAnswer}
 use Rattle.door_step.proofs.Answers.{answers_unique}
 use Rattle.walk_chain.proofs.Walk.{walks_unique}
 use Rattle.capi_walk.proofs.Once.{puts_unique}
-use Rattle.door_period.specs.declared.PeriodAnswer.{PeriodAnswer}
+use Rattle.door_period.specs.Order.{PeriodAnswer}
 use Rattle.door_period.proofs.Order.{from_order_unique}
 use Rattle.door_unit.proofs.Once.{makes_unique}
-use Rattle.door_compare.specs.declared.CompareAnswer.{CompareAnswer}
+use Rattle.door_compare.specs.Answer.{CompareAnswer}
 use Rattle.door_compare.proofs.Once.{compares_unique}
 use Rattle.capi.specs.Told.{Left, OrderTells, StepTells, WalkTells, FromOrderTells, UnitTells, as_number, OneFieldTells}
 use Rattle.capi.specs.Books.{CheckSays, WriteSays, AddSays, AttestSays}

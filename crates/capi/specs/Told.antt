@@ -9,18 +9,18 @@
 --   OneFieldTells        whether two pairs are of one field, as 1 or 0
 -- In proofs/Once.antt: two outcomes that meet one of them are equal. `Puts`, what a walk puts in place, is in capi_walk/specs/Puts.antt.
 use Rattle.std.specs.Prelude.{◌≡◌, ◌≢◌, Bool, true, false, List, ℕ}
-use Rattle.door_order.specs.declared.OrderAnswer.{OrderAnswer}
+use Rattle.door_order.specs.Answer.{OrderAnswer}
 use Rattle.door_order.specs.Answer.{Orders}
-use Rattle.door_step.specs.declared.StepAnswer.{StepAnswer}
+use Rattle.door_step.specs.Answer.{StepAnswer}
 use Rattle.door_step.specs.Answer.{Answers}
-use Rattle.walk_chain.specs.declared.WalkAnswer.{WalkAnswer}
+use Rattle.walk_chain.specs.Walk.{WalkAnswer}
 use Rattle.walk_chain.specs.Walk.{Walks}
 use Rattle.capi_walk.specs.Puts.{Puts}
-use Rattle.door_period.specs.declared.PeriodAnswer.{PeriodAnswer}
+use Rattle.door_period.specs.Order.{PeriodAnswer}
 use Rattle.door_period.specs.Order.{FromOrder}
-use Rattle.door_unit.specs.declared.UnitAnswer.{UnitAnswer}
+use Rattle.door_unit.specs.Unit.{UnitAnswer}
 use Rattle.door_unit.specs.Unit.{Makes}
-use Rattle.door_compare.specs.declared.CompareAnswer.{CompareAnswer}
+use Rattle.door_compare.specs.Answer.{CompareAnswer}
 use Rattle.door_compare.specs.Answer.{Compares}
 
 pub record Left (n : ℕ) (before after x : List ℕ) : Type 0 where

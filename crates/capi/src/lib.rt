@@ -19,56 +19,60 @@ ghost use Rattle.door_transfer.specs.Transfer.{Transfers};
 ghost use Rattle.capi.specs.Told.{OrderTells, StepTells, WalkTells, FromOrderTells, UnitTells, OneFieldTells};
 ghost use Rattle.capi.specs.Books.{CheckSays, WriteSays, AddSays, AttestSays};
 
+use base_answers::number_of;
+use walk_chain::End;
 use walk_record::WalkRecord;
 
 // The number of the first refusal of p, G, H; 0 where the field is accepted.
 pub fn zaminuk_refusal(p: u64, g: &[u64], h: &[u64]) -> u32
     ensures { Refusal p (unpad g.now) (unpad h.now) result }
 {
-    field_open::refusal(p, g, h)
+    number_of(field_open::refusal(p, g, h))
 }
 
 // The first coefficients of r and of w, highest power first, into two slices of equal length, at most 4,096.
 pub fn zaminuk_series(p: u64, g: &[u64], h: &[u64], r: &mut [u16], w: &mut [u16]) -> u32
     ensures { Answer p (unpad g.now) (unpad h.now) r.old w.old r.new w.new result }
 {
-    field_series::series(p, g, h, r, w)
+    number_of(field_series::series(p, g, h, r, w))
 }
 
 // The basis of the order, into a lent record.
 pub fn zaminuk_order(p: u64, g: &[u64], h: &[u64], rows: &mut [u16; 119]) -> u32
     ensures { OrderTells p (unpad g.now) (unpad h.now) rows.old result rows.new }
 {
-    let o = door_order::order(p, g, h);
-    let n = o.refusal;
-    if n == 0 {
-        let b = o.basis;
-        *rows = b;
+    match door_order::order(p, g, h) {
+        Ok(b) => {
+            *rows = b;
+            0
+        }
+        Err(k) => u32::from(k),
     }
-    n
 }
 
 // Whether the rows are the scaled reduced basis of a reduced ideal: 0, or the refusal.
 pub fn zaminuk_check(p: u64, g: &[u64], h: &[u64], rows: &[u16; 119]) -> u32
     ensures { Checks p (unpad g.now) (unpad h.now) rows.now result }
 {
-    let b = *rows;
-    door_check::check(p, g, h, b)
+    number_of(door_check::check(p, g, h, *rows))
 }
 
 // One step, in place: the next record, and the degree of the m divided by, 0 beside a refusal.
 pub fn zaminuk_step(p: u64, g: &[u64], h: &[u64], rows: &mut [u16; 119], degree: &mut u64) -> u32
     ensures { StepTells p (unpad g.now) (unpad h.now) rows.old result degree.new rows.new }
 {
-    let from = *rows;
-    let s = door_step::step(p, g, h, from);
-    let n = s.refusal;
-    *degree = s.degree;
-    if n == 0 {
-        let b = s.basis;
-        *rows = b;
+    match door_step::step(p, g, h, *rows) {
+        Ok(s) => {
+            let b = s.basis;
+            *degree = s.degree;
+            *rows = b;
+            0
+        }
+        Err(k) => {
+            *degree = 0;
+            u32::from(k)
+        }
     }
-    n
 }
 
 // A walk of at most `budget` steps, in place: the last record, also where the budget was spent (10); steps and degree sum, 0 beside the
@@ -84,20 +88,23 @@ pub fn zaminuk_walk(
 ) -> u32
     ensures { WalkTells p (unpad g.now) (unpad h.now) budget rows.old result steps.new sum.new rows.new }
 {
-    let from = *rows;
-    let o = door_walk::walk(p, g, h, from, budget);
-    let n = o.refusal;
-    let l = o.steps;
-    let d = o.sum;
-    let b = o.basis;
-    capi_walk::put(n, l, d, b, rows, steps, sum)
+    match door_walk::walk(p, g, h, *rows, budget) {
+        Ok(o) => {
+            let n = match o.end {
+                End::Closed => 0,
+                End::Spent => 10,
+            };
+            capi_walk::put(n, o.steps, o.sum, o.basis, rows, steps, sum)
+        }
+        Err(k) => capi_walk::put(u32::from(k), 0, 0, [0; 119], rows, steps, sum),
+    }
 }
 
 // At most `budget` steps from each of up to 64 walk records, in place: 0, or 14 with nothing changed.
 pub fn zaminuk_sheet(records: &mut [WalkRecord], budget: u64) -> u32
     ensures { Sheet records.old budget result records.new }
 {
-    door_sheet::sheet(records, budget)
+    number_of(door_sheet::sheet(records, budget))
 }
 
 // The walk of at most `budget` steps from the order: its refusal; period and regulator, 0 beside a refusal.
@@ -111,12 +118,18 @@ pub fn zaminuk_from_order(
 ) -> u32
     ensures { FromOrderTells p (unpad g.now) (unpad h.now) budget result period.new regulator.new }
 {
-    let o = door_period::from_order(p, g, h, budget);
-    let t = o.period;
-    let r = o.regulator;
-    *period = t.0;
-    *regulator = r.0;
-    o.refusal
+    match door_period::from_order(p, g, h, budget) {
+        Ok(c) => {
+            *period = c.period.0;
+            *regulator = c.regulator.0;
+            0
+        }
+        Err(k) => {
+            *period = 0;
+            *regulator = 0;
+            u32::from(k)
+        }
+    }
 }
 
 // The unit under a convention, 1 for E0 monic and 2 for norm 1, and its inverse into the first of two lent slices of one length; period and
@@ -135,12 +148,18 @@ pub fn zaminuk_unit_scaled(
     ensures { UnitTells convention p (unpad g.now) (unpad h.now) budget rows.old scratch.old result
         period.new regulator.new rows.new scratch.new }
 {
-    let o = door_unit::unit_scaled(p, g, h, budget, convention, rows, scratch);
-    let t = o.period;
-    let r = o.regulator;
-    *period = t.0;
-    *regulator = r.0;
-    o.refusal
+    match door_unit::unit_scaled(p, g, h, budget, convention, rows, scratch) {
+        Ok(m) => {
+            *period = m.period.0;
+            *regulator = m.regulator.0;
+            0
+        }
+        Err(k) => {
+            *period = 0;
+            *regulator = 0;
+            u32::from(k)
+        }
+    }
 }
 
 // The same under convention 1.
@@ -164,7 +183,7 @@ pub fn zaminuk_unit(
 pub fn zaminuk_rescale(p: u64, g: &[u64], h: &[u64], from: u32, to: u32, rows: &mut [u16]) -> u32
     ensures { Rescales p (unpad g.now) (unpad h.now) from to rows.old result rows.new }
 {
-    door_rescale::rescale(p, g, h, from, to, rows)
+    number_of(door_rescale::rescale(p, g, h, from, to, rows))
 }
 
 // Whether two pairs over one p are of one field: 1 or 0, and 0 beside a refusal of the first pair or of the second.
@@ -178,10 +197,16 @@ pub fn zaminuk_one_field(
 ) -> u32
     ensures { OneFieldTells p (unpad g.now) (unpad h.now) (unpad g2.now) (unpad h2.now) result same.new }
 {
-    let a = door_compare::compare(p, g, h, g2, h2);
-    let b = a.same;
-    *same = if b { 1 } else { 0 };
-    a.refusal
+    match door_compare::compare(p, g, h, g2, h2) {
+        Ok(b) => {
+            *same = if b { 1 } else { 0 };
+            0
+        }
+        Err(k) => {
+            *same = 0;
+            u32::from(k)
+        }
+    }
 }
 
 // The rows of a unit and its inverse, carried over in place from the pair G, H to a pair of the same field.
@@ -195,7 +220,7 @@ pub fn zaminuk_transfer(
 ) -> u32
     ensures { Transfers p (unpad g.now) (unpad h.now) (unpad g2.now) (unpad h2.now) rows.old result rows.new }
 {
-    door_transfer::transfer(p, g, h, g2, h2, rows)
+    number_of(door_transfer::transfer(p, g, h, g2, h2, rows))
 }
 
 // Checks a book: five numbers, the refusal, the inner reason, its entry, its other number, the result.

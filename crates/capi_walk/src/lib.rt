@@ -17,13 +17,8 @@ pub fn put(
 {
     *steps = l;
     *sum = d;
-    if n == 0 {
+    if n == 0 || n == 10 {
         *rows = b;
-        return n;
-    }
-    if n == 10 {
-        *rows = b;
-        return n;
     }
     n
 }

@@ -18,11 +18,11 @@ use Rattle.math_chain.specs.Convention.{Convention}
 use Rattle.math_chain.specs.Unit.{UnitOf}
 use Rattle.basis_record.specs.Record.{setting}
 use Rattle.basis_field.specs.First.{IsFirst}
-use Rattle.walk_chain.specs.declared.WalkAnswer.{WalkAnswer}
+use Rattle.walk_chain.specs.Walk.{WalkAnswer}
 use Rattle.walk_chain.specs.Walk as walk
-use Rattle.door_period.specs.declared.PeriodAnswer.{PeriodAnswer}
+use Rattle.door_period.specs.Order.{PeriodAnswer}
 use Rattle.door_period.specs.Order as walks
-use Rattle.door_unit.specs.declared.UnitAnswer.{UnitAnswer}
+use Rattle.door_unit.specs.Unit.{UnitAnswer}
 use Rattle.door_unit.specs.Unit as unit
 use Rattle.door_unit.proofs.Once.{refused_number}
 use Rattle.unit_finish.specs.Rows.{six}

@@ -18,20 +18,17 @@ use Rattle.basis_record.specs.Record.{setting, basis_of}
 use Rattle.basis_record.proofs.Unique.{record_unique}
 use Rattle.door_order.proofs.Answer.{orders_first}
 use Rattle.step_next.specs.Steps.{Steps}
-use Rattle.door_step.specs.declared.StepAnswer.{StepAnswer}
+use Rattle.door_step.specs.Answer.{StepAnswer}
 use Rattle.door_step.specs.Answer as stepped
 use Rattle.walk_chain.specs.Walk.{Closes}
 use Rattle.basis_field.specs.First.{IsFirst}
-use Rattle.door_period.specs.declared.PeriodAnswer.{PeriodAnswer}
-use Rattle.door_period.specs.Order.{FromOrder}
-use Rattle.door_unit.specs.declared.UnitAnswer.{UnitAnswer}
-use Rattle.door_unit.specs.Unit.{Makes}
+use Rattle.door_period.specs.Order.{PeriodAnswer, FromOrder}
+use Rattle.door_unit.specs.Unit.{UnitAnswer, Makes}
 use Rattle.book_check.proofs.Value.{book_back, book_obeys}
 use Rattle.book_check.proofs.Written.{writing_accepted, written_count, reads_back, one_value}
 use Rattle.demands.specs.Meaning.{BackFirst, UnitRows, Demand2}
 use Rattle.demands.proofs.Cases.{walk_closed, walk_reaches, told_closed, unit_made, success_unit}
-use Rattle.demands.proofs.Tabled.{order_tabled, series_tabled, check_tabled, step_tabled}
-use Rattle.demands.proofs.Tabled.{walk_tabled, period_tabled, unit_tabled, order_closing}
+use Rattle.demands.proofs.Tabled.{order_tabled, series_tabled, check_tabled, step_tabled, walk_tabled, period_tabled, unit_tabled, order_closing}
 use Rattle.demands.proofs.TakenUp.{together, together_agrees}
 
 -- ---- the step

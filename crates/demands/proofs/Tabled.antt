@@ -25,20 +25,18 @@ use Rattle.math_chain.proofs.Walk.{closing_unique}
 use Rattle.math_chain.proofs.Unit.{unit_exists, unit_degree}
 use Rattle.basis_record.specs.Record.{setting, basis_of, IsRecord}
 use Rattle.basis_field.specs.First.{IsFirst}
-use Rattle.door_order.specs.declared.OrderAnswer.{OrderAnswer}
-use Rattle.door_order.specs.Answer.{Orders}
+use Rattle.door_order.specs.Answer.{OrderAnswer, Orders}
 use Rattle.door_check.specs.Answer as checks
-use Rattle.door_step.specs.declared.StepAnswer.{StepAnswer}
+use Rattle.door_step.specs.Answer.{StepAnswer}
 use Rattle.door_step.specs.Answer as stepped
-use Rattle.walk_chain.specs.declared.WalkAnswer.{WalkAnswer}
+use Rattle.walk_chain.specs.Walk.{WalkAnswer}
 use Rattle.walk_chain.specs.Walk as walk
-use Rattle.door_period.specs.declared.PeriodAnswer.{PeriodAnswer}
+use Rattle.door_period.specs.Order.{PeriodAnswer}
 use Rattle.door_period.specs.Order as walks
-use Rattle.door_unit.specs.declared.UnitAnswer.{UnitAnswer}
+use Rattle.door_unit.specs.Unit.{UnitAnswer}
 use Rattle.door_unit.specs.Unit as unit
 use Rattle.door_unit.proofs.Once.{refused_number}
-use Rattle.demands.specs.Tabled.{FieldTabled, OrderTabled, SeriesTabled, RecordTabled}
-use Rattle.demands.specs.Tabled.{WalkTabled, PeriodTabled, UnitWithin, UnitTabled}
+use Rattle.demands.specs.Tabled.{FieldTabled, OrderTabled, SeriesTabled, RecordTabled, WalkTabled, PeriodTabled, UnitWithin, UnitTabled}
 
 pub both : {A B : Type 0} → A → B → A ↔ B
 both a b = (λ x. b, λ y. a)

@@ -8,12 +8,10 @@ use Prim.Native.Nat.{ℕ, ◌+◌}
 use Rattle.basis_record.specs.Record.{IsRecord}
 use Rattle.basis_field.specs.First.{IsFirst}
 use Rattle.basis_field.proofs.First.{first_unique}
-use Rattle.walk_chain.specs.declared.WalkAnswer.{WalkAnswer}
-use Rattle.walk_chain.specs.Walk.{Reaches, StaysOpen, Closes}
+use Rattle.walk_chain.specs.Walk.{WalkAnswer, Reaches, StaysOpen, Closes}
 use Rattle.walk_chain.proofs.Walk.{closes_unique}
 use Rattle.walk_chain.proofs.TakenUp.{reaches_then, stays_then, closes_then}
-use Rattle.door_period.specs.declared.PeriodAnswer.{PeriodAnswer}
-use Rattle.door_period.specs.Order.{FromOrder}
+use Rattle.door_period.specs.Order.{PeriodAnswer, FromOrder}
 use Rattle.demands.specs.TakenUp.{TakenUp, once, again, Together}
 use Rattle.demands.proofs.Cases.{walk_closed, walk_reaches, walk_stays, told_accepted, told_closed}
 use Rattle.demands.proofs.Tabled.{walk_tabled}

@@ -23,18 +23,13 @@ use Rattle.math_chain.specs.Chain.{Degree, Chain}
 use Rattle.math_chain.specs.Convention.{Convention, number}
 use Rattle.math_chain.specs.Unit.{UnitOf}
 use Rattle.basis_record.specs.Record.{setting, basis_of, IsRecord}
-use Rattle.door_order.specs.declared.OrderAnswer.{OrderAnswer}
-use Rattle.door_order.specs.Answer.{Orders}
+use Rattle.door_order.specs.Answer.{OrderAnswer, Orders}
 use Rattle.door_check.specs.Answer.{Checks}
 use Rattle.basis_field.specs.First.{IsFirst}
-use Rattle.door_step.specs.declared.StepAnswer.{StepAnswer}
-use Rattle.door_step.specs.Answer.{Answers}
-use Rattle.walk_chain.specs.declared.WalkAnswer.{WalkAnswer}
-use Rattle.walk_chain.specs.Walk.{Walks, Reaches, Closes}
-use Rattle.door_period.specs.declared.PeriodAnswer.{PeriodAnswer}
-use Rattle.door_period.specs.Order.{FromOrder}
-use Rattle.door_unit.specs.declared.UnitAnswer.{UnitAnswer}
-use Rattle.door_unit.specs.Unit.{Lent, Makes}
+use Rattle.door_step.specs.Answer.{StepAnswer, Answers}
+use Rattle.walk_chain.specs.Walk.{WalkAnswer, Walks, Reaches, Closes}
+use Rattle.door_period.specs.Order.{PeriodAnswer, FromOrder}
+use Rattle.door_unit.specs.Unit.{UnitAnswer, Lent, Makes}
 use Rattle.unit_finish.specs.Rows.{six}
 use Rattle.book_bytes.specs.Bytes.{Bytes}
 use Rattle.book_body.specs.Body.{Body}

@@ -7,8 +7,7 @@
 -- How to read it: `Reaches`, `StaysOpen` and `Closes` are in crate walk_chain, specs/Walk.antt. That TakenUp walks are Together is the
 -- field `taken_up` of Demand2, in specs/Meaning.antt.
 use Rattle.std.specs.Prelude.{◌≡◌, ◌⊎◌, List, ℕ, ◌+◌}
-use Rattle.walk_chain.specs.declared.WalkAnswer.{WalkAnswer}
-use Rattle.walk_chain.specs.Walk.{Walks, Reaches, StaysOpen, Closes}
+use Rattle.walk_chain.specs.Walk.{WalkAnswer, Walks, Reaches, StaysOpen, Closes}
 
 module _ (p : ℕ) (G H B : List ℕ) where
   pub data TakenUp : ℕ → ℕ → WalkAnswer → Type 0 where

@@ -8,8 +8,7 @@ use lib.ListN.{length, take, drop, get_or-append, length-append}
 use lib.Seq.{get_or-append_seam, length-take-le, take_at, drop_at}
 use Rattle.base_answers.specs.Said.{Said, passed, refused}
 use Rattle.base_answers.proofs.Said.{number_of, result_of}
-use Rattle.door_unit.specs.declared.UnitAnswer.{UnitAnswer}
-use Rattle.door_unit.specs.Unit.{Makes}
+use Rattle.door_unit.specs.Unit.{UnitAnswer, Makes}
 use Rattle.book_bytes.specs.Bytes.{Bytes}
 use Rattle.book_bytes.proofs.Read.{bytes_drop}
 use Rattle.book_body.specs.Body.{Body, Rule, FieldSays, list_at, body_bytes, body_of, Finished}

@@ -4,6 +4,7 @@
 --   add_kept parse_kept         the lent slices; of a list and of a body written: list_kept (book_body), write-kept (book_write)
 --   answer_kept                 of a slice into which an answer goes: what stands before it, and its length
 --   pass_kept                   everything, where the slice is too short for an answer
+use Rattle.std.specs.Prelude.{Option, Some, None}
 use mathlib.Core.Path.{◌≡◌, refl, ap, ◌∙◌}
 use mathlib.Core.Logic.{◌≢◌}
 use mathlib.Core.List.{List}
@@ -14,7 +15,7 @@ use Rattle.base_lists.proofs.Puts.{take_put, placed_same}
 use Rattle.base_answers.specs.Said.{Said}
 use Rattle.base_answers.proofs.Said.{number_of}
 use Rattle.field_open.proofs.Door.{door_out}
-use Rattle.door_unit.specs.declared.UnitAnswer.{UnitAnswer}
+use Rattle.door_unit.specs.Unit.{UnitAnswer}
 use Rattle.door_unit.specs.Unit as unit
 use Rattle.door_compare.proofs.Doors.{doors_out}
 use Rattle.door_transfer.specs.Transfer as transfer
@@ -23,8 +24,7 @@ use Rattle.walk_record.specs.declared.WalkRecord.{WalkRecord}
 use Rattle.door_sheet.specs.Sheet as sheet
 use Rattle.book_add.specs.Add as add
 use Rattle.text_read.specs.Tells.{ParseTells}
-use Rattle.text_read.specs.declared.Parsed.{Parsed}
-use Rattle.text_read.specs.declared.Parsed.TheVariants.{Read, Malformed}
+use Rattle.text_read.specs.declared.Line.{Line}
 use Rattle.lister.specs.Listing as lister
 use Rattle.lister.specs.declared.Going.{Going}
 use Rattle.demands_calls.specs.Numbers.{parse_says}
@@ -67,9 +67,9 @@ add_kept (add.short l a t u o e q) f = q
 add_kept (add.added l a t u h k e q) f = absurd (f (number_of e))
 
 -- ---- lines
-pub parse_kept : (line g h : List ℕ) (r : Parsed) (g' h' : List ℕ) → ParseTells line g h r g' h' → parse_says r ≢ 0 → (g' ≡ g) × (h' ≡ h)
-parse_kept line g h (Read l) g' h' t f = absurd (f refl)
-parse_kept line g h Malformed g' h' t f = (t.1, t.2)
+pub parse_kept : (line g h : List ℕ) (r : Option Line) (g' h' : List ℕ) → ParseTells line g h r g' h' → parse_says r ≢ 0 → (g' ≡ g) × (h' ≡ h)
+parse_kept line g h (Some l) g' h' t f = absurd (f refl)
+parse_kept line g h None g' h' t f = (t.1, t.2)
 
 pub answer_kept : {line d : List ℕ} {at r : ℕ} {d' : List ℕ} → lister.Answer line d at r d' → (take at d' ≡ take at d) × (length d' ≡ length d)
 answer_kept {line} {d} {at} h = (ap (take at) h.put.done ∙ take_put d at at h.text (omega arith), placed_same h.put)

@@ -1,5 +1,6 @@
 -- Which numbers come with an answer: what each contract's cases say.
 --   numbered    an answer's number is one of its row
+use Rattle.std.specs.Prelude.{Option, Some, None}
 use mathlib.Core.Path.{◌≡◌, refl, sym, ap, ◌∙◌, subst}
 use mathlib.Core.Logic.{◌≢◌, ◌⊎◌, inl, inr}
 use mathlib.Core.List.{List, [], ◌∷◌, ◌++◌}
@@ -10,25 +11,24 @@ use lib.ListN.{length, get_or, take, drop, length-append, length-replicate, get_
 use lib.Seq.{take_at}
 use Rattle.base_answers.specs.Said.{Said}
 use Rattle.field_open.specs.Padding.{unpad}
-use Rattle.field_open.specs.declared.FieldAnswer.{FieldAnswer}
+use Rattle.field_open.specs.Opening.{FieldAnswer}
 use Rattle.field_open.proofs.Stages as stages
 use Rattle.field_open.proofs.Door.{door_out}
 use Rattle.field_series.specs.Answer as ser
-use Rattle.field_series.specs.declared.OpenedAnswer.{OpenedAnswer}
-use Rattle.door_order.specs.declared.OrderAnswer.{OrderAnswer}
-use Rattle.door_order.specs.Answer.{Orders}
+use Rattle.field_series.specs.Answer.{OpenedAnswer}
+use Rattle.door_order.specs.Answer.{OrderAnswer, Orders}
 use Rattle.door_check.specs.Answer as checks
-use Rattle.door_step.specs.declared.StepAnswer.{StepAnswer}
+use Rattle.door_step.specs.Answer.{StepAnswer}
 use Rattle.door_step.specs.Answer as stepped
-use Rattle.walk_chain.specs.declared.WalkAnswer.{WalkAnswer}
+use Rattle.walk_chain.specs.Walk.{WalkAnswer}
 use Rattle.walk_chain.specs.Walk as walks
-use Rattle.door_period.specs.declared.PeriodAnswer.{PeriodAnswer}
+use Rattle.door_period.specs.Order.{PeriodAnswer}
 use Rattle.door_period.specs.Order as told
 use Rattle.math_chain.specs.Convention.{e0_monic}
-use Rattle.door_unit.specs.declared.UnitAnswer.{UnitAnswer}
+use Rattle.door_unit.specs.Unit.{UnitAnswer}
 use Rattle.door_unit.specs.Unit as made
 use Rattle.door_unit.proofs.Once.{refused_number}
-use Rattle.door_compare.specs.declared.CompareAnswer.{CompareAnswer}
+use Rattle.door_compare.specs.Answer.{CompareAnswer}
 use Rattle.door_compare.specs.Answer as compared
 use Rattle.door_compare.proofs.Doors.{doors_out}
 use Rattle.door_transfer.specs.Transfer as carried
@@ -54,17 +54,13 @@ use Rattle.text_number.proofs.Values.{value_text}
 use Rattle.text_number.proofs.Inverse.{text_numeral}
 use Rattle.text_number.specs.Grammar.{value}
 use Rattle.text_read.proofs.Writings.{reads_below}
-use Rattle.text_read.specs.declared.Parsed.TheVariants.{Read, Malformed}
 use Rattle.base_lists.specs.Pieces.{cut}
 use Rattle.base_lists.specs.Coefficients.{trim}
 use Rattle.lister_rows.specs.Text.{rows_text}
 use Rattle.lister_print.specs.Text.{unit_text, made_text}
 use Rattle.lister_print.proofs.Prints.{made_unit, made_refused}
 use Rattle.lister.specs.Listing as listing
-use Rattle.demands_calls.specs.Numbers.{Numbered, Says, refuses, answers, Gives}
-use Rattle.demands_calls.specs.Numbers.{refusal, open_field, series, open_series, order, check, step, walk, from_the_order, unit, rescale, sheet, advance, pairs, compare, transfer}
-use Rattle.demands_calls.specs.Numbers.{book, ask, attest, list, write, add, parse, line, end}
-use Rattle.demands_calls.specs.Numbers.{order_c, step_c, walk_c, from_order_c, unit_c, one_field_c, book_c, ask_c, attest_c, begin_c, prime_c, period_c, list_c, rows_c, write_c, c_added}
+use Rattle.demands_calls.specs.Numbers.{Numbered, Says, refuses, answers, Gives, refusal, open_field, series, open_series, order, check, step, walk, from_the_order, unit, rescale, sheet, advance, pairs, compare, transfer, book, ask, attest, list, write, add, parse, line, end, order_c, step_c, walk_c, from_order_c, unit_c, one_field_c, book_c, ask_c, attest_c, begin_c, prime_c, period_c, list_c, rows_c, write_c, c_added}
 use Rattle.base_answers.proofs.Said.{number_of}
 
 -- ---- the book
@@ -343,8 +339,8 @@ numbered (attest x h) = attest_numbered h
 numbered (list x h) = list_numbered h
 numbered (write x h) = write_numbered h
 numbered (add x h) = add_numbered h
-numbered (parse s g h g' h' (Read l) t) = zero_of refl
-numbered (parse s g h g' h' Malformed t) = inr (inl refl)
+numbered (parse s g h g' h' (Some l) t) = zero_of refl
+numbered (parse s g h g' h' None t) = inr (inl refl)
 numbered (line h s) = line_numbered h s
 numbered (end m s) = end_numbered m s
 numbered (order_c t) = subst (Numbered 8 []) (sym t.number) (order_numbered t.o t.orders)

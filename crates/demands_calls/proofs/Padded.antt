@@ -10,10 +10,9 @@ use Rattle.base_lists.specs.Pieces.{cut}
 use Rattle.base_lists.specs.Coefficients.{trim}
 use Rattle.base_lists.proofs.Paddings as lists
 use Rattle.base_answers.specs.Said.{Said}
-use Rattle.field_open.specs.Refusal.{Degree, Accepted}
+use Rattle.field_open.specs.Refusal.{Degree, Accepted, Refusal}
 use Rattle.field_open.specs.Padding.{entries, unpad}
-use Rattle.field_open.specs.Opening.{pad, Opens}
-use Rattle.field_open.specs.declared.FieldAnswer.{FieldAnswer}
+use Rattle.field_open.specs.Opening.{pad, Opens, FieldAnswer}
 use Rattle.field_open.proofs.Accept.{accepted}
 use Rattle.field_open.proofs.Opening.{opens_held}
 use Rattle.field_open.proofs.Door.{door_out}
@@ -24,8 +23,7 @@ use Rattle.door_check.specs.Answer.{Checks}
 use Rattle.door_step.specs.Answer.{Answers}
 use Rattle.walk_chain.specs.Walk.{Walks}
 use Rattle.door_period.specs.Order.{FromOrder}
-use Rattle.door_unit.specs.declared.UnitAnswer.{UnitAnswer}
-use Rattle.door_unit.specs.Unit.{Makes}
+use Rattle.door_unit.specs.Unit.{UnitAnswer, Makes}
 use Rattle.door_unit.proofs.Once.{refused_number}
 use Rattle.door_compare.specs.Answer.{Refusals, Compares}
 use Rattle.door_transfer.specs.Transfer.{Transfers}
@@ -41,7 +39,6 @@ use Rattle.lister_rows.specs.Text.{rows_text}
 use Rattle.lister_print.specs.Text.{unit_text}
 use Rattle.lister.specs.Listing.{Lists, malformed, read}
 use Rattle.lister.proofs.Once.{read_unique}
-use Rattle.field_open.specs.Refusal.{Refusal}
 use Rattle.demands_calls.specs.Fixed.{Demand1}
 use Rattle.demands_calls.specs.Padded.{Stand, PaddedLists}
 use Rattle.demands_calls.proofs.Demand1.{demand_1}

@@ -48,7 +48,7 @@ use Rattle.field_open.proofs.Stages.{refusal_unique}
 use Rattle.field_open.proofs.Accept.{accepted_none, with_prime}
 use Rattle.field_open.proofs.Door.{door_out}
 use Rattle.basis_record.specs.Record.{setting}
-use Rattle.door_unit.specs.declared.UnitAnswer.{UnitAnswer}
+use Rattle.door_unit.specs.Unit.{UnitAnswer}
 use Rattle.door_unit.specs.Unit as unit
 use Rattle.door_unit.proofs.Once.{refused_number}
 use Rattle.unit_finish.specs.Rows.{six, Holds}

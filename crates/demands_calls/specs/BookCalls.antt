@@ -14,8 +14,7 @@ use Rattle.std.specs.Prelude.{◌≡◌, ◌⊎◌, List, ◌++◌, ℕ, zero, s
 use Rattle.base_lists.specs.Pieces.{cut}
 use Rattle.base_lists.specs.Coefficients.{trim}
 use Rattle.base_answers.specs.Said.{Said, passed, refused}
-use Rattle.door_unit.specs.declared.UnitAnswer.{UnitAnswer}
-use Rattle.door_unit.specs.Unit.{Makes}
+use Rattle.door_unit.specs.Unit.{UnitAnswer, Makes}
 use Rattle.book_bytes.specs.Bytes.{Bytes}
 use Rattle.book_body.specs.Body.{Body, Rule, FieldSays, body_bytes, body_of, Finished}
 use Rattle.book_body.specs.Code.{ListTells}

@@ -8,26 +8,19 @@
 -- answer is Padded.antt. The functions for C and Rust have a record of their own, `FromC` (FromC.antt). docs/ENTRY-POINTS.md lists the
 -- fields by function.
 -- The theorem `demand_1` is in proofs/Demand1.antt.
-use Rattle.std.specs.Prelude.{◌≡◌, ◌≢◌, List, ℕ, ◌<◌, length, take}
+use Rattle.std.specs.Prelude.{◌≡◌, ◌≢◌, Option, List, ℕ, ◌<◌, length, take}
 use Rattle.base_answers.specs.Said.{Said}
 use Rattle.field_open.specs.Refusal.{Refusal}
-use Rattle.field_open.specs.Opening.{Opens}
-use Rattle.field_open.specs.declared.FieldAnswer.{FieldAnswer}
+use Rattle.field_open.specs.Opening.{Opens, FieldAnswer}
 use Rattle.field_series.specs.Answer as series
-use Rattle.field_series.specs.declared.OpenedAnswer.{OpenedAnswer}
-use Rattle.door_order.specs.declared.OrderAnswer.{OrderAnswer}
-use Rattle.door_order.specs.Answer.{Orders}
+use Rattle.field_series.specs.Answer.{OpenedAnswer}
+use Rattle.door_order.specs.Answer.{OrderAnswer, Orders}
 use Rattle.door_check.specs.Answer.{Checks}
-use Rattle.door_step.specs.declared.StepAnswer.{StepAnswer}
-use Rattle.door_step.specs.Answer.{Answers}
-use Rattle.walk_chain.specs.declared.WalkAnswer.{WalkAnswer}
-use Rattle.walk_chain.specs.Walk.{Walks}
-use Rattle.door_period.specs.declared.PeriodAnswer.{PeriodAnswer}
-use Rattle.door_period.specs.Order.{FromOrder}
-use Rattle.door_unit.specs.declared.UnitAnswer.{UnitAnswer}
-use Rattle.door_unit.specs.Unit.{Makes}
-use Rattle.door_compare.specs.declared.CompareAnswer.{CompareAnswer}
-use Rattle.door_compare.specs.Answer.{Refusals, Compares}
+use Rattle.door_step.specs.Answer.{StepAnswer, Answers}
+use Rattle.walk_chain.specs.Walk.{WalkAnswer, Walks}
+use Rattle.door_period.specs.Order.{PeriodAnswer, FromOrder}
+use Rattle.door_unit.specs.Unit.{UnitAnswer, Makes}
+use Rattle.door_compare.specs.Answer.{CompareAnswer, Refusals, Compares}
 use Rattle.door_transfer.specs.Transfer.{Transfers}
 use Rattle.door_rescale.specs.Rescale.{Rescales}
 use Rattle.walk_record.specs.declared.WalkRecord.{WalkRecord}
@@ -43,7 +36,7 @@ use Rattle.text_cut.specs.Tells.{CutTells}
 use Rattle.text_cut.specs.Feed.{Output}
 use Rattle.text_cut.specs.declared.Step.{Step}
 use Rattle.text_read.specs.Tells.{ParseTells}
-use Rattle.text_read.specs.declared.Parsed.{Parsed}
+use Rattle.text_read.specs.declared.Line.{Line}
 use Rattle.text_end.specs.Ends.{Ends}
 use Rattle.lister.specs.Listing as lister
 use Rattle.lister.specs.declared.Going.{Going}
@@ -72,7 +65,7 @@ pub record Demand1 : Type 0 where
   pub write_kept : {b : Body} {d d' : List ℕ} {x : Said} → WriteTells b d x d' → x.number ≢ 0 → d' ≡ d
   pub add_kept : {n : ℕ} {d b d' : List ℕ} {x : Said} → AddTells d n b x d' → x.number ≢ 0 → d' ≡ d
   pub parse_kept :
-      (line g h : List ℕ) (r : Parsed) (g' h' : List ℕ) →
+      (line g h : List ℕ) (r : Option Line) (g' h' : List ℕ) →
       ParseTells line g h r g' h' → parse_says r ≢ 0 →
       (g' ≡ g) × (h' ≡ h)
   -- the answer to a line goes into the slice from the place `at` on: what stands before it stays, and so does the slice's length
@@ -147,7 +140,7 @@ pub record Demand1 : Type 0 where
       (x ≡ y) × (e ≡ f)
   -- a line of text; what goes through an input piece by piece; the whole output to an input
   pub parse_fixed :
-      (line g h : List ℕ) (r q : Parsed) (g₁ h₁ g₂ h₂ : List ℕ) →
+      (line g h : List ℕ) (r q : Option Line) (g₁ h₁ g₂ h₂ : List ℕ) →
       ParseTells line g h r g₁ h₁ → ParseTells line g h q g₂ h₂ →
       (r ≡ q) × (g₁ ≡ g₂) × (h₁ ≡ h₂)
   pub line_fixed : {line t u : List ℕ} → lister.Lists line t → lister.Lists line u → t ≡ u

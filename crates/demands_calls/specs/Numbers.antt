@@ -20,26 +20,18 @@
 --   door_sheet::sheet                       0, 14               door_record::advance, in the state  0 to 9, 14, 100
 -- The other functions for C and Rust (crate capi) give the numbers of the functions behind them.
 -- That every such n is one of the row's numbers is `numbered` of `demand_1`.
-use Rattle.std.specs.Prelude.{◌≡◌, ◌⊎◌, List, [], ◌∷◌, ℕ, ◌≤◌, get_or}
+use Rattle.std.specs.Prelude.{◌≡◌, ◌⊎◌, Option, Some, None, List, [], ◌∷◌, ℕ, ◌≤◌, get_or}
 use Rattle.base_answers.specs.Said.{Said}
 use Rattle.field_open.specs.Refusal.{Refusal}
-use Rattle.field_open.specs.Opening.{Opens}
-use Rattle.field_open.specs.declared.FieldAnswer.{FieldAnswer}
-use Rattle.field_series.specs.Answer.{Answer, Expands}
-use Rattle.field_series.specs.declared.OpenedAnswer.{OpenedAnswer}
-use Rattle.door_order.specs.declared.OrderAnswer.{OrderAnswer}
-use Rattle.door_order.specs.Answer.{Orders}
+use Rattle.field_open.specs.Opening.{Opens, FieldAnswer}
+use Rattle.field_series.specs.Answer.{Answer, Expands, OpenedAnswer}
+use Rattle.door_order.specs.Answer.{OrderAnswer, Orders}
 use Rattle.door_check.specs.Answer.{Checks}
-use Rattle.door_step.specs.declared.StepAnswer.{StepAnswer}
-use Rattle.door_step.specs.Answer.{Answers}
-use Rattle.walk_chain.specs.declared.WalkAnswer.{WalkAnswer}
-use Rattle.walk_chain.specs.Walk.{Walks}
-use Rattle.door_period.specs.declared.PeriodAnswer.{PeriodAnswer}
-use Rattle.door_period.specs.Order.{FromOrder}
-use Rattle.door_unit.specs.declared.UnitAnswer.{UnitAnswer}
-use Rattle.door_unit.specs.Unit.{Makes}
-use Rattle.door_compare.specs.declared.CompareAnswer.{CompareAnswer}
-use Rattle.door_compare.specs.Answer.{Refusals, Compares}
+use Rattle.door_step.specs.Answer.{StepAnswer, Answers}
+use Rattle.walk_chain.specs.Walk.{WalkAnswer, Walks}
+use Rattle.door_period.specs.Order.{PeriodAnswer, FromOrder}
+use Rattle.door_unit.specs.Unit.{UnitAnswer, Makes}
+use Rattle.door_compare.specs.Answer.{CompareAnswer, Refusals, Compares}
 use Rattle.door_transfer.specs.Transfer.{Transfers}
 use Rattle.door_rescale.specs.Rescale.{Rescales}
 use Rattle.walk_record.specs.declared.WalkRecord.{WalkRecord}
@@ -60,8 +52,7 @@ use Rattle.capi.specs.Books.{CheckSays, WriteSays, AddSays, AttestSays}
 use Rattle.text_put.specs.Print.{refused_text}
 use Rattle.text_cut.specs.Feed.{end_text}
 use Rattle.text_read.specs.Tells.{ParseTells}
-use Rattle.text_read.specs.declared.Parsed.{Parsed}
-use Rattle.text_read.specs.declared.Parsed.TheVariants.{Read, Malformed}
+use Rattle.text_read.specs.declared.Line.{Line}
 use Rattle.lister.specs.Listing.{Lists}
 
 abbrev pub Among : List ℕ → ℕ → Type 0
@@ -71,9 +62,9 @@ Among (m ∷ l) n = (n ≡ m) ⊎ Among l n
 abbrev pub Numbered : ℕ → List ℕ → ℕ → Type 0
 Numbered k l n = (n ≤ k) ⊎ Among l n
 
-abbrev pub parse_says : Parsed → ℕ
-parse_says (Read l) = 0
-parse_says Malformed = 12
+abbrev pub parse_says : Option Line → ℕ
+parse_says (Some l) = 0
+parse_says None = 12
 
 pub data Says (t : List ℕ) : ℕ → Type 0 where
   refuses : (n : ℕ) → t ≡ refused_text n → Says t n
@@ -108,7 +99,7 @@ pub data Gives : ℕ → List ℕ → ℕ → Type 0 where
   write : {b : Body} {d d' : List ℕ} (x : Said) → WriteTells b d x d' → Gives 8 (11 ∷ 13 ∷ []) x.number
   add : {n : ℕ} {d b d' : List ℕ} (x : Said) → AddTells d n b x d' → Gives 0 (11 ∷ 13 ∷ 14 ∷ 15 ∷ []) x.number
   -- ---- a line of text
-  parse : (line g h g' h' : List ℕ) (r : Parsed) → ParseTells line g h r g' h' → Gives 0 (12 ∷ []) (parse_says r)
+  parse : (line g h g' h' : List ℕ) (r : Option Line) → ParseTells line g h r g' h' → Gives 0 (12 ∷ []) (parse_says r)
   line : {s t : List ℕ} {n : ℕ} → Lists s t → Says t n → Gives 8 (10 ∷ 11 ∷ 12 ∷ []) n
   end : (m : ℕ) {n : ℕ} → Says (end_text m) n → Gives 0 (12 ∷ []) n
   -- ---- the functions for C and Rust: what they return, or the first of the five numbers

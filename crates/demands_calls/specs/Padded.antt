@@ -14,23 +14,16 @@ use Rattle.base_lists.specs.Coefficients.{trim}
 use Rattle.base_answers.specs.Said.{Said}
 use Rattle.field_open.specs.Refusal.{Degree, Fault3, Refusal, Accepted}
 use Rattle.field_open.specs.Padding.{entries, unpad, Padded, NoPadded}
-use Rattle.field_open.specs.Opening.{pad, Opens}
-use Rattle.field_open.specs.declared.FieldAnswer.{FieldAnswer}
+use Rattle.field_open.specs.Opening.{pad, Opens, FieldAnswer}
 use Rattle.field_series.specs.Answer as series
-use Rattle.field_series.specs.declared.OpenedAnswer.{OpenedAnswer}
-use Rattle.door_order.specs.declared.OrderAnswer.{OrderAnswer}
-use Rattle.door_order.specs.Answer.{Orders}
+use Rattle.field_series.specs.Answer.{OpenedAnswer}
+use Rattle.door_order.specs.Answer.{OrderAnswer, Orders}
 use Rattle.door_check.specs.Answer.{Checks}
-use Rattle.door_step.specs.declared.StepAnswer.{StepAnswer}
-use Rattle.door_step.specs.Answer.{Answers}
-use Rattle.walk_chain.specs.declared.WalkAnswer.{WalkAnswer}
-use Rattle.walk_chain.specs.Walk.{Walks}
-use Rattle.door_period.specs.declared.PeriodAnswer.{PeriodAnswer}
-use Rattle.door_period.specs.Order.{FromOrder}
-use Rattle.door_unit.specs.declared.UnitAnswer.{UnitAnswer}
-use Rattle.door_unit.specs.Unit.{Makes}
-use Rattle.door_compare.specs.declared.CompareAnswer.{CompareAnswer}
-use Rattle.door_compare.specs.Answer.{Refusals, Compares}
+use Rattle.door_step.specs.Answer.{StepAnswer, Answers}
+use Rattle.walk_chain.specs.Walk.{WalkAnswer, Walks}
+use Rattle.door_period.specs.Order.{PeriodAnswer, FromOrder}
+use Rattle.door_unit.specs.Unit.{UnitAnswer, Makes}
+use Rattle.door_compare.specs.Answer.{CompareAnswer, Refusals, Compares}
 use Rattle.door_transfer.specs.Transfer.{Transfers}
 use Rattle.door_rescale.specs.Rescale.{Rescales}
 use Rattle.book_body.specs.Body.{Body, FieldSays, body_of}

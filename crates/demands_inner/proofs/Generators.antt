@@ -22,7 +22,8 @@ use Rattle.math_ideals.specs.Ideal.{Basis, Ideal}
 use Rattle.math_chain.specs.Parts.{Parts, Cut, x0, x2, y0, y2, base}
 use Rattle.math_chain.proofs.Parts.{parts_unique, cut_greatest}
 use Rattle.basis_record.specs.Record.{setting}
-use Rattle.basis_record.specs.Seven.{Seven, rows_of}
+use Rattle.basis_record.specs.Seven.{rows_of}
+use Rattle.basis_record.specs.declared.Seven.{Seven}
 use Rattle.step_coordinates.specs.Turns.{GeneratorsAsks}
 use Rattle.step_divide.specs.Generated.{Generators, AreGenerators, Divided}
 use Rattle.step_divide.specs.declared.Cuts.{Cuts}

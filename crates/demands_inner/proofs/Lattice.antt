@@ -20,7 +20,8 @@ use Rattle.math_rows.specs.Made.{reading}
 use Rattle.poly_rows.specs.Polynomial.{polynomial}
 use Rattle.poly_content.specs.Common.{Four, Without}
 use Rattle.base_answers.proofs.Tests.{decides_unique}
-use Rattle.basis_record.specs.Seven.{Seven, Three}
+use Rattle.basis_record.specs.Seven.{Three}
+use Rattle.basis_record.specs.declared.Seven.{Seven}
 use Rattle.basis_lattice.specs.Coordinates.{LengthsOfAsks, Found, CoordinatesAsks, Coordinates}
 use Rattle.basis_lattice.specs.Lattice.{MemberAsks, Member, MemberAt}
 use Rattle.basis_lattice.specs.declared.Lengths.{Lengths}

@@ -13,8 +13,7 @@ use Rattle.step_next.specs.Steps.{Advanced}
 use Rattle.step_next.specs.declared.StepTaken.{StepTaken}
 use Rattle.step_next.proofs.Once.{steps_unique}
 use Rattle.step_next.specs.InField.{StepInFieldAsks, StepInFieldGives}
-use Rattle.walk_chain.specs.declared.WalkAnswer.{WalkAnswer}
-use Rattle.walk_chain.specs.Walk.{Closed, Spent}
+use Rattle.walk_chain.specs.Walk.{WalkAnswer, Closed, Spent}
 use Rattle.walk_chain.specs.Going.{WalkOnRowsAsks, Gone}
 use Rattle.walk_chain.proofs.Walk.{reaches_unique, closes_unique, not_both}
 use Rattle.walk_chain.specs.InField.{WalkInFieldAsks, WalkInFieldGives}

@@ -5,7 +5,7 @@ use mathlib.Core.Bool.{Bool}
 use mathlib.Core.List.{List}
 use Prim.Native.Nat.{ℕ}
 use Rattle.num_mod.specs.declared.Modulus.{Modulus}
-use Rattle.basis_record.specs.Seven.{Seven}
+use Rattle.basis_record.specs.declared.Seven.{Seven}
 use Rattle.basis_closed.specs.Closed.{ClosedUnderRAndWAsks, Under}
 use Rattle.basis_closed.proofs.Closing as closing
 use Rattle.field_series.specs.declared.OpenedField.{OpenedField}

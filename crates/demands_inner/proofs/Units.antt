@@ -2,6 +2,7 @@
 --   grow_unique            the two series
 --   make_unique            the six rows of the unit, and the scratch
 --   no_convention_unique   whether a number names no convention
+--   convention_of_unique   the convention that it names
 --   factor_unique          the constant that scales a unit by a convention
 --   turns_unique           the six rows so scaled
 --   is_unit_unique         whether six rows hold a unit of positive degree and its inverse
@@ -9,6 +10,9 @@ use mathlib.Core.Path.{◌≡◌, refl, sym, ap, ◌∙◌}
 use mathlib.Core.Bool.{Bool, true, false}
 use mathlib.Core.List.{List}
 use Prim.Native.Nat.{ℕ}
+use native.Mathlib.Omega.{arith}
+use Rattle.std.specs.Prelude.{Option, Some, None, IfSome}
+use Rattle.std.specs.Option.{is_none}
 use Rattle.base_answers.proofs.Tests.{decides_unique}
 use Rattle.math_rows.specs.Made.{reading}
 use Rattle.math_rows.proofs.Unique.{cast_inj, const_inj}
@@ -22,7 +26,9 @@ use Rattle.unit_make.specs.Making.{MakeAsks, Making}
 use Rattle.unit_finish.specs.Rows.{six, HoldsUnit}
 use Rattle.unit_finish.proofs.Rows.{rows_unique}
 use Rattle.unit_scale.proofs.Invertible.{constant_unit}
-use Rattle.unit_scale.specs.Scale.{NoConvention, constant, FactorAsks, Factors, TurnAsks, Turns}
+use Rattle.unit_scale.specs.declared.Convention.{Convention as Way}
+use Rattle.unit_scale.specs.declared.Convention.TheVariants.{Monic, Norm}
+use Rattle.unit_scale.specs.Scale.{meant, numbered, NoConvention, constant, FactorAsks, Factors, TurnAsks, Turns}
 use Rattle.unit_scale.proofs.Turned.{turned_unique}
 use Rattle.unit_check.specs.Check.{IsUnitAsks, IsUnitGives}
 
@@ -39,6 +45,16 @@ no_convention_unique n true true h k = refl
 no_convention_unique n true false h (way, e) = absurd (h way e)
 no_convention_unique n false true (way, e) k = absurd (k way e)
 no_convention_unique n false false h k = refl
+
+pub convention_of_unique : (n : ℕ) (r s : Option Way) → IfSome r (λ w. numbered w ≡ n) → NoConvention n (is_none r)
+    → IfSome s (λ w. numbered w ≡ n) → NoConvention n (is_none s) → r ≡ s
+convention_of_unique n None None a h b k = refl
+convention_of_unique n None (Some w) a h b k = absurd (h (meant w) b)
+convention_of_unique n (Some w) None a h b k = absurd (k (meant w) a)
+convention_of_unique n (Some Monic) (Some Monic) a h b k = refl
+convention_of_unique n (Some Monic) (Some Norm) a h b k = absurd (omega (arith, a, b))
+convention_of_unique n (Some Norm) (Some Monic) a h b k = absurd (omega (arith, a, b))
+convention_of_unique n (Some Norm) (Some Norm) a h b k = refl
 
 -- one constant scales
 pub factor_unique : {f : OpenedField} {no c : ℕ} {rows : List ℕ} (s s' : ℕ) → FactorAsks f no c rows → Factors f no c rows s → Factors f no c rows s' → s ≡ s'

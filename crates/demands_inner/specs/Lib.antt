@@ -3,11 +3,11 @@
 --   num_mod        add_product, mod p: add_product_unique (Poly)
 --   num_power      inverse, cube_root: inverse_unique, cube_root_unique (num_power/proofs/Unique)
 --   num_prime      is_prime: is_prime_unique (Poly)
---   base_lists     list_length: list_unique (base_lists/proofs/Coefs); unpadded: unpadded_unique (base_lists/proofs/Paddings)
+--   base_lists     size: size_unique (Poly); list_length: list_unique (base_lists/proofs/Coefs); unpadded: unpadded_unique (base_lists/proofs/Paddings)
 --   base_answers   over_budget, over_longest, no_six_rows: over_unique, no_six_unique (base_answers/proofs/Limits)
 --   poly_rows      size_from, size: size_unique; from_list: from_list_unique; minus, mul: minus_unique, mul_unique (Poly)
 --   poly_cross     scale_in, cross_in: scale_in_unique, cross_in_unique (Poly)
---   poly_euclid    gcd, up to a constant: gcd_unique (Poly); euclid serves gcd and the tests alone: its divisor is theirs
+--   poly_euclid    gcd, up to a constant: gcd_unique (Poly); euclid serves gcd and the tests alone: its divisor is theirs, and `terms` reads it
 --   poly_factors   squarefree, coprime: squarefree_unique, coprime_unique (Poly); both_free: free_unique (poly_factors/proofs/Free)
 --   poly_sums      gather, settle serve `mix_in` and `both_in` alone: mix_in_unique, both_in_unique are of the whole
 --   poly_lent      mix_in, both_in, times_in, det_in: mix_in_unique, both_in_unique, times_in_unique, det_in_unique (Sized)
@@ -29,7 +29,7 @@
 --   pair_factors   factors: law_unique (pair_laws/proofs/Laws)
 --   pair_rows      exchange, multiplied: exchanged_unique, multiplied_unique (door_transfer/proofs/Inner)
 --   pair_carry     carry, carry_swapped: carried_unique, carried_swapped_unique (door_transfer/proofs/Inner)
---   basis_record   load, stored: load_unique, stored_unique (Bases)
+--   basis_record   unpacked, which is `load` seven times; load, stored: load_unique, stored_unique (Bases)
 --   basis_parts    floor, floor_in: part_unique (Reduction); digit serves `floor_in` and `top_of` alone: the theorems are theirs
 --   basis_top      top_of: top_of_unique; lead_of: lead_of_unique (Reduction)
 --   basis_clear    canceled, clear_y serve `reduced` alone: reduced_unique is of the whole
@@ -37,7 +37,7 @@
 --   basis_store    factors_of, filled serve `reduced_basis` alone: reduced_basis_unique is of the whole
 --   basis_finish   finished serves `reduced_basis` alone: reduced_basis_unique is of the whole
 --   basis_scale    reduced_basis, up to the order of two lent elements: reduced_basis_unique; order: order_unique (Bases)
---   basis_lattice  lengths_of, coordinates, member: lengths_of_unique, coordinates_unique, member_unique (Lattice)
+--   basis_lattice  lent_basis: four equations; lengths_of, coordinates, member: lengths_of_unique, coordinates_unique, member_unique (Lattice)
 --   basis_bounds   below, ordered: decides_unique (base_answers/proofs/Tests)
 --   basis_shape    rows_fit, shape: decides_unique (base_answers/proofs/Tests)
 --   basis_coprime  no_common_factor: alone_unique (basis_coprime/proofs/Coprime)
@@ -57,9 +57,10 @@
 --   unit_norm      norm: norm_unique (unit_norm/proofs/Norms)
 --   unit_finish    finished: finished_unique (unit_make/proofs/Whole)
 --   unit_make      make: make_unique (Units)
---   unit_scale     no_convention, factor, turn: no_convention_unique, factor_unique, turns_unique (Units)
+--   unit_scale     convention_of, factor, turn: convention_of_unique, factor_unique, turns_unique (Units)
 --   unit_check     is_unit: is_unit_unique (Units)
---   door_order     order: orders_unique (door_order/proofs/Answer)
+--   door_order     order: orders_unique (door_order/proofs/Answer). A door answers a result; what it tells is settled by the theorem named
+--                  here, and the result by that: `told_one` beside it, or number_one (base_answers/proofs/Faults)
 --   door_check     check: checks_unique (door_check/proofs/Answer)
 --   door_step      step: answers_unique (door_step/proofs/Answers)
 --   door_walk      walk: walks_unique (walk_chain/proofs/Walk)

@@ -13,8 +13,7 @@ use Rattle.base_answers.specs.Limits.{most}
 use Rattle.field_open.specs.Refusal.{Refusal, Accepted}
 use Rattle.field_open.specs.Door.{Door}
 use Rattle.field_open.proofs.Door.{door_out, door_unique}
-use Rattle.walk_chain.specs.declared.WalkAnswer.{WalkAnswer}
-use Rattle.walk_chain.specs.Walk.{Walks}
+use Rattle.walk_chain.specs.Walk.{WalkAnswer, Walks}
 use Rattle.walk_chain.proofs.Walk.{walks_unique}
 use Rattle.walk_record.specs.declared.WalkRecord.{WalkRecord}
 use Rattle.walk_record.specs.State.{going, closed, IsRefusal, Passed}

@@ -24,8 +24,7 @@ use Rattle.math_chain.proofs.Unit.{unit_exists, unit_unique, unit_positive, unit
 use Rattle.basis_record.specs.Record.{setting}
 use Rattle.unit_finish.specs.Rows.{Holds}
 use Rattle.unit_finish.proofs.Rows.{rows_unique}
-use Rattle.door_unit.specs.declared.UnitAnswer.{UnitAnswer}
-use Rattle.door_unit.specs.Unit.{Makes}
+use Rattle.door_unit.specs.Unit.{UnitAnswer, Makes}
 use Rattle.door_unit.proofs.Once.{makes_alike}
 use Rattle.door_rescale.specs.Rescale.{Goes, unfit, turned, Rescales}
 use Rattle.door_rescale.proofs.Back.{done, turned_rows, holds_rows, rescales_back, rescales_holds, rows_accepted}

@@ -15,9 +15,8 @@ use Rattle.field_open.proofs.Accept.{accepted_none}
 use Rattle.math_chain.specs.Chain.{Chain, Open, here}
 use Rattle.math_chain.proofs.Walk.{open_none}
 use Rattle.basis_record.specs.Record.{setting, basis_of, IsRecord}
-use Rattle.walk_chain.specs.declared.WalkAnswer.{WalkAnswer}
+use Rattle.walk_chain.specs.Walk.{WalkAnswer, Walks, Reaches, StaysOpen}
 use Rattle.walk_chain.specs.Walk as walk
-use Rattle.walk_chain.specs.Walk.{Walks, Reaches, StaysOpen}
 use Rattle.walk_chain.proofs.TakenUp.{reaches_then, stays_then, closes_then, taken_up}
 use Rattle.walk_chain.proofs.Room.{reaches_room, walks_room}
 use Rattle.walk_record.specs.declared.WalkRecord.{WalkRecord}

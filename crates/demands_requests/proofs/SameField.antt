@@ -5,7 +5,7 @@ use mathlib.Core.List.{List}
 use Prim.Native.Nat.{ℕ, ◌<◌}
 use Rattle.field_open.specs.Refusal.{Accepted}
 use Rattle.pair_laws.specs.OneField.{OneField}
-use Rattle.door_compare.specs.declared.CompareAnswer.{CompareAnswer}
+use Rattle.door_compare.specs.Answer.{CompareAnswer}
 use Rattle.door_compare.specs.Answer as pairs
 use Rattle.pair_agree.proofs.Relation as relation
 use Rattle.door_compare.proofs.Doors.{doors_through}

@@ -17,11 +17,10 @@ use Rattle.basis_record.specs.Record.{setting, basis_of}
 use Rattle.pair_theory.proofs.Least.{least_agree}
 use Rattle.walk_chain.specs.Walk as walk
 use Rattle.walk_chain.proofs.Walk.{closes_unique}
-use Rattle.door_period.specs.declared.PeriodAnswer.{PeriodAnswer}
+use Rattle.door_period.specs.Order.{PeriodAnswer}
 use Rattle.door_period.specs.Order as walks
 use Rattle.basis_field.proofs.First.{first_unique}
-use Rattle.door_unit.specs.declared.UnitAnswer.{UnitAnswer}
-use Rattle.door_unit.specs.Unit.{Makes, Success}
+use Rattle.door_unit.specs.Unit.{UnitAnswer, Makes, Success}
 use Rattle.unit_finish.specs.Rows.{six}
 use Rattle.demands_requests.specs.Smallest.{SmallestRows, SmallestUnit}
 use Rattle.demands.proofs.Cases.{walk_closed, walk_spent, told_closed, told_spent, told_accepted, unit_made, unit_spent, unit_narrow, unit_accepted, success_unit}

@@ -16,8 +16,7 @@ use Rattle.math_chain.specs.Chain.{Closing}
 use Rattle.math_chain.specs.Convention.{Convention, number, PositiveUnit, OneScaling}
 use Rattle.math_chain.specs.Unit.{UnitOf}
 use Rattle.basis_record.specs.Record.{setting}
-use Rattle.door_unit.specs.declared.UnitAnswer.{UnitAnswer}
-use Rattle.door_unit.specs.Unit.{Makes}
+use Rattle.door_unit.specs.Unit.{UnitAnswer, Makes}
 use Rattle.door_rescale.specs.Rescale.{ScaledRows, Rescales}
 use Rattle.unit_scale.specs.Scale.{Turned}
 use Rattle.demands.specs.Tabled.{FieldTabled}

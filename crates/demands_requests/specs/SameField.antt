@@ -12,8 +12,7 @@ use Rattle.math_rows.specs.Made.{reading}
 use Rattle.field_open.specs.Refusal.{Accepted}
 use Rattle.pair_laws.specs.OneField.{OneField}
 use Rattle.pair_agree.specs.Answer.{Coefficients}
-use Rattle.door_compare.specs.declared.CompareAnswer.{CompareAnswer}
-use Rattle.door_compare.specs.Answer.{Compares}
+use Rattle.door_compare.specs.Answer.{CompareAnswer, Compares}
 use Rattle.basis_record.specs.Setting.{roots}
 use Rattle.pair_theory.specs.Shared.{Shared}
 use Rattle.door_transfer.specs.Transfer.{Transfers}

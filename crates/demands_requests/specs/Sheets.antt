@@ -23,8 +23,7 @@ use Rattle.walk_chain.specs.Walk.{Reaches, StaysOpen, Closes}
 use Rattle.walk_record.specs.declared.WalkRecord.{WalkRecord}
 use Rattle.walk_record.specs.State.{going, closed, IsRefusal, Passed}
 use Rattle.walk_record.specs.Record.{most_steps, Beyond, list_g, list_h, marked, Unfit}
-use Rattle.door_period.specs.declared.PeriodAnswer.{PeriodAnswer}
-use Rattle.door_period.specs.Order.{FromOrder}
+use Rattle.door_period.specs.Order.{PeriodAnswer, FromOrder}
 use Rattle.door_record.specs.Advance.{Advances}
 use Rattle.door_sheet.specs.Sheet.{Sheet}
 use Rattle.demands.specs.Tabled.{FieldTabled, ClosesWithin}

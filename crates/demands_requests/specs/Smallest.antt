@@ -24,12 +24,9 @@ use Rattle.math_fundamental.specs.Smallest.{NoneBetween, LeastDegree, Smallest, 
 use Rattle.basis_record.specs.Record.{setting}
 use Rattle.pair_laws.specs.OneField.{OneField}
 use Rattle.basis_field.specs.First.{IsFirst}
-use Rattle.walk_chain.specs.declared.WalkAnswer.{WalkAnswer}
-use Rattle.walk_chain.specs.Walk.{Walks}
-use Rattle.door_period.specs.declared.PeriodAnswer.{PeriodAnswer}
-use Rattle.door_period.specs.Order.{FromOrder}
-use Rattle.door_unit.specs.declared.UnitAnswer.{UnitAnswer}
-use Rattle.door_unit.specs.Unit.{Makes}
+use Rattle.walk_chain.specs.Walk.{WalkAnswer, Walks}
+use Rattle.door_period.specs.Order.{PeriodAnswer, FromOrder}
+use Rattle.door_unit.specs.Unit.{UnitAnswer, Makes}
 use Rattle.unit_finish.specs.Rows.{six}
 
 pub record SmallestRows (k : Convention) (p : ℕ) (G H : List ℕ) (m : UnitAnswer) (rows : List ℕ) : Type 0 where

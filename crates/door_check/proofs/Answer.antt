@@ -8,8 +8,7 @@ use Prim.Native.Nat.{ℕ}
 use Rattle.base_answers.specs.Decides.{Decides}
 use Rattle.field_open.proofs.Door.{door_goes, door_unique}
 use Rattle.basis_record.specs.Record.{IsRecord}
-use Rattle.field_series.specs.Answer.{Expands}
-use Rattle.field_series.specs.declared.OpenedAnswer.{OpenedAnswer}
+use Rattle.field_series.specs.Answer.{Expands, OpenedAnswer}
 use Rattle.field_series.proofs.Answer.{expands_number}
 use Rattle.basis_accept.specs.Answer.{Accepts}
 use Rattle.basis_field.proofs.Known.{prime_of, kept_of}

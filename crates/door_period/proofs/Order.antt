@@ -1,25 +1,27 @@
 -- The walk from the order: what its answers mean, and that there is one.
-use mathlib.Core.Path.{◌≡◌, refl, sym, ◌∙◌, subst}
+use mathlib.Core.Path.{◌≡◌, refl, sym, ap, ◌∙◌, subst}
 use mathlib.Core.Logic.{◌≢◌, ◌⊎◌, inl, inr}
 use mathlib.Core.List.{List}
 use Prim.Native.Nat.{ℕ, ◌+◌, ◌/◌, ◌≤◌}
 use native.Mathlib.Omega.{arith}
+use Rattle.std.specs.declared.result.Result.{Result}
+use Rattle.std.specs.declared.result.Result.TheVariants.{Ok, Err}
 use Rattle.base_answers.specs.Limits.{most}
+use Rattle.base_answers.specs.declared.Fault.{Fault}
+use Rattle.base_answers.proofs.Faults.{some_number, number_one}
 use Rattle.field_open.specs.Refusal.{Accepted}
 use Rattle.field_open.proofs.Door.{door_goes, door_unique}
-use Rattle.field_series.specs.Answer.{Expands}
-use Rattle.field_series.specs.declared.OpenedAnswer.{OpenedAnswer}
+use Rattle.field_series.specs.Answer.{Expands, OpenedAnswer}
 use Rattle.field_series.proofs.Answer.{expands_number}
 use Rattle.basis_field.specs.First.{IsFirst, First}
 use Rattle.basis_field.proofs.First.{first_unique}
 use Rattle.basis_field.proofs.Known.{prime_of, kept_of}
-use Rattle.walk_chain.specs.declared.WalkAnswer.{WalkAnswer}
-use Rattle.walk_chain.specs.Walk.{Closes, StaysOpen, Closed, Spent}
+use Rattle.walk_chain.specs.Walk.{WalkAnswer, Closes, StaysOpen, Closed, Spent}
 use Rattle.walk_chain.specs.InField.{WalkInFieldAsks, WalkInFieldGives}
 use Rattle.walk_chain.proofs.Walk.{closes_unique, not_both}
 use Rattle.walk_chain.proofs.Even.{sum_even}
-use Rattle.door_period.specs.declared.PeriodAnswer.{PeriodAnswer}
-use Rattle.door_period.specs.Order.{refusal, Periodic, Goes, budget, closed, spent, FromOrder}
+use Rattle.base_answers.specs.declared.Cycle.{Cycle}
+use Rattle.door_period.specs.Order.{PeriodAnswer, refusal, told, Periodic, Goes, budget, closed, spent, FromOrder}
 
 told_eq : (v w : PeriodAnswer) → v.refusal ≡ w.refusal → v.period.0 ≡ w.period.0 → v.regulator.0 ≡ w.regulator.0 → v ≡ w
 told_eq v w a b c = λ i. record { refusal = a i; period = record { 0 = b i }; regulator = record { 0 = c i } }
@@ -63,6 +65,13 @@ module _ (p : ℕ) (G H : List ℕ) (A : Accepted p G H) (n : ℕ) where
 -- two answers to one walk from the order are equal
 pub from_order_unique : (p : ℕ) (G H : List ℕ) (n : ℕ) (v w : PeriodAnswer) → FromOrder p G H n v → FromOrder p G H n w → v ≡ w
 from_order_unique p G H n v w = door_unique (λ k e f. e ∙ sym f) (λ A. goes_unique p G H A n v w)
+
+-- two results that tell one answer are equal
+pub told_one : (r s : Result Cycle Fault) → told r ≡ told s → r ≡ s
+told_one (Ok x) (Ok y) e = λ i. Ok (record { period = (e i).period; regulator = (e i).regulator })
+told_one (Ok x) (Err k) e = absurd (some_number k (sym (ap (λ (o : PeriodAnswer). o.refusal) e)))
+told_one (Err j) (Ok y) e = absurd (some_number j (ap (λ (o : PeriodAnswer). o.refusal) e))
+told_one (Err j) (Err k) e = ap Err (number_one j k (ap (λ (o : PeriodAnswer). o.refusal) e))
 
 -- what `from_order` answers in an opened field
 module _ (p : ℕ) (G H : List ℕ) (n : ℕ) (e : OpenedAnswer) (opens : Expands p G H e) (z : e.refusal ≡ 0)

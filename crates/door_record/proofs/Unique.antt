@@ -3,7 +3,7 @@ use mathlib.Core.Path.{◌≡◌, sym, ◌∙◌, subst}
 use Prim.Native.Nat.{ℕ}
 use native.Mathlib.Omega.{arith}
 use Rattle.field_open.proofs.Door.{door_unique}
-use Rattle.walk_chain.specs.declared.WalkAnswer.{WalkAnswer}
+use Rattle.walk_chain.specs.Walk.{WalkAnswer}
 use Rattle.walk_chain.proofs.Walk.{walks_unique}
 use Rattle.walk_record.specs.declared.WalkRecord.{WalkRecord}
 use Rattle.door_record.specs.Advance.{After, closed, spent, refused, Advances, passed, unfit, walked}

@@ -7,8 +7,7 @@
 -- `advances_unique` in proofs/Unique.antt: two outcomes that meet it are equal.
 use Rattle.std.specs.Prelude.{◌≡◌, ◌≢◌, ℕ}
 use Rattle.field_open.specs.Door.{Door}
-use Rattle.walk_chain.specs.declared.WalkAnswer.{WalkAnswer}
-use Rattle.walk_chain.specs.Walk.{Walks}
+use Rattle.walk_chain.specs.Walk.{WalkAnswer, Walks}
 use Rattle.walk_record.specs.declared.WalkRecord.{WalkRecord}
 use Rattle.walk_record.specs.State as state
 use Rattle.walk_record.specs.Record.{list_g, list_h, marked, moved, Unfit}

@@ -1,81 +1,69 @@
-// One walk record, advanced by value: everything about it is decided here, the sheet only goes from record to record.
+// One walk record, advanced by value: everything about it is decided here, the sheet only goes from record to record. A record's state is a
+// number, since C reads it (`WalkRecord` is laid out as C lays it out).
 #![tactic(auto)]
 
 ghost use Rattle.std.specs.Prelude.{◌≡◌};
-ghost use Rattle.field_open.specs.Padding.{unpad};
+ghost use Rattle.base_answers.specs.Faults.{fault_number};
 ghost use Rattle.field_open.specs.Door.{Door};
+ghost use Rattle.walk_chain.specs.Told.{told, TenEnds};
 ghost use Rattle.walk_chain.specs.Walk.{Walks};
 ghost use Rattle.walk_record.specs.Record as R;
 ghost use Rattle.door_record.specs.Advance.{After, Advances};
 
-use walk_chain::WalkAnswer;
+use base_answers::Fault;
+use walk_chain::{End, Walked};
 use walk_record::{WalkRecord, counted, marked, moved, passed_over, unfit};
 
-// The number of an unfit record: the refusal of its field, else 14.
-fn number_of_unfit(p: u64, g: [u64; 32], ng: usize, h: [u64; 32], nh: usize) -> u32
-    ensures { Door p (unpad (R.listed g ng)) (unpad (R.listed h nh)) (λ k. result ≡ k) (result ≡ 14) }
+// What an unfit record is refused with: the refusal of its field, else 14.
+#[tactic(auto, using(walk_record::proofs::States::counted_room))]
+fn fault_of_unfit(r: WalkRecord) -> Fault
+    ensures { Door r.p (R.list_g r) (R.list_h r) (λ k. fault_number result ≡ k) (fault_number result ≡ 14) }
 {
-    let i = counted(ng);
-    let j = counted(nh);
-    let n = field_open::refusal(p, &g[..i], &h[..j]);
-    if n == 0 { 14 } else { n }
+    let i = counted(r.ng);
+    let j = counted(r.nh);
+    match field_open::refusal(r.p, &r.g[..i], &r.h[..j]) {
+        Ok(()) => Fault::OutOfRule,
+        Err(k) => k,
+    }
 }
 
 // The walk from a record's basis.
-fn walk_from(
-    p: u64,
-    g: [u64; 32],
-    ng: usize,
-    h: [u64; 32],
-    nh: usize,
-    basis: [u16; 119],
-    budget: u64,
-) -> WalkAnswer
-    ensures { Walks p (unpad (R.listed g ng)) (unpad (R.listed h nh)) budget basis result }
+#[tactic(auto, using(walk_record::proofs::States::counted_room))]
+fn walk_from(r: WalkRecord, budget: u64) -> Result<Walked, Fault>
+    ensures walks { Walks r.p (R.list_g r) (R.list_h r) budget r.basis (told result) }
+    ensures ten { TenEnds result }
 {
-    let i = counted(ng);
-    let j = counted(nh);
-    door_walk::walk(p, &g[..i], &h[..j], basis, budget)
+    let i = counted(r.ng);
+    let j = counted(r.nh);
+    door_walk::walk(r.p, &r.g[..i], &r.h[..j], r.basis, budget)
 }
 
 // The record after the walk w from its basis.
-fn after(r: WalkRecord, w: WalkAnswer) -> WalkRecord
-    requires { R.MoveAsks r w.steps w.sum }
-    ensures { After r w result }
+fn after(r: WalkRecord, w: Result<Walked, Fault>) -> WalkRecord
+    requires fits { R.MoveAsks r (told w).steps (told w).sum }
+    requires ten { TenEnds w }
+    ensures { After r (told w) result }
 {
-    let n = w.refusal;
-    let b = w.basis;
-    let l = w.steps;
-    let d = w.sum;
-    if n == 0 {
-        return moved(r, b, l, d, 100);
+    match w {
+        Ok(o) => match o.end {
+            End::Closed => moved(r, o.basis, o.steps, o.sum, 100),
+            End::Spent => moved(r, o.basis, o.steps, o.sum, 0),
+        },
+        Err(k) => marked(r, u32::from(k)),
     }
-    if n == 10 {
-        return moved(r, b, l, d, 0);
-    }
-    marked(r, n)
 }
 
 // At most `budget` steps from a record that is open; a bad one gets its refusal's number into its state.
 pub fn advance(r: WalkRecord, budget: u64) -> WalkRecord
     ensures { Advances budget r result }
 {
-    let state = r.state;
-    let over = passed_over(state);
-    if over {
+    if passed_over(r.state) {
         return r;
     }
-    let p = r.p;
-    let g = r.g;
-    let ng = r.ng;
-    let h = r.h;
-    let nh = r.nh;
-    let bad = unfit(r);
-    if bad {
-        let n = number_of_unfit(p, g, ng, h, nh);
-        return marked(r, n);
+    if unfit(r) {
+        let k = fault_of_unfit(r);
+        return marked(r, u32::from(k));
     }
-    let b = r.basis;
-    let w = walk_from(p, g, ng, h, nh, b, budget);
+    let w = walk_from(r, budget);
     after(r, w)
 }

@@ -8,8 +8,7 @@ use mathlib.Core.List.{List}
 use Prim.Native.Nat.{ℕ, ◌/◌}
 use lib.ListN.{length}
 use Rattle.field_open.proofs.Door.{door_refused, door_goes}
-use Rattle.field_series.specs.Answer.{Expands}
-use Rattle.field_series.specs.declared.OpenedAnswer.{OpenedAnswer}
+use Rattle.field_series.specs.Answer.{Expands, OpenedAnswer}
 use Rattle.field_series.proofs.Answer.{expands_number}
 use Rattle.basis_field.proofs.Known.{prime_of, kept_of}
 use Rattle.unit_scale.specs.Scale.{FactorAsks, Turned, Turns}

@@ -2,24 +2,22 @@
 // record stands in crate door_record.
 #![tactic(auto)]
 
-ghost use Rattle.door_sheet.specs.Sheet as S;
+ghost use Rattle.base_answers.specs.Faults.{no_of};
+ghost use Rattle.door_sheet.specs.Sheet.{Sheet};
 
+use base_answers::Fault;
 use door_record::advance;
 use walk_record::{WalkRecord, beyond};
 
-// At most `budget` steps from each record: 0, or 14 with nothing changed. What a record is refused with stands in its state.
-pub fn sheet(records: &mut [WalkRecord], budget: u64) -> u32
-    ensures { S.Sheet records.old budget result records.new }
+// At most `budget` steps from each record, or 14 with nothing changed. What a record is refused with stands in its state.
+pub fn sheet(records: &mut [WalkRecord], budget: u64) -> Result<(), Fault>
+    ensures { Sheet records.old budget (no_of result) records.new }
 {
-    let n = records.len();
-    if beyond(n, budget) {
-        return 14;
+    if beyond(records.len(), budget) {
+        return Err(Fault::OutOfRule);
     }
-    let mut i: usize = 0;
-    while i < n {
-        let r = records[i];
-        records[i] = advance(r, budget);
-        i += 1;
+    for r in records.iter_mut() {
+        *r = advance(*r, budget);
     }
-    0
+    Ok(())
 }

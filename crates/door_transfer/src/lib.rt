@@ -2,46 +2,56 @@
 // slice are, crate pair_carry does the work.
 #![tactic(auto)]
 
+ghost use Rattle.base_answers.specs.Faults.{no_of};
 ghost use Rattle.field_open.specs.Padding.{unpad};
 ghost use Rattle.door_transfer.specs.Transfer.{Goes, Transfers};
 ghost use Rattle.pair_agree.specs.Answer.{Both};
 
-use base_answers::no_six_rows;
+use base_answers::{Fault, no_six_rows};
 use pair_agree::Pairing;
 use pair_carry::{carry, carry_swapped};
 
-// The rows of two accepted pairs: carried over where the slice has six rows and the pairs are of one field, else 14.
-fn carry_between(p: u64, g: &[u64], h: &[u64], g2: &[u64], h2: &[u64], rows: &mut [u16]) -> u32
+// The rows of two accepted pairs: carried over where the slice has six rows and the pairs are of one field, else refusal 14.
+fn carry_between(
+    p: u64,
+    g: &[u64],
+    h: &[u64],
+    g2: &[u64],
+    h2: &[u64],
+    rows: &mut [u16],
+) -> Result<(), Fault>
     requires { Both p g.now h.now g2.now h2.now }
-    ensures { Goes p g.now h.now g2.now h2.now rows.old result rows.new }
+    ensures { Goes p g.now h.now g2.now h2.now rows.old (no_of result) rows.new }
 {
-    let bad = no_six_rows(rows.len());
-    if bad {
-        return 14;
+    if no_six_rows(rows.len()) {
+        return Err(Fault::OutOfRule);
     }
     let c = rows.len() / 6;
-    let k = pair_agree::paired(p, g, h, g2, h2);
-    match k {
+    match pair_agree::paired(p, g, h, g2, h2) {
         Pairing::Straight => {
             carry(p, g, h, g2, h2, c, rows);
-            0
+            Ok(())
         }
         Pairing::Swapped => {
             carry_swapped(p, g, h, g2, h2, c, rows);
-            0
+            Ok(())
         }
-        Pairing::Apart => 14,
+        Pairing::Apart => Err(Fault::OutOfRule),
     }
 }
 
 // Carries the six rows of a unit of the pair g, h over to the pair g2, h2, in place; a refusal leaves them as they are.
-pub fn transfer(p: u64, g: &[u64], h: &[u64], g2: &[u64], h2: &[u64], rows: &mut [u16]) -> u32
-    ensures { Transfers p (unpad g.now) (unpad h.now) (unpad g2.now) (unpad h2.now) rows.old result rows.new }
+pub fn transfer(
+    p: u64,
+    g: &[u64],
+    h: &[u64],
+    g2: &[u64],
+    h2: &[u64],
+    rows: &mut [u16],
+) -> Result<(), Fault>
+    ensures { Transfers p (unpad g.now) (unpad h.now) (unpad g2.now) (unpad h2.now) rows.old (no_of result) rows.new }
 {
-    let n = door_compare::refusal(p, g, h, g2, h2);
-    if n != 0 {
-        return n;
-    }
+    door_compare::refusal(p, g, h, g2, h2)?;
     let i = field_open::unpadded(g);
     let j = field_open::unpadded(h);
     let k = field_open::unpadded(g2);

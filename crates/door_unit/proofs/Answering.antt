@@ -16,20 +16,17 @@ use Rattle.math_chain.specs.Chain.{Closing, Open}
 use Rattle.math_chain.specs.Convention.{Convention}
 use Rattle.math_chain.proofs.Closing.{start_unique}
 use Rattle.basis_record.specs.Record.{setting, basis_of}
-use Rattle.field_series.specs.Answer.{Expands}
+use Rattle.field_series.specs.Answer.{Expands, OpenedAnswer}
 use Rattle.field_series.specs.Keeps.{Kept}
-use Rattle.field_series.specs.declared.OpenedAnswer.{OpenedAnswer}
 use Rattle.field_series.proofs.Answer.{expands_number}
 use Rattle.basis_field.specs.First.{IsFirst, First}
 use Rattle.basis_field.proofs.Known.{prime_of, kept_of, field_of, known_of}
-use Rattle.walk_chain.specs.declared.WalkAnswer.{WalkAnswer}
-use Rattle.walk_chain.specs.Walk.{Closes, StaysOpen, Closed, Spent}
+use Rattle.walk_chain.specs.Walk.{WalkAnswer, Closes, StaysOpen, Closed, Spent}
 use Rattle.walk_chain.specs.InField.{WalkInFieldAsks, WalkInFieldGives}
 use Rattle.walk_chain.proofs.Even.{sum_even}
 use Rattle.unit_finish.specs.Rows.{Holds}
 use Rattle.unit_make.specs.Making.{MakeAsks}
-use Rattle.door_unit.specs.declared.UnitAnswer.{UnitAnswer}
-use Rattle.door_unit.specs.Unit.{refusal, Lent, Finds, Misses, Refused, Goes, bad, spent, narrow, made, Makes}
+use Rattle.door_unit.specs.Unit.{UnitAnswer, refusal, Lent, Finds, Misses, Refused, Goes, bad, spent, narrow, made, Makes}
 use Rattle.door_unit.specs.Fit.{Rule}
 use Rattle.door_unit.specs.Scaled.{MakeScaledAsks, MakesScaled}
 

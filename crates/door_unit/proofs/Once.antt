@@ -2,6 +2,7 @@
 --   makes_unique        two outcomes that meet `Makes` are equal
 --   makes_alike         two outcomes under two conventions are, but for the rows
 --   refused_number   the number beside a refusal
+--   told_one         two results that tell one answer are equal
 use mathlib.Core.Path.{◌≡◌, refl, sym, ap, ◌∙◌, subst}
 use mathlib.Core.List.{List}
 use Prim.Native.Nat.{ℕ, ◌+◌, ◌≤◌}
@@ -16,8 +17,18 @@ use Rattle.math_chain.proofs.Scaling.{number_unique}
 use Rattle.basis_record.specs.Record.{setting}
 use Rattle.unit_finish.specs.Rows.{Holds}
 use Rattle.unit_finish.proofs.Rows.{rows_unique}
-use Rattle.door_unit.specs.declared.UnitAnswer.{UnitAnswer}
-use Rattle.door_unit.specs.Unit.{Lent, Finds, Misses, Refused, Goes, bad, spent, narrow, made, Makes}
+use Rattle.std.specs.declared.result.Result.{Result}
+use Rattle.std.specs.declared.result.Result.TheVariants.{Ok, Err}
+use Rattle.base_answers.specs.declared.Fault.{Fault}
+use Rattle.base_answers.proofs.Faults.{some_number, number_one}
+use Rattle.base_answers.specs.declared.Cycle.{Cycle}
+use Rattle.door_unit.specs.Unit.{UnitAnswer, told, Lent, Finds, Misses, Refused, Goes, bad, spent, narrow, made, Makes}
+
+pub told_one : (r s : Result Cycle Fault) → told r ≡ told s → r ≡ s
+told_one (Ok x) (Ok y) e = λ i. Ok (record { period = (e i).period; regulator = (e i).regulator })
+told_one (Ok x) (Err k) e = absurd (some_number k (sym (ap (λ (o : UnitAnswer). o.refusal) e)))
+told_one (Err j) (Ok y) e = absurd (some_number j (ap (λ (o : UnitAnswer). o.refusal) e))
+told_one (Err j) (Err k) e = ap Err (number_one j k (ap (λ (o : UnitAnswer). o.refusal) e))
 
 pub record Same (m m' : UnitAnswer) (rows rows' scratch scratch' : List ℕ) : Type 0 where
   pub number : m.refusal ≡ m'.refusal

@@ -1,54 +1,32 @@
 // The unit of a field and its inverse, with all refusals. specs/Unit.antt says what the answer and the two lent slices are.
 #![tactic(auto)]
 
+ghost use Rattle.std.specs.Prelude.{◌≡◌, IfSome};
+ghost use Rattle.std.specs.Option.{is_none};
 ghost use Rattle.field_open.specs.Padding.{unpad};
-ghost use Rattle.door_unit.specs.Unit.{refusal, Makes};
+ghost use Rattle.unit_scale.specs.Scale.{numbered};
+ghost use Rattle.door_unit.specs.Unit.{Makes, told};
 ghost use Rattle.door_unit.specs.Fit.{Unfit};
 ghost use Rattle.door_unit.specs.Scaled.{MakeScaledAsks, MakesScaled};
-ghost use Rattle.std.specs.Prelude.{◌≡◌};
 
-use base_answers::{Period, Regulator, no_six_rows, over_budget};
+use base_answers::{Cycle, Fault, Period, Regulator, no_six_rows, over_budget};
 use field_series::OpenedField;
-use unit_scale::no_convention;
+use unit_scale::{Convention, convention_of};
+use walk_chain::End;
 
-// The refusal's number (0: made), the period and the regulator.
-#[derive(Clone, Copy)]
-pub struct UnitAnswer {
-    pub refusal: u32,
-    pub period: Period,
-    pub regulator: Regulator,
-}
-
-// Whether the convention's number, the lent lengths n and m or the budget are out of their rule.
-fn unfit(convention: u32, n: usize, m: usize, budget: u64) -> bool
-    ensures { Unfit convention n m budget result }
+// The convention that the number names; none where it names none, or the lent lengths n and m or the budget are out of their rule.
+fn fit(convention: u32, n: usize, m: usize, budget: u64) -> Option<Convention>
+    ensures rule { Unfit convention n m budget (is_none result) }
+    ensures named { IfSome result (λ k. numbered k ≡ convention) }
 {
-    let none = no_convention(convention);
-    if none {
-        return true;
+    let k = convention_of(convention)?;
+    if n != m || no_six_rows(n) || over_budget(budget) {
+        return None;
     }
-    if n != m {
-        return true;
-    }
-    let odd = no_six_rows(n);
-    if odd {
-        return true;
-    }
-    over_budget(budget)
+    Some(k)
 }
 
-// A refusal: the other results are 0.
-fn refused(n: u32) -> UnitAnswer
-    ensures { result ≡ refusal n }
-{
-    UnitAnswer {
-        refusal: n,
-        period: Period(0),
-        regulator: Regulator(0),
-    }
-}
-
-// The unit and its inverse, made with E0 monic and turned where another convention is asked for.
+// The unit and its inverse, made with E0 monic and turned where another convention is asked for. A frame of its own bounds the stack.
 #[inline(never)]
 fn make_scaled(
     f: OpenedField,
@@ -56,16 +34,17 @@ fn make_scaled(
     steps: u64,
     d: usize,
     c: usize,
-    convention: u32,
+    convention: Convention,
     rows: &mut [u16],
     s: &mut [u16],
 )
-    requires { MakeScaledAsks f b steps d c convention rows.old s.old }
-    ensures { MakesScaled f b steps d c convention rows.old s.old rows.new s.new }
+    requires { MakeScaledAsks f b steps d c (numbered convention) rows.old s.old }
+    ensures { MakesScaled f b steps d c (numbered convention) rows.old s.old rows.new s.new }
 {
     unit_make::make(f, b, steps, d, c, rows, s);
-    if convention != 1 {
-        unit_scale::turn(f, convention, c, rows);
+    match convention {
+        Convention::Monic => {}
+        Convention::Norm => unit_scale::turn(f, convention, c, rows),
     }
 }
 
@@ -79,36 +58,29 @@ pub fn unit_scaled(
     convention: u32,
     rows: &mut [u16],
     scratch: &mut [u16],
-) -> UnitAnswer
-    ensures { Makes convention p (unpad g.now) (unpad h.now) budget rows.old scratch.old result rows.new scratch.new }
+) -> Result<Cycle, Fault>
+    ensures { Makes convention p (unpad g.now) (unpad h.now) budget rows.old scratch.old (told result) rows.new scratch.new }
 {
-    let e = field_series::open_with_series(p, g, h);
-    let n = e.refusal;
-    if n != 0 {
-        return refused(n);
-    }
-    let bad = unfit(convention, rows.len(), scratch.len(), budget);
-    if bad {
-        return refused(14);
-    }
+    let f = field_series::open_with_series(p, g, h)?;
+    let Some(k) = fit(convention, rows.len(), scratch.len(), budget) else {
+        return Err(Fault::OutOfRule);
+    };
     let c = rows.len() / 6;
-    let f = e.cubic;
     let b = basis_field::order_basis(f);
     let o = walk_chain::walk_in_field(f, b, budget);
-    let k = o.refusal;
-    if k != 0 {
-        return refused(10);
-    }
-    let l = o.steps;
-    let d = o.sum;
-    if c as u64 <= d {
-        return refused(11);
-    }
-    make_scaled(f, b, l, d as usize, c, convention, rows, scratch);
-    UnitAnswer {
-        refusal: 0,
-        period: Period(l),
-        regulator: Regulator(d / 2),
+    match o.end {
+        End::Spent => Err(Fault::NotClosing),
+        End::Closed => {
+            if c as u64 <= o.sum {
+                return Err(Fault::NoRoom);
+            }
+            make_scaled(f, b, o.steps, o.sum as usize, c, k, rows, scratch);
+            let made = Cycle {
+                period: Period(o.steps),
+                regulator: Regulator(o.sum / 2),
+            };
+            Ok(made)
+        }
     }
 }
 
@@ -120,8 +92,8 @@ pub fn unit(
     budget: u64,
     rows: &mut [u16],
     scratch: &mut [u16],
-) -> UnitAnswer
-    ensures { Makes 1 p (unpad g.now) (unpad h.now) budget rows.old scratch.old result rows.new scratch.new }
+) -> Result<Cycle, Fault>
+    ensures { Makes 1 p (unpad g.now) (unpad h.now) budget rows.old scratch.old (told result) rows.new scratch.new }
 {
     unit_scaled(p, g, h, budget, 1, rows, scratch)
 }

@@ -22,8 +22,9 @@ use Rattle.book_bytes.specs.Bytes.{val}
 use Rattle.book_check.specs.Book.{ends}
 use Rattle.book_check.specs.Book as book
 use Rattle.book_check.specs.Answer.{answer_says, Tells, mark, fine}
-use Rattle.book_check.specs.declared.Answer.{Answer}
-use Rattle.book_check.specs.declared.Answer.TheVariants.{Yes, Refused}
+use Rattle.std.specs.declared.result.Result.{Result}
+use Rattle.std.specs.declared.result.Result.TheVariants.{Ok, Err}
+use Rattle.book_judge.specs.declared.Reason.{Reason}
 use Rattle.book_judge.specs.declared.Reason.TheVariants.{Mark}
 use Rattle.book_check.proofs.One as one
 use Rattle.examples_tests.specs.Tests.{every, begins}
@@ -81,11 +82,11 @@ empty_passes = record {
 }
 
 -- the check of a book has one answer
-tells : (s : List ℕ) (a : Answer) → Tells s (answer_says a) → Only (λ a. Tells s (answer_says a)) a
+tells : (s : List ℕ) (a : Result (Unit {0}) Reason) → Tells s (answer_says a) → Only (λ a. Tells s (answer_says a)) a
 tells s a t = record { meets = t; alone = λ b u. one.answer_unique b a (one.tells_unique s u t) }
 
 pub empty_book_holds : Holds begun_book
-empty_book_holds = tells (80 ∷ 67 ∷ 70 ∷ 49 ∷ 0 ∷ 0 ∷ []) Yes (fine empty_passes refl)
+empty_book_holds = tells (80 ∷ 67 ∷ 70 ∷ 49 ∷ 0 ∷ 0 ∷ []) (Ok tt) (fine empty_passes refl)
 
 pub no_book_sound : (n : ℕ) → T (ltb n 6) → Holds (no_book n)
-no_book_sound n t s e = tells s (Refused Mark) (mark (λ m. let l : n < 6 = ltb→lt n 6 t in omega (arith, m.low)) refl)
+no_book_sound n t s e = tells s (Err Mark) (mark (λ m. let l : n < 6 = ltb→lt n 6 t in omega (arith, m.low)) refl)

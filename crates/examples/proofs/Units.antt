@@ -24,10 +24,9 @@ use Rattle.basis_record.specs.Record.{setting}
 use Rattle.base_answers.specs.Limits.{most}
 use Rattle.field_open.proofs.Door.{door_goes}
 use Rattle.door_unit.specs.Unit as unitAnswer
-use Rattle.door_unit.specs.Unit.{Lent, Finds, Makes, Goes}
+use Rattle.door_unit.specs.Unit.{Lent, Finds, Makes, Goes, UnitAnswer}
 use Rattle.unit_finish.specs.Rows as unitRows
 use Rattle.unit_finish.specs.Rows.{six}
-use Rattle.door_unit.specs.declared.UnitAnswer.{UnitAnswer}
 use Rattle.door_unit.proofs.Once.{Same, makes_unique}
 use Rattle.examples_lists.specs.Lists.{lists, alike}
 use Rattle.examples_lists.proofs.Meaning.{poly_alike, el, el_alike}

@@ -4,7 +4,7 @@
 --   AllHold    all of a list of lines hold
 -- The contracts' definitions are those of crates field_open, field_series, door_order, door_step, walk_chain, door_period, door_unit and
 -- book_check; `stored` (crate examples_tests) writes the record of 119 numbers of a basis.
-use Rattle.std.specs.Prelude.{◌≡◌, List, [], ◌∷◌, ℕ, ◌*◌, ◌≤◌, length, replicate}
+use Rattle.std.specs.Prelude.{◌≡◌, List, [], ◌∷◌, ℕ, ◌*◌, ◌≤◌, length, replicate, Result, Ok, Err}
 use Rattle.math_ideals.specs.Element.{norm}
 use Rattle.math_chain.specs.Convention.{Convention, e0_monic, number}
 use Rattle.field_open.specs.Refusal.{Accepted}
@@ -17,12 +17,10 @@ use Rattle.walk_chain.specs.Walk.{Walks}
 use Rattle.base_answers.specs.Limits.{most}
 use Rattle.door_period.specs.Order as told
 use Rattle.door_period.specs.Order.{FromOrder}
-use Rattle.door_unit.specs.Unit.{refusal, Makes}
+use Rattle.door_unit.specs.Unit.{refusal, Makes, UnitAnswer}
 use Rattle.unit_finish.specs.Rows.{six}
-use Rattle.door_unit.specs.declared.UnitAnswer.{UnitAnswer}
 use Rattle.book_check.specs.Answer.{answer_says, Tells}
-use Rattle.book_check.specs.declared.Answer.{Answer}
-use Rattle.book_check.specs.declared.Answer.TheVariants.{Yes, Refused}
+use Rattle.book_judge.specs.declared.Reason.{Reason}
 use Rattle.book_judge.specs.declared.Reason.TheVariants.{Mark}
 use Rattle.examples_tests.specs.Rows.{stored}
 use Rattle.examples_table.specs.Lines.{Input, whatever, empty_G, Line, refuses, series, order, steps, closes, spends, period, no_period, unit, unit_norm, narrow, begun_book, no_book, six_rows}
@@ -62,8 +60,8 @@ Holds (unit by k c l e E F) = Units by k c l (λ rows scratch Contract. Only Con
 Holds (unit_norm k c l N) = Units e0_monic k c l (λ rows scratch Contract. (o : Outcome) → Contract o
     → (A : Accepted k.p k.G k.H) → norm (setting A) (six A c 0 o.1) ≡ poly_of A N)
 Holds (narrow k c l) = Units e0_monic k c l (λ rows scratch Contract. Only Contract (refusal 11, rows, scratch))
-Holds begun_book = Only (λ (a : Answer). Tells (80 ∷ 67 ∷ 70 ∷ 49 ∷ 0 ∷ 0 ∷ []) (answer_says a)) Yes
-Holds (no_book n) = (s : List ℕ) → length s ≡ n → Only (λ (a : Answer). Tells s (answer_says a)) (Refused Mark)
+Holds begun_book = Only (λ (a : Result (Unit {0}) Reason). Tells (80 ∷ 67 ∷ 70 ∷ 49 ∷ 0 ∷ 0 ∷ []) (answer_says a)) (Ok tt)
+Holds (no_book n) = (s : List ℕ) → length s ≡ n → Only (λ (a : Result (Unit {0}) Reason). Tells s (answer_says a)) (Err Mark)
 
 abbrev pub AllHold : List (ℕ × Line) → Type 0
 AllHold [] = Unit {0}

@@ -2,17 +2,20 @@
 #![tactic(auto)]
 
 ghost use Rattle.std.specs.Prelude.{◌≡◌};
+ghost use Rattle.base_answers.specs.Faults.{no_of};
 ghost use Rattle.field_factors.specs.Factors.{factor_number};
 
+use base_answers::Fault;
+
 // 7 comes before 8.
-pub fn first_factor(free: bool, apart: bool) -> u32
-    ensures { result ≡ factor_number free apart }
+pub fn first_factor(free: bool, apart: bool) -> Result<(), Fault>
+    ensures { no_of result ≡ factor_number free apart }
 {
     if !free {
-        return 7;
+        return Err(Fault::HasSquare);
     }
     if !apart {
-        return 8;
+        return Err(Fault::HasCommon);
     }
-    0
+    Ok(())
 }

@@ -7,14 +7,16 @@ ghost use Rattle.math_rows.specs.Row.{tab};
 ghost use Rattle.field_roots.specs.SeriesOf.{top};
 ghost use Rattle.field_fill.specs.Fill.{Listed, Leads, LeadRoot, ThriceInverse, Room, Grown};
 
+use base_lists::wide;
 use field_pairs::fill;
 
 // The coefficient i places below the leading one, 0 past the last.
-fn head(s: &[u64], i: usize) -> u64
+fn head(p: u64, s: &[u64], i: usize) -> u16
+    requires { Listed p s.now }
     ensures { result ≡ top s.now i }
 {
     let n = s.len();
-    if i < n { s[n - 1 - i] } else { 0 }
+    if i < n { s[n - 1 - i] as u16 } else { 0 }
 }
 
 // The coefficients of a polynomial from the leading one down, zeros after them.
@@ -22,13 +24,7 @@ fn heads(p: u64, s: &[u64]) -> [u16; 13]
     requires { Listed p s.now }
     ensures { result ≡ tab 13 (top s.now) }
 {
-    let mut r: [u16; 13] = [0; 13];
-    let mut i: usize = 0;
-    while i < 13 {
-        r[i] = head(s, i) as u16;
-        i += 1;
-    }
-    r
+    std::array::from_fn(|i| head(p, s, i))
 }
 
 // The cube root of g h².
@@ -54,7 +50,7 @@ pub fn grow(p: u64, g: &[u64], h: &[u64], r: &mut [u16], w: &mut [u16])
 {
     let x = heads(p, g);
     let y = heads(p, h);
-    let c = lead_root(p, head(g, 0), head(h, 0));
+    let c = lead_root(p, wide(x[0]), wide(y[0]));
     let u = thrice_inverse(p, c);
     fill(p, &x, &y, c, u, r, w);
 }

@@ -19,12 +19,10 @@ fn product_at(p: u64, f: &[u16], g: &[u16], i: usize) -> u64
     requires { Place p i }
     ensures { Rest p (prod (entry f.now) (entry g.now) i) result }
 {
-    let n = if i < f.len() { i + 1 } else { f.len() };
+    let n = f.len().min(i + 1);
     let mut sum: u64 = 0;
-    let mut j: usize = 0;
-    while j < n {
+    for j in 0..n {
         sum += coefficient(f, j) * coefficient(g, i - j);
-        j += 1;
     }
     sum % p
 }

@@ -1,5 +1,6 @@
 -- What `open` answers.
 --   opens_unique      two answers that meet it are equal
+--   told_one          two results that tell one answer are equal
 --   opens_number   the number beside the field is the table's
 --   opens_nothing, opens_held   beside a refusal zeros; beside 0 an accepted field, opened
 use mathlib.Core.Path.{◌≡◌, sym, ap, ap₂, ◌∙◌}
@@ -7,13 +8,16 @@ use mathlib.Core.Logic.{◌≢◌}
 use mathlib.Core.List.{List}
 use Prim.Native.Nat.{ℕ}
 use native.Mathlib.Omega.{arith}
+use Rattle.std.specs.declared.result.Result.{Result}
+use Rattle.std.specs.declared.result.Result.TheVariants.{Ok, Err}
+use Rattle.base_answers.specs.declared.Fault.{Fault}
+use Rattle.base_answers.proofs.Faults.{some_number, number_one}
 use Rattle.math_fp.specs.Fp.{Prime}
 use Rattle.math_rows.specs.Made.{reading}
 use Rattle.math_rows.proofs.Unique.{row_unique}
 use Rattle.field_open.specs.declared.Field.{Field}
-use Rattle.field_open.specs.declared.FieldAnswer.{FieldAnswer}
 use Rattle.field_open.specs.Refusal.{Refusal, Accepted}
-use Rattle.field_open.specs.Opening.{Holds, Held, nothing, Opens}
+use Rattle.field_open.specs.Opening.{FieldAnswer, Holds, Held, nothing, told, Opens}
 use Rattle.field_open.proofs.Door.{door_unique, door_number, door_none, door_open}
 
 abbrev made : ℕ → List ℕ → List ℕ → List ℕ → ℕ → ℕ → Field
@@ -37,6 +41,12 @@ pub opens_unique : {p : ℕ} {G H : List ℕ} (o o' : FieldAnswer) → Opens p G
 opens_unique o o' = door_unique (λ n e f. e ∙ sym f)
     (λ k (z, a) (z', b). opened_path o o' (z ∙ sym z')
     (holds_unique o.field o'.field k.prime (a k.deg_g k.deg_h k.list_g k.list_h) (b k.deg_g k.deg_h k.list_g k.list_h)))
+
+pub told_one : (r s : Result Field Fault) → told r ≡ told s → r ≡ s
+told_one (Ok f) (Ok g) e = ap (λ (o : FieldAnswer). Ok o.field) e
+told_one (Ok f) (Err k) e = absurd (some_number k (sym (ap (λ (o : FieldAnswer). o.refusal) e)))
+told_one (Err j) (Ok g) e = absurd (some_number j (ap (λ (o : FieldAnswer). o.refusal) e))
+told_one (Err j) (Err k) e = ap Err (number_one j k (ap (λ (o : FieldAnswer). o.refusal) e))
 
 module _ {p : ℕ} {G H : List ℕ} {o : FieldAnswer} (h : Opens p G H o) where
   pub opens_number : Refusal p G H o.refusal

@@ -3,16 +3,20 @@
 --   Holds p G H d e f   f is the field of p, G, H, where d and e are the degrees of G and H: the lists as rows, the row of their
 --                       product, deg r = (d + 2 e)/3, deg w = (2 d + e)/3
 --   Held p G H f        the same, at the degrees of the lists
+--   FieldAnswer         document 01's answer: the refusal's number, 0 for none, with the field beside it
 --   nothing             the field of zeros
 --   refused n           the answer beside the refusal n: nothing but zeros
+--   told r              the answer that a result tells
 --   Opens p G H o       the whole answer: refusals 1 to 8, then the field
--- In proofs/Opening.antt: `opens_unique`, two answers that meet it are equal; `opens_number`, `opens_held`, what the number beside it says.
-use Rattle.std.specs.Prelude.{◌≡◌, List, ℕ, ◌+◌, ◌*◌, get_or, replicate}
+-- In proofs/Opening.antt: `opens_unique`, two answers that meet it are equal; `told_one`, and so are two results that tell one answer;
+-- `opens_number`, `opens_held`, what the number beside it says.
+use Rattle.std.specs.Prelude.{◌≡◌, List, ℕ, ◌+◌, ◌*◌, get_or, replicate, Result, Ok, Err}
+use Rattle.base_answers.specs.declared.Fault.{Fault}
+use Rattle.base_answers.specs.Faults.{fault_number}
 use Rattle.math_fp.specs.Fp.{Prime}
 use Rattle.math_rows.specs.Made.{reading}
 use Rattle.math_rows.specs.Row.{Row, tab, row}
 use Rattle.field_open.specs.declared.Field.{Field}
-use Rattle.field_open.specs.declared.FieldAnswer.{FieldAnswer}
 use Rattle.field_open.specs.Refusal.{Degree}
 use Rattle.field_open.specs.Door.{Door}
 
@@ -31,6 +35,10 @@ pub record Holds (p : ℕ) (G H : List ℕ) (d e : ℕ) (f : Field) : Type 0 whe
 abbrev pub Held : ℕ → List ℕ → List ℕ → Field → Type 0
 Held p G H f = (d e : ℕ) → Degree p G d → Degree p H e → Holds p G H d e f
 
+pub record FieldAnswer : Type 0 where
+  pub refusal : ℕ
+  pub field : Field
+
 abbrev pub nothing : Field
 nothing = record {
   p = 0;
@@ -43,6 +51,10 @@ nothing = record {
 
 abbrev pub refused : ℕ → FieldAnswer
 refused n = record { refusal = n; field = nothing }
+
+abbrev pub told : Result Field Fault → FieldAnswer
+told (Ok f) = record { refusal = 0; field = f }
+told (Err k) = refused (fault_number k)
 
 abbrev pub Opens : ℕ → List ℕ → List ℕ → FieldAnswer → Type 0
 Opens p G H o = Door p G H (λ n. o ≡ refused n) ((o.refusal ≡ 0) × Held p G H o.field)

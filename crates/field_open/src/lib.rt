@@ -2,12 +2,14 @@
 // specs/Refusal.antt has the table, specs/Padding.antt the lists as callers give them, specs/Opening.antt the contract of `open`.
 #![tactic(auto)]
 
-ghost use Rattle.std.specs.Prelude.{◌≡◌};
+ghost use Rattle.base_answers.specs.Faults.{no_of};
 ghost use Rattle.base_answers.specs.Stage.{End};
 ghost use Rattle.field_open.specs.Refusal.{Rows12, Rows36, Rows78, Refusal, Accepted};
 ghost use Rattle.field_open.specs.Padding.{unpad, Unpadded};
 ghost use Rattle.field_open.specs.Parts.{ListLength, Shaped};
-ghost use Rattle.field_open.specs.Opening.{Held, nothing, Opens};
+ghost use Rattle.field_open.specs.Opening.{Held, Opens, told};
+
+use base_answers::Fault;
 
 const LONGEST: usize = 13;
 
@@ -26,13 +28,6 @@ pub struct Field {
     pub dw: usize,
 }
 
-// The number of the refusal beside the field; with a refusal the field is all zeros.
-#[derive(Clone, Copy)]
-pub struct FieldAnswer {
-    pub refusal: u32,
-    pub field: Field,
-}
-
 // How many numbers at the front of s are the list that it stands for, without the zeros at its end; 0 where it has over 32 entries.
 pub fn unpadded(s: &[u64]) -> usize
     ensures { Unpadded s.now result }
@@ -48,52 +43,48 @@ pub fn list_length(p: u64, s: &[u64]) -> usize
 }
 
 // 1 and 2.
-fn check_p(p: u64) -> u32
-    ensures { Rows12 p End result }
+fn check_p(p: u64) -> Result<(), Fault>
+    ensures { Rows12 p End (no_of result) }
 {
-    if p < 5 {
-        return 1;
-    }
-    let ok = num_prime::is_prime(p);
-    if !ok {
-        return 1;
+    if p < 5 || !num_prime::is_prime(p) {
+        return Err(Fault::NotPrime);
     }
     if p % 3 == 1 {
-        return 2;
+        return Err(Fault::OneModThree);
     }
-    0
+    Ok(())
 }
 
 // 3 to 6. The degree is the number of coefficients less 1.
-fn check_lists(p: u64, g: &[u64], h: &[u64]) -> u32
-    ensures { Rows36 p g.now h.now End result }
+fn check_lists(p: u64, g: &[u64], h: &[u64]) -> Result<(), Fault>
+    ensures { Rows36 p g.now h.now End (no_of result) }
 {
     let lg = list_length(p, g);
     if lg == 0 {
-        return 3;
+        return Err(Fault::BadList);
     }
     let lh = list_length(p, h);
     if lh == 0 {
-        return 3;
+        return Err(Fault::BadList);
     }
     let d = lg - 1;
     let e = lh - 1;
     if d + e == 0 {
-        return 4;
+        return Err(Fault::BothConstant);
     }
     if d + e > HIGHEST {
-        return 5;
+        return Err(Fault::SumTooLarge);
     }
     if d % 3 != e % 3 {
-        return 6;
+        return Err(Fault::NotThirds);
     }
-    0
+    Ok(())
 }
 
 // 7 and 8.
-fn check_factors(p: u64, g: &[u64], h: &[u64]) -> u32
+fn check_factors(p: u64, g: &[u64], h: &[u64]) -> Result<(), Fault>
     requires { Shaped p g.now h.now }
-    ensures { Rows78 p g.now h.now result }
+    ensures { Rows78 p g.now h.now (no_of result) }
 {
     let x = poly_rows::from_list(g);
     let y = poly_rows::from_list(h);
@@ -102,24 +93,18 @@ fn check_factors(p: u64, g: &[u64], h: &[u64]) -> u32
     field_factors::first_factor(free, apart)
 }
 
-// The number of the first refusal of p, G, H, or 0, where zeros at the end of a list are a fault, as in a book.
-pub fn strict_refusal(p: u64, g: &[u64], h: &[u64]) -> u32
-    ensures { Refusal p g.now h.now result }
+// The first refusal of p, G, H, where zeros at the end of a list are a fault, as in a book.
+pub fn strict_refusal(p: u64, g: &[u64], h: &[u64]) -> Result<(), Fault>
+    ensures { Refusal p g.now h.now (no_of result) }
 {
-    let a = check_p(p);
-    if a != 0 {
-        return a;
-    }
-    let b = check_lists(p, g, h);
-    if b != 0 {
-        return b;
-    }
+    check_p(p)?;
+    check_lists(p, g, h)?;
     check_factors(p, g, h)
 }
 
-// The number of the first refusal of p, G, H as a caller gives them, or 0: zeros above the coefficients are passed over.
-pub fn refusal(p: u64, g: &[u64], h: &[u64]) -> u32
-    ensures { Refusal p (unpad g.now) (unpad h.now) result }
+// The first refusal of p, G, H as a caller gives them: zeros above the coefficients are passed over.
+pub fn refusal(p: u64, g: &[u64], h: &[u64]) -> Result<(), Fault>
+    ensures { Refusal p (unpad g.now) (unpad h.now) (no_of result) }
 {
     let a = unpadded(g);
     let b = unpadded(h);
@@ -148,37 +133,12 @@ fn field_of(p: u64, g: &[u64], h: &[u64]) -> Field
     }
 }
 
-// The zeros beside a refusal.
-fn no_field() -> Field
-    ensures { result ≡ nothing }
+// The opened field of p, G, H, or the first refusal.
+pub fn open(p: u64, g: &[u64], h: &[u64]) -> Result<Field, Fault>
+    ensures { Opens p (unpad g.now) (unpad h.now) (told result) }
 {
-    let z: [u64; 32] = [0; 32];
-    Field {
-        p: 0,
-        g: z,
-        h: z,
-        gh: z,
-        dr: 0,
-        dw: 0,
-    }
-}
-
-pub fn open(p: u64, g: &[u64], h: &[u64]) -> FieldAnswer
-    ensures { Opens p (unpad g.now) (unpad h.now) result }
-{
-    let n = refusal(p, g, h);
-    if n != 0 {
-        let z = no_field();
-        return FieldAnswer {
-            refusal: n,
-            field: z,
-        };
-    }
+    refusal(p, g, h)?;
     let a = unpadded(g);
     let b = unpadded(h);
-    let f = field_of(p, &g[..a], &h[..b]);
-    FieldAnswer {
-        refusal: 0,
-        field: f,
-    }
+    Ok(field_of(p, &g[..a], &h[..b]))
 }

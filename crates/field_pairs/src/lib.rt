@@ -24,10 +24,8 @@ pub fn fill(p: u64, g: &[u16], h: &[u16], c: u64, u: u64, r: &mut [u16], w: &mut
         let x = first_w(p, u, coefficient(g, 0), coefficient(h, 0), c);
         r[0] = c as u16;
         w[0] = x as u16;
-        let mut i: usize = 1;
-        while i < r.len() {
+        for i in 1..r.len() {
             next_pair(p, g, h, u, r, w, i);
-            i += 1;
         }
     }
 }

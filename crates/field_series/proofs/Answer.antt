@@ -1,9 +1,10 @@
 -- What `series` and `open_with_series` answer.
---   refused, wrong, done    the three outcomes of `series`; front_done: the last from the fronts that the lists stand for
---   opening, opened         what `with_series` asks of those fronts, and the opened field with its series
+--   done                    what `series` answers where it fills both lists
+--   opening                 what `with_series` asks, of the fronts that the lists stand for
 --   answer_unique              two outcomes of one call of `series` are equal
 --   answer_kept             a refusal leaves both lists
 --   expands_unique             two answers of `open_with_series` to one field are equal
+--   told_one                two results that tell one answer are equal
 --   expands_number          the number beside the opened field is the table's
 --   expands_holding         beside 0: the field, opened
 use mathlib.Core.Path.{◌≡◌, refl, sym, ap, ◌∙◌}
@@ -11,11 +12,14 @@ use mathlib.Core.Logic.{◌≢◌}
 use mathlib.Core.List.{List}
 use Prim.Native.Nat.{ℕ}
 use lib.ListN.{take}
+use Rattle.std.specs.declared.result.Result.{Result}
+use Rattle.std.specs.declared.result.Result.TheVariants.{Ok, Err}
 use Rattle.base_lists.proofs.Paddings.{fronts, unfronts}
+use Rattle.base_answers.specs.declared.Fault.{Fault}
+use Rattle.base_answers.proofs.Faults.{some_number, number_one}
 use Rattle.field_open.specs.Refusal.{Refusal, Accepted}
 use Rattle.field_open.specs.Padding.{unpad, Unpadded}
-use Rattle.field_open.specs.Opening.{Held, Opens}
-use Rattle.field_open.specs.declared.FieldAnswer.{FieldAnswer}
+use Rattle.field_open.specs.Opening.{FieldAnswer, Held, Opens}
 use Rattle.field_open.proofs.Opening.{opens_number, opens_held}
 use Rattle.field_open.proofs.Paddings.{front_accepted}
 use Rattle.field_open.proofs.Door.{door_refused, door_goes, door_out, door_unique, door_number, door_open}
@@ -23,17 +27,10 @@ use Rattle.field_roots.proofs.Only.{series_of_unique}
 use Rattle.field_fill.specs.Fill.{Grown}
 use Rattle.field_series.specs.Keeps.{Holding}
 use Rattle.field_series.specs.declared.OpenedField.{OpenedField}
-use Rattle.field_series.specs.declared.OpenedAnswer.{OpenedAnswer}
-use Rattle.field_series.specs.Answer.{Fits, Refused, Goes, unfit, filled, Answer, Opening, Expands}
+use Rattle.field_series.specs.Answer.{Fits, Refused, Goes, unfit, filled, Answer, OpenedAnswer, told, Opening, Expands}
 use Rattle.field_series.proofs.Keeps.{holding_unique}
 
 module _ {p : ℕ} {G H r w : List ℕ} where
-  pub refused : {n : ℕ} → Refusal p G H n → n ≢ 0 → Answer p G H r w r w n
-  refused f h = door_refused f h (record { number = refl; kept = (refl, refl) })
-
-  pub wrong : {n : ℕ} → Refusal p G H n → n ≡ 0 → (Fits r w → ⊥) → Answer p G H r w r w 14
-  wrong f z h = door_goes f z (unfit h (record { number = refl; kept = (refl, refl) }))
-
   pub done : {r' w' : List ℕ} {n : ℕ} → Refusal p G H n → n ≡ 0 → Fits r w → Grown p G H r r' w' → Answer p G H r w r' w' 0
   done f z h g = door_goes f z (filled h refl g.size g.series)
 
@@ -57,18 +54,10 @@ module _ {p : ℕ} {G H r w : List ℕ} where
       goes (filled g e s t) = absurd (f e)
 
 module _ {p : ℕ} {G H : List ℕ} {i j : ℕ} (a : Unpadded G i) (b : Unpadded H j) where
-  pub front_done : {r w r' w' : List ℕ} {n : ℕ} → Refusal p (unpad G) (unpad H) n → n ≡ 0 → Fits r w → Grown p (take i G) (take j H) r r' w'
-      → Answer p (unpad G) (unpad H) r w r' w' 0
-  front_done {r} {w} {r'} {w'} f z h g = done f z h (fronts (λ x y. Grown p x y r r' w') a b g)
-
   pub opening : {o : FieldAnswer} → Opens p (unpad G) (unpad H) o → o.refusal ≡ 0 → Opening p (take i G) (take j H) o.field
   opening {o} f z =
       let (A, k) = opens_held f z in
       record { accepted = front_accepted a b A; held = unfronts (λ x y. Held p x y o.field) a b k }
-
-  pub opened : {o : FieldAnswer} {c : OpenedField} → Opens p (unpad G) (unpad H) o → o.refusal ≡ 0 → Holding p (take i G) (take j H) c
-      → Expands p (unpad G) (unpad H) (record { refusal = 0; cubic = c })
-  opened {o} {c} f z k = door_goes (opens_number f) z (refl, fronts (λ x y. Holding p x y c) a b k)
 
 pub expands_unique : {p : ℕ} {G H : List ℕ} (o o' : OpenedAnswer) → Expands p G H o → Expands p G H o' → o ≡ o'
 expands_unique o o' = door_unique (λ n e f. e ∙ sym f)
@@ -76,6 +65,12 @@ expands_unique o o' = door_unique (λ n e f. e ∙ sym f)
     let e : o.refusal ≡ o'.refusal = z ∙ sym z' in
     let c : o.cubic ≡ o'.cubic = holding_unique o.cubic o'.cubic h h' in
     (λ i. record { refusal = e i; cubic = c i }))
+
+pub told_one : (r s : Result OpenedField Fault) → told r ≡ told s → r ≡ s
+told_one (Ok c) (Ok d) e = ap (λ (o : OpenedAnswer). Ok o.cubic) e
+told_one (Ok c) (Err k) e = absurd (some_number k (sym (ap (λ (o : OpenedAnswer). o.refusal) e)))
+told_one (Err j) (Ok d) e = absurd (some_number j (ap (λ (o : OpenedAnswer). o.refusal) e))
+told_one (Err j) (Err k) e = ap Err (number_one j k (ap (λ (o : OpenedAnswer). o.refusal) e))
 
 module _ {p : ℕ} {G H : List ℕ} {o : OpenedAnswer} (h : Expands p G H o) where
   pub expands_number : Refusal p G H o.refusal

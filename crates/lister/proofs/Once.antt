@@ -20,8 +20,7 @@ use Rattle.text_cut.specs.declared.Step.TheVariants.{Whole, Broken, Pending}
 use Rattle.text_cut.proofs.Steps.{cut_unique}
 use Rattle.text_read.proofs.Writings.{reads_unique}
 use Rattle.field_open.specs.Padding.{unpad}
-use Rattle.door_unit.specs.declared.UnitAnswer.{UnitAnswer}
-use Rattle.door_unit.specs.Unit.{Makes}
+use Rattle.door_unit.specs.Unit.{UnitAnswer, Makes}
 use Rattle.door_unit.proofs.Once.{makes_unique, Same}
 use Rattle.base_lists.specs.Coefficients.{trim}
 use Rattle.lister_print.specs.Text.{unit_text, told, made_text}

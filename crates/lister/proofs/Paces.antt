@@ -66,10 +66,6 @@ module _ (k s d : List ℕ) (g : Going) (k' : List ℕ) where
 pub stride : {k s d : List ℕ} {g r : Going} {k' d' : List ℕ} → Steps k s d g r k' d' → Stride k s d g r k' d'
 stride {k} {s} {d} {g} {r} {k'} {d'} x = stride_by k s d g k' x.c r d' x.cuts x.does
 
-pub steps_by : (k s d : List ℕ) (g : Going) {r : Going} {k' d' : List ℕ} {c c' : Step} → c ≡ c' → CutTells k g.n s g.at c k' → Does s d g c' k' r d'
-    → Steps k s d g r k' d'
-steps_by k s d g {k' = k'} {c' = c'} e t x = record { c = c'; cuts = subst (λ z. CutTells k g.n s g.at z k') e t; does = x }
-
 -- ---- several
 pub record Pace (k s d : List ℕ) (g r : Going) (k' d' : List ℕ) : Type 0 where
   pub out_same : length d' ≡ length d

@@ -1,6 +1,6 @@
 -- The answer to a line, from what `parse` answers.
 --   told_front   what `unit` answers, printed behind the fronts that the two lists stand for, is the answer to the field
---   read_as      what a line that reads left in the slices; lent_G, lent_H: its lists are within them
+--   lent_G, lent_H   the lists of a line that reads are within the slices
 --   told_read    the answer to a line that reads
 --   told_not     the answer to a line that does not
 use mathlib.Core.Path.{◌≡◌, ap, ◌∙◌, subst}
@@ -13,13 +13,10 @@ use Rattle.base_lists.specs.Pieces.{Put}
 use Rattle.base_lists.proofs.Paddings.{fronts}
 use Rattle.text_put.specs.Print.{line_text, refused_text}
 use Rattle.text_read.specs.Tells.{ReadAs, ParseTells}
-use Rattle.text_read.specs.declared.Line.{Line}
-use Rattle.text_read.specs.declared.Parsed.{Parsed}
-use Rattle.text_read.specs.declared.Parsed.TheVariants.{Read, Malformed}
+use Rattle.std.specs.Prelude.{None}
 use Rattle.text_read.proofs.Answers.{malformed_means}
 use Rattle.field_open.specs.Padding.{unpad, Unpadded}
-use Rattle.door_unit.specs.declared.UnitAnswer.{UnitAnswer}
-use Rattle.door_unit.specs.Unit.{Makes}
+use Rattle.door_unit.specs.Unit.{UnitAnswer, Makes}
 use Rattle.lister_print.specs.Text.{made_text}
 use Rattle.lister.specs.Listing.{budget, blank, malformed, read, Told, Answer}
 
@@ -28,9 +25,6 @@ pub told_front : {p : ℕ} {g h : List ℕ} {n k : ℕ} {m : UnitAnswer} {rows s
     → Told p g h d at r d'
 told_front {p} {m = m} {rows} {scratch} {d} {at} {r} {d'} w a b x =
     record { m = m; rows = rows; scratch = scratch; makes = x; put = fronts (λ G H. Put d at (made_text (line_text p G H) m rows) r d') a b w }
-
-pub read_as : {line g h g' h' : List ℕ} {r : Parsed} {l : Line} → r ≡ Read l → ParseTells line g h r g' h' → ReadAs line g h l.p l.ng l.nh g' h'
-read_as {line} {g} {h} {g'} {h'} e t = subst (λ z. ParseTells line g h z g' h') e t
 
 front_length : (G d d' : List ℕ) (n : ℕ) → length G ≡ n → d' ≡ G ++ drop n d → n ≤ length d'
 front_length G d d' n e f = let o : length d' ≡ length G + length (drop n d) = ap length f ∙ length-append G (drop n d) in omega arith
@@ -49,7 +43,7 @@ module _ {line g h : List ℕ} {p ng nh : ℕ} {g' h' : List ℕ} (q : ReadAs li
       let w : Told p q.G q.H d at r d' = subst (λ z. Told p q.G z d at r d') b (subst (λ z. Told p z (take nh h') d at r d') a t) in
       record { text = _; lists = read p q.G q.H w.m w.rows w.scratch q.reads w.makes; put = w.put }
 
-pub told_not : {line : List ℕ} (g h g' h' : List ℕ) {r : Parsed} {d : List ℕ} {at q : ℕ} {d' : List ℕ} → 126 ≤ length g → 126 ≤ length h → r ≡ Malformed
-    → ParseTells line g h r g' h' → Put d at (refused_text 12) q d' → Answer line d at q d'
-told_not {line} g h g' h' u v e t a =
-    record { text = refused_text 12; lists = malformed (malformed_means line g h g' h' u v (subst (λ z. ParseTells line g h z g' h') e t)); put = a }
+pub told_not : {line : List ℕ} (g h g' h' : List ℕ) {d : List ℕ} {at q : ℕ} {d' : List ℕ} → 126 ≤ length g → 126 ≤ length h
+    → ParseTells line g h None g' h' → Put d at (refused_text 12) q d' → Answer line d at q d'
+told_not {line} g h g' h' u v t a =
+    record { text = refused_text 12; lists = malformed (malformed_means line g h g' h' u v t); put = a }

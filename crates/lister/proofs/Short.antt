@@ -17,8 +17,7 @@ use Rattle.field_open.specs.Padding.{unpad}
 use Rattle.field_open.proofs.Door.{door_out}
 use Rattle.door_unit.proofs.Once.{refused_number}
 use Rattle.base_lists.specs.Pieces.{cut}
-use Rattle.door_unit.specs.declared.UnitAnswer.{UnitAnswer}
-use Rattle.door_unit.specs.Unit.{Makes, Goes, bad, spent, narrow, made}
+use Rattle.door_unit.specs.Unit.{UnitAnswer, Makes, Goes, bad, spent, narrow, made}
 use Rattle.base_lists.specs.Coefficients.{trim}
 use Rattle.lister_rows.specs.Text.{rows_text}
 use Rattle.lister_print.specs.Text.{unit_text, made_text}

@@ -18,8 +18,7 @@ use Rattle.text_cut.specs.declared.Step.{Step}
 use Rattle.text_cut.specs.declared.Step.TheVariants.{Whole, Broken, Pending}
 use Rattle.text_read.specs.Grammar.{Reads}
 use Rattle.field_open.specs.Padding.{unpad}
-use Rattle.door_unit.specs.declared.UnitAnswer.{UnitAnswer}
-use Rattle.door_unit.specs.Unit.{Makes}
+use Rattle.door_unit.specs.Unit.{UnitAnswer, Makes}
 use Rattle.lister_print.specs.Text.{made_text}
 use Rattle.lister.specs.declared.Going.{Going}
 

@@ -4,7 +4,6 @@
 ghost use Rattle.lister.specs.Listing.{Told, Answer, Steps, Passes};
 
 use text_cut::Step;
-use text_read::Parsed;
 
 // No answer is longer.
 const ROOM: usize = 20000;
@@ -35,66 +34,46 @@ pub fn answer(line: &[u8], out: &mut [u8], at: usize) -> usize
 {
     let mut g = [0u64; 128];
     let mut h = [0u64; 128];
-    let r = text_read::parse(line, &mut g, &mut h);
-    let Parsed::Read(l) = r else {
+    let Some(l) = text_read::parse(line, &mut g, &mut h) else {
         return text_put::put_refused(out, at, 12);
     };
-    let ng = l.ng;
-    let nh = l.nh;
-    field_answer(l.p, &g[..ng], &h[..nh], out, at)
+    field_answer(l.p, &g[..l.ng], &h[..l.nh], out, at)
 }
 
 // One step through a piece: to the end of a line, which is answered, or to the end of the piece.
 fn step(kept: &mut [u8], s: &[u8], out: &mut [u8], g: Going) -> Going
     ensures { Steps kept.old s.now out.old g result kept.new out.new }
 {
-    let at = g.at;
-    let n = g.n;
-    let to = g.to;
-    let c = text_cut::next_line(kept, n, s, at);
-    match c {
-        Step::Whole(m, next) => {
-            let w = answer(&kept[..m], out, to);
-            Going {
-                at: next,
-                n: 0,
-                to: w,
-            }
-        }
-        Step::Broken(next) => {
-            let w = text_put::put_refused(out, to, 12);
-            Going {
-                at: next,
-                n: 0,
-                to: w,
-            }
-        }
-        Step::Pending(m) => {
-            Going {
-                at: s.len(),
-                n: m,
-                to,
-            }
-        }
+    match text_cut::next_line(kept, g.n, s, g.at) {
+        Step::Whole(m, next) => Going {
+            at: next,
+            n: 0,
+            to: answer(&kept[..m], out, g.to),
+        },
+        Step::Broken(next) => Going {
+            at: next,
+            n: 0,
+            to: text_put::put_refused(out, g.to, 12),
+        },
+        Step::Pending(m) => Going {
+            at: s.len(),
+            n: m,
+            to: g.to,
+        },
     }
 }
 
 // Through a piece of the input, from a place on: to its end, or until `out` has no room left for a whole answer. `kept` holds the
-// bytes that are pending.
+// bytes that are pending. A step is as long as a line, so this is no `for`.
 pub fn pass(kept: &mut [u8], s: &[u8], out: &mut [u8], from: Going) -> Going
     ensures { Passes kept.old s.now out.old from result kept.new out.new }
 {
+    let Some(last) = out.len().checked_sub(ROOM) else {
+        return from;
+    };
     let mut g = from;
-    if out.len() < ROOM {
-        return g;
-    }
-    let last = out.len() - ROOM;
-    while g.at < s.len() {
-        if last < g.to {
-            return g;
-        }
-        let t = step(kept, s, out, g);
-        g = t;
+    while g.at < s.len() && g.to <= last {
+        g = step(kept, s, out, g);
     }
     g
 }

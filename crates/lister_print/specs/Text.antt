@@ -9,7 +9,7 @@ use Rattle.base_lists.specs.Pieces.{cut}
 use Rattle.text_put.specs.Print.{semicolon, number_text, refused_text}
 use Rattle.base_lists.specs.Coefficients.{trim}
 use Rattle.lister_rows.specs.Text.{rows_text}
-use Rattle.door_unit.specs.declared.UnitAnswer.{UnitAnswer}
+use Rattle.door_unit.specs.Unit.{UnitAnswer}
 
 -- "c = 1,024"
 abbrev pub width : ℕ

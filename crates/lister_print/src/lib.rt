@@ -2,11 +2,13 @@
 #![tactic(auto)]
 
 ghost use Rattle.std.specs.Prelude.{◌∷◌};
-ghost use Rattle.base_lists.specs.Pieces.{Put};
+ghost use Rattle.base_lists.specs.Coefficients.{trim};
+ghost use Rattle.base_lists.specs.Pieces.{Put, cut};
 ghost use Rattle.text_put.specs.Print.{semicolon, number_text, line_text};
-ghost use Rattle.lister_print.specs.Text.{made_text};
+ghost use Rattle.door_unit.specs.Unit.{told};
+ghost use Rattle.lister_print.specs.Text.{unit_text, made_text};
 
-use door_unit::UnitAnswer;
+use base_answers::{Cycle, Fault};
 
 // A field of the answer that is a number.
 fn put_count(out: &mut [u8], at: usize, n: u64) -> usize
@@ -16,6 +18,25 @@ fn put_count(out: &mut [u8], at: usize, n: u64) -> usize
     text_put::put_number(out, to, n)
 }
 
+// The unit behind p;G;H: period, regulator and rows.
+fn put_unit(
+    out: &mut [u8],
+    at: usize,
+    p: u64,
+    g: &[u64],
+    h: &[u64],
+    cycle: Cycle,
+    rows: &[u16; 6144],
+) -> usize
+    ensures { Put out.old at (unit_text (line_text p g.now h.now) cycle.period.0 cycle.regulator.0
+        (trim (cut 0 1024 rows.now)) (trim (cut 1024 1024 rows.now)) (trim (cut 2048 1024 rows.now))) result out.new }
+{
+    let a = text_put::put_field(out, at, p, g, h);
+    let b = put_count(out, a, cycle.period.0);
+    let c = put_count(out, b, cycle.regulator.0);
+    lister_rows::put_rows(out, c, rows)
+}
+
 // What `unit` answered, printed behind p;G;H.
 pub fn put_made(
     out: &mut [u8],
@@ -23,19 +44,16 @@ pub fn put_made(
     p: u64,
     g: &[u64],
     h: &[u64],
-    m: UnitAnswer,
+    made: Result<Cycle, Fault>,
     rows: &[u16; 6144],
 ) -> usize
-    ensures { Put out.old at (made_text (line_text p g.now h.now) m rows.now) result out.new }
+    ensures { Put out.old at (made_text (line_text p g.now h.now) (told made) rows.now) result out.new }
 {
-    let refusal = m.refusal;
-    if refusal != 0 {
-        return text_put::put_refused(out, at, refusal as u64);
+    match made {
+        Ok(cycle) => put_unit(out, at, p, g, h, cycle, rows),
+        Err(k) => {
+            let n = u32::from(k);
+            text_put::put_refused(out, at, n as u64)
+        }
     }
-    let period = m.period;
-    let regulator = m.regulator;
-    let a = text_put::put_field(out, at, p, g, h);
-    let b = put_count(out, a, period.0);
-    let c = put_count(out, b, regulator.0);
-    lister_rows::put_rows(out, c, rows)
 }

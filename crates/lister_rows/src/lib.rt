@@ -16,7 +16,7 @@ fn put_row(out: &mut [u8], at: usize, row: &[u16]) -> usize
     text_put::put_list(out, to, row, n)
 }
 
-// The three rows of the unit, and the newline.
+// The three rows of the unit, and the newline. A line for each row, as the contract names them.
 pub fn put_rows(out: &mut [u8], at: usize, rows: &[u16]) -> usize
     requires { 3072 ≤ length rows.now }
     ensures { Put out.old at (rows_text (trim (cut 0 1024 rows.now)) (trim (cut 1024 1024 rows.now)) (trim (cut 2048 1024 rows.now))) result out.new }

@@ -11,7 +11,7 @@ const STDOUT_FILENO: i32 = 1;
 
 // Of a line n bytes are pending; of the piece that was read, m bytes, those from `at` on are not answered yet; of the answers those from
 // `from` up to `to` are not written yet. The phase is 0 before the input's end is read, 1 from then on, 2 once all is written, 3 once a
-// call failed.
+// call failed: a number, since the functions of this crate answer to any (docs/ENTRY-POINTS.md).
 #[derive(Clone, Copy)]
 pub struct Stand {
     pub n: usize,
@@ -34,27 +34,23 @@ pub enum Act {
 pub fn plan(s: Stand) -> Act
     ensures { Plans s result }
 {
-    let from = s.from;
-    let to = s.to;
-    if from < to {
-        return Act::Write(STDOUT_FILENO, from, to);
+    if s.from < s.to {
+        Act::Write(STDOUT_FILENO, s.from, s.to)
+    } else if s.at < s.m {
+        Act::Answer
+    } else if s.phase == 0 {
+        Act::Read(STDIN_FILENO)
+    } else {
+        Act::Stop
     }
-    if s.at < s.m {
-        return Act::Answer;
-    }
-    if s.phase == 0 {
-        return Act::Read(STDIN_FILENO);
-    }
-    Act::Stop
 }
 
 // After a read that brought a piece of m bytes, or none: what is pending stays.
 pub fn came(s: Stand, m: usize, phase: u8) -> Stand
     ensures { result ≡ with_piece s m phase }
 {
-    let pending = s.n;
     Stand {
-        n: pending,
+        n: s.n,
         at: 0,
         m,
         from: 0,
@@ -82,12 +78,5 @@ pub fn ended(out: &mut [u8], s: Stand) -> Stand
 pub fn stopped(s: Stand) -> Stand
     ensures { result ≡ at_stop s }
 {
-    Stand {
-        n: s.n,
-        at: s.at,
-        m: s.m,
-        from: s.from,
-        to: s.to,
-        phase: 2,
-    }
+    Stand { phase: 2, ..s }
 }

@@ -6,7 +6,8 @@ ghost use Rattle.std.specs.Prelude.{◌≡◌, ◌+◌, ◌*◌, ◌-◌, ◌%�
 ghost use Rattle.num_mod.specs.Residue.{IsModulus};
 ghost use Rattle.num_mod.specs.Prepared.{Scale, Quick, Prepared, PreparedOf, ReduceOnceAsks, AddProductAsks, Added};
 
-// A modulus p with what its remainders need: below lim, one multiplication by m finds a remainder.
+// A modulus p with what its remainders need: below lim, one multiplication by m finds a remainder. lim is 0 where each is a division, as
+// `Prepared` says.
 #[derive(Clone, Copy)]
 pub struct Modulus {
     pub p: u64,

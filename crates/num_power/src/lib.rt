@@ -12,7 +12,7 @@ pub fn mul(p: u64, a: u64, b: u64) -> u64
     a * b % p
 }
 
-// a^e by squaring: r b^n is a^e mod p throughout.
+// a^e by squaring: r b^n is a^e mod p throughout. The loop halves n and counts no index, so no range and no iterator fits it.
 pub fn power(p: u64, a: u64, e: u64) -> u64
     requires { One p a }
     ensures { result ≡ pow_mod p a e }

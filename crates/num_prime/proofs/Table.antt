@@ -3,7 +3,7 @@
 --   entry_prime, prime_entry   each entry is a prime, and each prime below 256 is an entry
 --   passed_all                 what no entry divides unless equal to it is prime, up to 65,535
 --   divided                    what another entry divides is not
---   says_yes, says_no          the two answers as contracts
+--   tested                     the answer of the test as its contract
 use mathlib.Core.Path.{◌≡◌, refl, sym, ap, ◌∙◌, subst}
 use mathlib.Core.Logic.{◌≢◌}
 use mathlib.Core.Bool.{Bool, true, false, true≢false}
@@ -99,8 +99,8 @@ divided p i h l ne z pr =
     let le : q ≤ p = le_of_dvd (omega arith) (dvd_of_mod-eq-zero q z) in
     pr.only q (entry_prime i l).big (omega arith) z
 
-pub says_yes : {p : ℕ} → Prime p → p ≤ largest → PrimeTest p true
-says_yes pr l = record { yes! = λ e. (pr, l); no! = λ e. absurd (true≢false e) }
-
-pub says_no : {p : ℕ} → (Prime p → p ≤ largest → ⊥) → PrimeTest p false
-says_no f = record { yes! = λ e. absurd (true≢false (sym e)); no! = λ e. f }
+pub tested : {p : ℕ} {r : Bool} → 1 < p → p ≤ largest → (r ≡ true → Passed p 54) → (Passed p 54 → r ≡ true) → PrimeTest p r
+tested {p} h l f g = record {
+  yes! = λ e. (passed_all p h l (f e), l);
+  no! = λ e pr u. true≢false (sym (g (λ i v ne z. divided p i h v ne z pr)) ∙ e);
+}

@@ -1,8 +1,8 @@
 // The prime test, by the 54 primes below 256. specs/Table.antt has the table and the contract.
 #![tactic(auto)]
 
-ghost use Rattle.std.specs.Prelude.{◌≡◌, ◌<◌, get_or};
-ghost use Rattle.num_prime.specs.Table.{primes, PrimeTest};
+ghost use Rattle.std.specs.Prelude.{◌≡◌, ◌≢◌, ◌↔◌, ◌%◌, IsTrue, EachIndex, slice_index};
+ghost use Rattle.num_prime.specs.Table.{PrimeTest};
 
 const LARGEST: u64 = 65535;
 
@@ -12,32 +12,19 @@ const PRIMES: [u64; 54] = [
     197, 199, 211, 223, 227, 229, 233, 239, 241, 251,
 ];
 
-fn prime_at(i: usize) -> u64
-    requires { i < 54 }
-    ensures { result ≡ get_or primes i 0 }
+// Is every number of s that divides p equal to it?
+fn undivided(p: u64, s: &[u64]) -> bool
+    ensures { IsTrue result ↔ EachIndex s.now (λ i. slice_index s.now i ≢ p → p % slice_index s.now i ≢ 0) }
 {
-    PRIMES[i]
+    s.iter().all(|q| *q == p || !p.is_multiple_of(*q))
 }
 
 // None of the primes below 256 divides p unless equal to it.
 pub fn is_prime(p: u64) -> bool
     ensures { PrimeTest p result }
 {
-    if p < 2 {
+    if p < 2 || p > LARGEST {
         return false;
     }
-    if p > LARGEST {
-        return false;
-    }
-    let mut i: usize = 0;
-    while i < 54 {
-        let q = prime_at(i);
-        if q != p {
-            if p % q == 0 {
-                return false;
-            }
-        }
-        i += 1;
-    }
-    true
+    undivided(p, &PRIMES)
 }

@@ -8,7 +8,7 @@ ghost use Rattle.pair_agree.specs.Answer.{Both, Pairs};
 use pair_lists::agree;
 
 // The order in which two pairs agree after all lists are made monic.
-#[derive(Clone, Copy)]
+#[derive(Clone, Copy, PartialEq, Eq)]
 pub enum Pairing {
     Straight,
     Swapped,
@@ -20,22 +20,17 @@ pub fn paired(p: u64, g: &[u64], h: &[u64], g2: &[u64], h2: &[u64]) -> Pairing
     requires { Both p g.now h.now g2.now h2.now }
     ensures { Pairs p g.now h.now g2.now h2.now result }
 {
-    let a = agree(p, g, g2);
-    if a {
-        let b = agree(p, h, h2);
-        if b {
-            return Pairing::Straight;
+    if agree(p, g, g2) {
+        if agree(p, h, h2) {
+            Pairing::Straight
+        } else {
+            Pairing::Apart
         }
-        return Pairing::Apart;
+    } else if agree(p, g, h2) && agree(p, h, g2) {
+        Pairing::Swapped
+    } else {
+        Pairing::Apart
     }
-    let c = agree(p, g, h2);
-    if c {
-        let d = agree(p, h, g2);
-        if d {
-            return Pairing::Swapped;
-        }
-    }
-    Pairing::Apart
 }
 
 // Are two accepted pairs of one field?
@@ -43,10 +38,5 @@ pub fn one_field(p: u64, g: &[u64], h: &[u64], g2: &[u64], h2: &[u64]) -> bool
     requires { Both p g.now h.now g2.now h2.now }
     ensures { Decides result (OneField p g.now h.now g2.now h2.now) }
 {
-    let k = paired(p, g, h, g2, h2);
-    match k {
-        Pairing::Straight => true,
-        Pairing::Swapped => true,
-        Pairing::Apart => false,
-    }
+    paired(p, g, h, g2, h2) != Pairing::Apart
 }

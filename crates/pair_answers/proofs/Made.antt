@@ -9,9 +9,8 @@ use Prim.Native.Nat.{ℕ, ◌*◌, ◌≤◌}
 use native.Mathlib.Omega.{arith}
 use lib.ListN.{length, replicate}
 use Rattle.field_open.specs.Refusal.{Accepted}
-use Rattle.door_unit.specs.declared.UnitAnswer.{UnitAnswer}
+use Rattle.door_unit.specs.Unit.{UnitAnswer, Lent, Refused, Goes, bad, spent, narrow, made, Makes}
 use Rattle.math_chain.specs.Convention.{Convention}
-use Rattle.door_unit.specs.Unit.{Lent, Refused, Goes, bad, spent, narrow, made, Makes}
 use Rattle.base_answers.specs.Limits.{longest}
 use Rattle.door_unit.proofs.Once.{makes_unique}
 use Rattle.pair_laws.specs.OneField.{OneField}

@@ -12,13 +12,12 @@ use Rattle.field_open.specs.Refusal.{Accepted}
 use Rattle.field_open.proofs.Stages.{numbered}
 use Rattle.field_open.proofs.Door.{door_refused, door_goes}
 use Rattle.basis_record.specs.Record.{IsRecord}
-use Rattle.door_order.specs.declared.OrderAnswer.{OrderAnswer}
-use Rattle.door_order.specs.Answer.{Orders}
+use Rattle.door_order.specs.Answer.{OrderAnswer, Orders}
 use Rattle.door_order.proofs.Answer.{orders_unique}
-use Rattle.door_step.specs.declared.StepAnswer.{StepAnswer}
+use Rattle.door_step.specs.Answer.{StepAnswer}
 use Rattle.door_step.specs.Answer as stepped
 use Rattle.door_step.proofs.Answers.{answers_unique}
-use Rattle.walk_chain.specs.declared.WalkAnswer.{WalkAnswer}
+use Rattle.walk_chain.specs.Walk.{WalkAnswer}
 use Rattle.walk_chain.specs.Walk as walk
 use Rattle.walk_chain.proofs.Walk.{walks_unique}
 use Rattle.pair_laws.specs.OneField.{OneField}

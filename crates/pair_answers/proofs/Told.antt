@@ -5,8 +5,7 @@ use mathlib.Core.Path.{◌≡◌}
 use mathlib.Core.List.{List}
 use Prim.Native.Nat.{ℕ}
 use Rattle.field_open.specs.Refusal.{Accepted}
-use Rattle.door_period.specs.declared.PeriodAnswer.{PeriodAnswer}
-use Rattle.door_period.specs.Order.{Goes, budget, closed, spent, FromOrder}
+use Rattle.door_period.specs.Order.{PeriodAnswer, Goes, budget, closed, spent, FromOrder}
 use Rattle.door_period.proofs.Order.{from_order_unique}
 use Rattle.pair_laws.specs.OneField.{OneField}
 use Rattle.pair_agree.specs.Answer.{Coefficients}

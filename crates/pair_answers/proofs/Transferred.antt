@@ -8,9 +8,8 @@ use native.Mathlib.Omega.{arith}
 use lib.ListN.{length}
 use Rattle.field_open.specs.Refusal.{Accepted}
 use Rattle.field_open.proofs.Door.{door_out}
-use Rattle.door_unit.specs.declared.UnitAnswer.{UnitAnswer}
+use Rattle.door_unit.specs.Unit.{UnitAnswer, Makes}
 use Rattle.math_chain.specs.Convention.{Convention}
-use Rattle.door_unit.specs.Unit.{Makes}
 use Rattle.unit_finish.specs.Rows.{Holds}
 use Rattle.pair_laws.specs.OneField.{OneField}
 use Rattle.pair_laws.specs.Rows.{RowsCarry}

@@ -9,16 +9,11 @@
 -- `alike` in proofs/Alike.antt proves it.
 use Rattle.std.specs.Prelude.{◌≡◌, ◌⊎◌, List, ℕ, ◌*◌, ◌<◌, length, get_or}
 use Rattle.field_open.specs.Refusal.{Refusal}
-use Rattle.door_order.specs.declared.OrderAnswer.{OrderAnswer}
-use Rattle.door_order.specs.Answer.{Orders}
-use Rattle.door_step.specs.declared.StepAnswer.{StepAnswer}
-use Rattle.door_step.specs.Answer.{Answers}
-use Rattle.walk_chain.specs.declared.WalkAnswer.{WalkAnswer}
-use Rattle.walk_chain.specs.Walk.{Walks}
-use Rattle.door_period.specs.declared.PeriodAnswer.{PeriodAnswer}
-use Rattle.door_period.specs.Order.{FromOrder}
-use Rattle.door_unit.specs.declared.UnitAnswer.{UnitAnswer}
-use Rattle.door_unit.specs.Unit.{Makes}
+use Rattle.door_order.specs.Answer.{OrderAnswer, Orders}
+use Rattle.door_step.specs.Answer.{StepAnswer, Answers}
+use Rattle.walk_chain.specs.Walk.{WalkAnswer, Walks}
+use Rattle.door_period.specs.Order.{PeriodAnswer, FromOrder}
+use Rattle.door_unit.specs.Unit.{UnitAnswer, Makes}
 use Rattle.math_chain.specs.Convention.{Convention}
 use Rattle.unit_finish.specs.Rows.{Holds}
 use Rattle.pair_laws.specs.OneField.{OneField}

@@ -10,21 +10,12 @@ pub fn agree(p: u64, a: &[u64], b: &[u64]) -> bool
     requires { AgreeAsks p a.now b.now }
     ensures { Decides result (Agree p a.now b.now) }
 {
-    let n = a.len();
-    if n != b.len() {
+    // Before b[top], which may not be there.
+    if a.len() != b.len() {
         return false;
     }
-    let top = n - 1;
+    let top = a.len() - 1;
     let x = a[top];
     let y = b[top];
-    let mut i: usize = 0;
-    while i < n {
-        let u = y * a[i] % p;
-        let v = x * b[i] % p;
-        if u != v {
-            return false;
-        }
-        i += 1;
-    }
-    true
+    a.iter().zip(b).all(|(u, v)| y * *u % p == x * *v % p)
 }

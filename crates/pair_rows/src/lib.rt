@@ -10,14 +10,8 @@ pub fn exchange(rows: &mut [u16], a: usize, b: usize, c: usize)
     requires { ExchangeAsks a b c rows.old }
     ensures { Exchanged a b c rows.old rows.new }
 {
-    let mut i: usize = 0;
-    while i < c {
-        let u = rows[a + i];
-        let v = rows[b + i];
-        rows[a + i] = v;
-        rows[b + i] = u;
-        i += 1;
-    }
+    let (x, y) = rows.split_at_mut(b);
+    x[a..a + c].swap_with_slice(&mut y[..c]);
 }
 
 // The c numbers from place at on times k.

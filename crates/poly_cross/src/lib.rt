@@ -6,19 +6,15 @@ ghost use Rattle.math_rows.specs.Row.{shift_at};
 ghost use Rattle.poly_cross.specs.Cross.{ScaleInAsks, ScaleInGives, CrossInAsks, CrossInGives};
 
 use num_mod::{Modulus, reduce};
+use poly_rows::Row;
 
-type Row = [u64; 32];
-
-// c x in place of x, which ends before n.
+// c x in place of x, which ends before n; x is changed, so that the two are no `Poly`.
 pub fn scale_in(q: Modulus, c: u64, x: &mut Row, n: usize)
     requires { ScaleInAsks q c x.old n }
     ensures { ScaleInGives q.p c x.old n x.new }
 {
-    let mut i: usize = 0;
-    while i < n {
-        let v = reduce(q, c * x[i]);
-        x[i] = v;
-        i += 1;
+    for i in 0..n {
+        x[i] = reduce(q, c * x[i]);
     }
 }
 
@@ -36,11 +32,8 @@ pub fn cross_in(q: Modulus, s: u64, x: &mut Row, c: u64, k: usize, y: &Row, n: u
     ensures { CrossInGives q.p s x.old c k y.now n x.new }
 {
     let d = q.p - c;
-    let mut i: usize = 0;
-    while i < n {
+    for i in 0..n {
         let z = shifted(y, k, i);
-        let a = reduce(q, s * x[i] + d * z);
-        x[i] = a;
-        i += 1;
+        x[i] = reduce(q, s * x[i] + d * z);
     }
 }

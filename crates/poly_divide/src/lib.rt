@@ -6,44 +6,26 @@ ghost use Rattle.poly_divide.specs.Divide.{QuotientAsks, QuotientInGives, LessIn
 
 use num_mod::Modulus;
 use poly_lent::mix_in;
-use poly_rows::{quotient_coefficient, size, size_from};
+use poly_rows::{Poly, Row, quotient_coefficient, size, size_from};
 
 // The quotient of a by b from the top into the zero row r, and its length; il is the inverse of b's leading coefficient.
-pub fn quotient_in(
-    q: Modulus,
-    a: &[u64; 32],
-    n: usize,
-    b: &[u64; 32],
-    m: usize,
-    il: u64,
-    r: &mut [u64; 32],
-) -> usize
-    requires { QuotientAsks q a.now n b.now m il r.old }
-    ensures { QuotientInGives q.p a.now b.now r.new result }
+pub fn quotient_in(q: Modulus, a: Poly, b: Poly, il: u64, r: &mut Row) -> usize
+    requires { QuotientAsks q a.row.now a.len b.row.now b.len il r.old }
+    ensures { QuotientInGives q.p a.entry.row.now b.entry.row.now r.new result }
 {
-    let top = if n < m { 0 } else { n + 1 - m };
-    let mut k = top;
-    while k > 0 {
-        k -= 1;
-        let v = quotient_coefficient(q, a, r, b, m, il, top, k);
-        r[k] = v;
+    let top = (a.len + 1).saturating_sub(b.len);
+    for k in (0..top).rev() {
+        r[k] = quotient_coefficient(q, a.row, r, b.row, b.len, il, top, k);
     }
     size_from(r, top)
 }
 
-// r - x y in place of r, and its length; n and m are the lengths of x and y.
-pub fn less_in(
-    q: Modulus,
-    x: &[u64; 32],
-    n: usize,
-    y: &[u64; 32],
-    m: usize,
-    r: &mut [u64; 32],
-) -> usize
-    requires { MixAsks q x.now n y.now m r.old }
-    ensures { LessInGives q.p x.now y.now r.old r.new result }
+// r - x y in place of r, and its length.
+pub fn less_in(q: Modulus, x: Poly, y: Poly, r: &mut Row) -> usize
+    requires { MixAsks q x.row.now x.len y.row.now y.len r.old }
+    ensures { LessInGives q.p x.entry.row.now y.entry.row.now r.old r.new result }
 {
-    mix_in(q, true, x, n, y, m, r);
+    mix_in(q, true, x, y, r);
     size(r)
 }
 
@@ -55,19 +37,12 @@ pub struct Halves {
 }
 
 // The quotient of a by b into the zero row r, and the remainder in place of a, with their lengths.
-pub fn divide_in(
-    q: Modulus,
-    a: &mut [u64; 32],
-    n: usize,
-    b: &[u64; 32],
-    m: usize,
-    il: u64,
-    r: &mut [u64; 32],
-) -> Halves
-    requires { QuotientAsks q a.old n b.now m il r.old }
-    ensures { DivideInGives q.p a.old b.now r.new a.new result.q result.r }
+// a and n are no Poly: a is changed in place.
+pub fn divide_in(q: Modulus, a: &mut Row, n: usize, b: Poly, il: u64, r: &mut Row) -> Halves
+    requires { QuotientAsks q a.old n b.row.now b.len il r.old }
+    ensures { DivideInGives q.p a.old b.entry.row.now r.new a.new result.q result.r }
 {
-    let l = quotient_in(q, a, n, b, m, il, r);
-    let k = less_in(q, r, l, b, m, a);
+    let l = quotient_in(q, Poly { row: a, len: n }, b, il, r);
+    let k = less_in(q, Poly { row: r, len: l }, b, a);
     Halves { q: l, r: k }
 }

@@ -1,6 +1,5 @@
 -- Euclid's turns, and what the trimmed length of a greatest common divisor says: 1, a unit; 2 or more, not constant.
 use mathlib.Core.Path.{◌≡◌, sym, subst}
-use mathlib.Core.Bool.{true, false}
 use mathlib.Core.List.{List}
 use Prim.Native.Nat.{ℕ, suc, ◌+◌, ◌-◌, ◌<◌, ◌≤◌}
 use native.Mathlib.Omega.{arith}
@@ -21,8 +20,8 @@ use Rattle.math_turns.proofs.Euclid.{Span, span_start, span_swap, span_turn, spa
 use Rattle.poly_rows.specs.Leaf.{Cut}
 use Rattle.poly_cross.specs.Cross.{CrossInAsks, Crossed}
 use Rattle.poly_rows.specs.Polynomial.{polynomial}
-use Rattle.poly_euclid.specs.Euclid.{GcdAsks, Common, LoweredAsks, Lowered, kept, Found}
-use Rattle.poly_euclid.specs.declared.Divisor.{Divisor}
+use Rattle.poly_euclid.specs.Euclid.{GcdAsks, Common, LoweredAsks, Lowered, Found}
+use Rattle.poly_euclid.specs.declared.Divisor.TheVariants.{First, Second}
 use Rattle.poly_cross.proofs.Cross.{cross_by}
 
 -- ---- one turn of Euclid
@@ -96,19 +95,11 @@ euclid_end {p} {a} {b} {x} {y} {m = m} i z = record {
       span_gcd R (polynomial p pr a) (polynomial p pr b) (polynomial p pr x) (row R y) (i.each pr) (zero_row R y (none_left i.sy z));
 }
 
-pub found_first : {p : ℕ} {a b x y : List ℕ} {n m : ℕ} → Euclid p a b x y n m → m ≤ 0 → Found p a b x y (record { second = false; terms = n })
+pub found_first : {p : ℕ} {a b x y : List ℕ} {n m : ℕ} → Euclid p a b x y n m → m ≤ 0 → Found p a b x y (First n)
 found_first i z = record { common = euclid_end i z; size = i.sx; nothing = none_left i.sy z }
 
-pub found_second : {p : ℕ} {a b x y : List ℕ} {n m : ℕ} → Euclid p a b x y n m → n ≤ 0 → Found p a b x y (record { second = true; terms = m })
+pub found_second : {p : ℕ} {a b x y : List ℕ} {n m : ℕ} → Euclid p a b x y n m → n ≤ 0 → Found p a b x y (Second m)
 found_second i z = record { common = euclid_end (euclid_swap i) z; size = i.sy; nothing = none_left i.sx z }
-
--- the divisor by the flag
-module _ {p : ℕ} {a b x y : List ℕ} {d : Divisor} (h : Found p a b x y d) where
-  pub in_second : d.second ≡ true → Common p a b y
-  in_second e = subst (λ s. Common p a b (kept s x y)) e h.common
-
-  pub in_first : d.second ≡ false → Common p a b x
-  in_first e = subst (λ s. Common p a b (kept s x y)) e h.common
 
 -- ---- what the trimmed length of a row says
 module _ (p : ℕ) (pr : Prime p) (g : List ℕ) (hg : Row p g) where

@@ -2,9 +2,9 @@
 --   GcdAsks   a prepared modulus that is prime, and two rows
 --   Common    a greatest common divisor, a combination of both
 --   Lowered   x of n terms after its turn with y of m terms: s x − c t^(n−m) y, where s and c lead y and x; it has k < n terms
---   kept      the row in which the divisor is, by Euclid's flag; spent, the other one
+--   kept      the row in which the divisor is, by Euclid's answer; spent, the other one; terms, how many terms the divisor has
 --   Found     what Euclid leaves: in the one row a greatest common divisor of the rows that were lent, and how many terms it has; 0 in the other
-use Rattle.std.specs.Prelude.{Bool, true, false, List, ℕ, ◌-◌, ◌<◌, ◌≤◌, get_or}
+use Rattle.std.specs.Prelude.{List, ℕ, ◌-◌, ◌<◌, ◌≤◌, get_or}
 use Rattle.math_fp.specs.Fp.{Prime}
 use Rattle.math_valued.specs.Gcd.{IsGcd}
 use Rattle.math_rows.specs.Made.{reading}
@@ -14,6 +14,7 @@ use Rattle.num_mod.specs.declared.Modulus.{Modulus}
 use Rattle.poly_rows.specs.Polynomial.{polynomial}
 use Rattle.poly_cross.specs.Cross.{Crossed}
 use Rattle.poly_euclid.specs.declared.Divisor.{Divisor}
+use Rattle.poly_euclid.specs.declared.Divisor.TheVariants.{First, Second}
 
 -- a prepared modulus that is prime, and two rows
 pub record GcdAsks (q : Modulus) (x y : List ℕ) : Type 0 where
@@ -38,15 +39,19 @@ pub record Lowered (p : ℕ) (x : List ℕ) (n : ℕ) (y : List ℕ) (m : ℕ) (
   pub size : Size r k
   pub less : k < n
 
-abbrev pub kept : Bool → List ℕ → List ℕ → List ℕ
-kept true x y = y
-kept false x y = x
+abbrev pub kept : Divisor → List ℕ → List ℕ → List ℕ
+kept (First n) x y = x
+kept (Second n) x y = y
 
-abbrev pub spent : Bool → List ℕ → List ℕ → List ℕ
-spent true x y = x
-spent false x y = y
+abbrev pub spent : Divisor → List ℕ → List ℕ → List ℕ
+spent (First n) x y = y
+spent (Second n) x y = x
+
+abbrev pub terms : Divisor → ℕ
+terms (First n) = n
+terms (Second n) = n
 
 pub record Found (p : ℕ) (a b x y : List ℕ) (d : Divisor) : Type 0 where
-  pub common : Common p a b (kept d.second x y)
-  pub size : Size (kept d.second x y) d.terms
-  pub nothing : Size (spent d.second x y) 0
+  pub common : Common p a b (kept d x y)
+  pub size : Size (kept d x y) (terms d)
+  pub nothing : Size (spent d x y) 0

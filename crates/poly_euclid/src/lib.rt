@@ -2,13 +2,12 @@
 // Euclid works in two lent rows: the longer loses its leading term in place, so that no row is copied or exchanged.
 #![tactic(auto)]
 
-ghost use Rattle.poly_euclid.specs.Euclid.{GcdAsks, Common, LoweredAsks, Lowered, Found};
+ghost use Rattle.std.specs.Prelude.{◌≡◌};
+ghost use Rattle.poly_euclid.specs.Euclid.{GcdAsks, terms, Common, LoweredAsks, Lowered, Found};
 
 use num_mod::Modulus;
 use poly_cross::cross_in;
-use poly_rows::{size, size_from};
-
-type Row = [u64; 32];
+use poly_rows::{Row, size, size_from};
 
 // x of n terms without its leading term, by y of m terms, which is no longer: y's leading coefficient times x, less what cancels. The terms left.
 fn lowered(q: Modulus, x: &mut Row, n: usize, y: &Row, m: usize) -> usize
@@ -21,11 +20,21 @@ fn lowered(q: Modulus, x: &mut Row, n: usize, y: &Row, m: usize) -> usize
     size_from(x, n - 1)
 }
 
-// Where Euclid ended: whether the divisor is in the second row, and how many terms it has.
+// Where Euclid ended: in which row the divisor is, and how many terms it has.
 #[derive(Clone, Copy)]
-pub struct Divisor {
-    pub second: bool,
-    pub terms: usize,
+pub enum Divisor {
+    First(usize),
+    Second(usize),
+}
+
+impl Divisor {
+    pub fn terms(self) -> usize
+        ensures { result ≡ terms self }
+    {
+        match self {
+            Self::First(n) | Self::Second(n) => n,
+        }
+    }
 }
 
 // Euclid in two rows: the longer loses its leading term, until one is 0; the other is a greatest common divisor.
@@ -35,12 +44,10 @@ pub fn euclid(q: Modulus, x: &mut Row, y: &mut Row) -> Divisor
 {
     let mut n = size(x);
     let mut m = size(y);
+    // Two lengths fall in turn, and nothing is counted.
     while m > 0 {
         if n == 0 {
-            return Divisor {
-                second: true,
-                terms: m,
-            };
+            return Divisor::Second(m);
         }
         if n < m {
             m = lowered(q, y, m, x, n);
@@ -48,10 +55,7 @@ pub fn euclid(q: Modulus, x: &mut Row, y: &mut Row) -> Divisor
             n = lowered(q, x, n, y, m);
         }
     }
-    Divisor {
-        second: false,
-        terms: n,
-    }
+    Divisor::First(n)
 }
 
 // A greatest common divisor.
@@ -61,6 +65,8 @@ pub fn gcd(q: Modulus, a: &Row, b: &Row) -> Row
 {
     let mut x = *a;
     let mut y = *b;
-    let d = euclid(q, &mut x, &mut y);
-    if d.second { y } else { x }
+    match euclid(q, &mut x, &mut y) {
+        Divisor::First(_) => x,
+        Divisor::Second(_) => y,
+    }
 }

@@ -1,12 +1,14 @@
 -- What the trimmed length of a greatest common divisor says: 1, a unit; 2 or more, a common factor; 0, both are 0.
 use mathlib.Core.Path.{◌≡◌, refl, sym, ap, ◌∙◌, subst}
-use mathlib.Core.Logic.{◌≢◌}
+use mathlib.Core.Logic.{◌≢◌, inl, inr}
 use mathlib.Core.Bool.{true, false}
 use mathlib.Core.List.{List}
 use Prim.Native.Nat.{ℕ, zero, suc, ◌+◌, ◌*◌, ◌%◌, ◌<◌, ◌≤◌}
 use native.Mathlib.Nat.{mod-lt, mul-zero, zero-mod}
 use native.Mathlib.Omega.{arith}
+use lib.Dec.{eqb}
 use lib.ListN.{get_or}
+use Rattle.std.proofs.lemmas.Bool.Decides.{eqb_tells}
 use Rattle.math_fp.specs.Fp.{Prime}
 use Rattle.math_valued.specs.Gcd.{IsGcd}
 use Rattle.math_valued.proofs.Polynomial.{P_path}
@@ -67,6 +69,12 @@ module _ (p : ℕ) (x y g : List ℕ) (c : Common p x y g) where
   coprime_no (suc zero) s f pr = absurd (f refl)
   coprime_no (suc (suc n)) s f pr = common_nonconst (reading p pr).𝓥 (c.law pr) (more_two p pr g c.is_row n s)
 
+  pub coprime_test : (n k : ℕ) → k ≡ n → Size g n → CoprimeTest p x y (eqb k 1)
+  coprime_test n k q s = elim (eqb_tells k 1) [
+    | inl (e, h) ↦ subst (λ b. CoprimeTest p x y b) (sym e) (coprime_yes s (sym q ∙ h))
+    | inr (e, h) ↦ subst (λ b. CoprimeTest p x y b) (sym e) (coprime_no n s (λ z. h (q ∙ z)))
+  ]
+
 module _ (p : ℕ) (x d g : List ℕ) (h : Derived p x d) (c : Common p x d g) where
   with_derivative : (pr : Prime p) → IsGcd (reading p pr).𝓥 (polynomial p pr x) (∂ (reading p pr) (derivation p pr) (polynomial p pr x)) (polynomial p pr g)
   with_derivative pr = let 𝓥 = (reading p pr).𝓥 in
@@ -79,3 +87,9 @@ module _ (p : ℕ) (x d g : List ℕ) (h : Derived p x d) (c : Common p x d g) w
   square_no zero s f pr = let 𝓥 = (reading p pr).𝓥 in zero_square 𝓥 (polynomial p pr x) (zero_divides 𝓥 (polynomial p pr g) (polynomial p pr x) (zero_row (reading p pr) g s) (c.law pr).left)
   square_no (suc zero) s f pr = absurd (f refl)
   square_no (suc (suc n)) s f pr = square_factor (reading p pr) (derivation p pr) (polynomial p pr x) (polynomial p pr g) pr.big (with_derivative pr) (more_two p pr g c.is_row n s)
+
+  pub square_test : (n k : ℕ) → k ≡ n → Size g n → SquareTest p x (eqb k 1)
+  square_test n k q s = elim (eqb_tells k 1) [
+    | inl (e, h) ↦ subst (λ b. SquareTest p x b) (sym e) (square_yes s (sym q ∙ h))
+    | inr (e, h) ↦ subst (λ b. SquareTest p x b) (sym e) (square_no n s (λ z. h (q ∙ z)))
+  ]

@@ -6,20 +6,15 @@ ghost use Rattle.poly_factors.specs.Factors.{DeriveAsks, Derived, OverBoth, Squa
 
 use num_mod::prepare;
 use poly_euclid::euclid;
-use poly_rows::size;
-
-type Row = [u64; 32];
+use poly_rows::{Row, size};
 
 // d/dt in place of the zero row d.
 fn derive(p: u64, x: &Row, d: &mut Row)
     requires { DeriveAsks p x.now d.old }
     ensures { Derived p x.now d.new }
 {
-    let n = size(x);
-    let mut i: usize = 0;
-    while i + 1 < n {
+    for i in 0..size(x).saturating_sub(1) {
         d[i] = ((i + 1) as u64) * x[i + 1] % p;
-        i += 1;
     }
 }
 
@@ -32,8 +27,7 @@ pub fn squarefree(p: u64, x: &Row) -> bool
     let mut a = *x;
     let mut b: Row = [0; 32];
     derive(p, x, &mut b);
-    let d = euclid(q, &mut a, &mut b);
-    if d.terms == 1 { true } else { false }
+    euclid(q, &mut a, &mut b).terms() == 1
 }
 
 // Whether neither row has a square factor.
@@ -41,11 +35,7 @@ pub fn both_free(p: u64, x: &Row, y: &Row) -> bool
     requires { OverBoth p x.now y.now }
     ensures { FreeTest p x.now y.now result }
 {
-    let left = squarefree(p, x);
-    if !left {
-        return false;
-    }
-    squarefree(p, y)
+    squarefree(p, x) && squarefree(p, y)
 }
 
 // Whether no polynomial that is not constant divides both.
@@ -56,6 +46,5 @@ pub fn coprime(p: u64, x: &Row, y: &Row) -> bool
     let q = prepare(p);
     let mut a = *x;
     let mut b = *y;
-    let d = euclid(q, &mut a, &mut b);
-    if d.terms == 1 { true } else { false }
+    euclid(q, &mut a, &mut b).terms() == 1
 }

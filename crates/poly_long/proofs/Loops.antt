@@ -1,16 +1,15 @@
 -- Loops over a slice, on lists.
 --   product_small   the product of two stored coefficients
 --   filled_same     a list filled with the entries of another is the other
---   filled_zeros    a list filled with zeros
 --   Changing        the invariant of a loop that changes a list in place, entry by entry
 use mathlib.Core.Path.{◌≡◌, refl, sym, ◌∙◌}
 use mathlib.Core.List.{List}
 use Prim.Native.Nat.{ℕ, ◌+◌, ◌*◌, ◌<◌, ◌≤◌}
 use native.Mathlib.Nat.{mul-le-mul}
 use native.Mathlib.Omega.{arith}
-use lib.ListN.{length, get_or, set, replicate, length-replicate}
+use lib.ListN.{length, get_or, set}
 use lib.Seq.{ext_get_or, get_or-set_other}
-use Rattle.math_rows.proofs.Tab.{Filled, filled_start, filled_more, zeros_at}
+use Rattle.math_rows.proofs.Tab.{Filled, filled_start, filled_more}
 
 -- two stored coefficients
 pub product_small : (a b : ℕ) → a < 65536 → b < 65536 → a * b ≤ 4294836225
@@ -18,9 +17,6 @@ product_small a b ha hb = let e : a * b ≤ 65535 * 65535 = mul-le-mul {n₁ = a
 
 pub filled_same : (n : ℕ) (s d : List ℕ) (i : ℕ) → Filled n (λ k. get_or s k 0) d i → n ≤ i → length s ≡ n → d ≡ s
 filled_same n s d i h l e = ext_get_or 0 d s (h.size ∙ sym e) (λ k u. let z : length d ≡ n = h.size in h.done k (omega arith))
-
-pub filled_zeros : (n : ℕ) (d : List ℕ) (i : ℕ) → Filled n (λ k. 0) d i → n ≤ i → d ≡ replicate n 0
-filled_zeros n d i h l = ext_get_or 0 d (replicate n 0) (h.size ∙ sym (length-replicate n 0)) (λ k u. let z : length d ≡ n = h.size in h.done k (omega arith) ∙ sym (zeros_at n k))
 
 pub record Changing (f : ℕ → ℕ) (d₀ d : List ℕ) (i : ℕ) : Type 0 where
   pub filled : Filled (length d₀) f d i

@@ -6,18 +6,15 @@ ghost use Rattle.std.specs.Prelude.{◌≡◌, ◌+◌, ◌*◌, ◌-◌, ◌%�
 ghost use Rattle.math_rows.specs.Row.{Size};
 ghost use Rattle.poly_long.specs.Long.{ScaleAsks, Scaled, Stored};
 
-// The length without the zeros at the end.
+// The length without the zeros at the end: `size` of crate base_lists at stored coefficients. A function over both widths would need a test
+// for zero as an argument, and be longer than the two.
 pub fn size(x: &[u16]) -> usize
     ensures { Size x.now result }
 {
-    let mut m = x.len();
-    while m > 0 {
-        if x[m - 1] != 0 {
-            return m;
-        }
-        m -= 1;
+    match x.iter().rposition(|v| *v != 0) {
+        Some(last) => last + 1,
+        None => 0,
     }
-    m
 }
 
 // x s mod p; zeros cost no division.
@@ -28,7 +25,7 @@ fn scaled(p: u64, s: u64, x: u16) -> u16
     if x == 0 {
         0
     } else {
-        ((x as u64) * s % p) as u16
+        (u64::from(x) * s % p) as u16
     }
 }
 
@@ -37,33 +34,22 @@ pub fn scale(p: u64, s: u64, d: &mut [u16])
     requires { ScaleAsks p s }
     ensures { Scaled p s d.old d.new }
 {
-    let mut i: usize = 0;
-    while i < d.len() {
-        let v = scaled(p, s, d[i]);
-        d[i] = v;
-        i += 1;
+    for v in d.iter_mut() {
+        *v = scaled(p, s, *v);
     }
 }
 
 pub fn clear(d: &mut [u16])
     ensures { d.new ≡ replicate (length d.old) 0 }
 {
-    let mut i: usize = 0;
-    while i < d.len() {
-        d[i] = 0;
-        i += 1;
-    }
+    d.fill(0);
 }
 
 pub fn copy(s: &[u16], d: &mut [u16])
     requires { length s.now ≡ length d.old }
     ensures { d.new ≡ s.now }
 {
-    let mut i: usize = 0;
-    while i < d.len() {
-        d[i] = s[i];
-        i += 1;
-    }
+    d.copy_from_slice(s);
 }
 
 // A working row as stored coefficients.
@@ -72,10 +58,8 @@ pub fn to_stored(x: &[u64; 32]) -> [u16; 32]
     ensures { result ≡ x.now }
 {
     let mut r: [u16; 32] = [0; 32];
-    let mut i: usize = 0;
-    while i < 32 {
-        r[i] = x[i] as u16;
-        i += 1;
+    for (i, v) in x.iter().enumerate() {
+        r[i] = *v as u16;
     }
     r
 }

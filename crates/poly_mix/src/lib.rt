@@ -11,13 +11,11 @@ pub fn sum_at(x: &[u16], n: usize, y: &[u16], k: usize) -> u64
     requires { SumAtAsks x.now n k }
     ensures { SumAt x.now n y.now k result }
 {
-    let from = if k < y.len() { 0 } else { k + 1 - y.len() };
-    let to = if k < n { k + 1 } else { n };
+    let from = (k + 1).saturating_sub(y.len());
+    let to = n.min(k + 1);
     let mut s: u64 = 0;
-    let mut i = from;
-    while i < to {
-        s += (x[i] as u64) * (y[k - i] as u64);
-        i += 1;
+    for i in from..to {
+        s += u64::from(x[i]) * u64::from(y[k - i]);
     }
     s
 }
@@ -29,11 +27,9 @@ pub fn mix(p: u64, g: &[u16], x: &[u16], h: &[u16], y: &[u16], d: &mut [u16])
 {
     let m = size(g);
     let n = size(h);
-    let mut k: usize = 0;
-    while k < d.len() {
+    for k in 0..d.len() {
         let s = sum_at(g, m, x, k);
         let t = sum_at(h, n, y, k);
         d[k] = ((s + t) % p) as u16;
-        k += 1;
     }
 }

@@ -44,10 +44,7 @@ pub fn quotient(
     requires { QuotientAsks p a.now b.now c.now u.now q.old }
     ensures { Quotient p a.now x.now b.now y.now c.now z.now u.now q.old q.new }
 {
-    let mut k = q.len();
-    while k > 0 {
-        k -= 1;
-        let v = digit(p, a, x, b, y, c, z, u, q, k);
-        q[k] = v as u16;
+    for k in (0..q.len()).rev() {
+        q[k] = digit(p, a, x, b, y, c, z, u, q, k) as u16;
     }
 }

@@ -1,11 +1,12 @@
 -- From the formula of each coefficient to the polynomial: what the loops of the leaves hand out.
 use mathlib.Core.Path.{◌≡◌, refl, sym, ap, ◌∙◌, subst}
-use mathlib.Core.List.{List}
+use mathlib.Core.List.{List, ◌++◌}
 use Prim.Native.Nat.{ℕ, ◌+◌, ◌-◌, ◌%◌, ◌<◌, ◌≤◌}
-use native.Mathlib.Nat.{mod-lt}
+use native.Mathlib.Nat.{mod-lt, zero-add}
 use native.Mathlib.Omega.{arith}
 use native.Mathlib.Decide.{dec_lt}
-use lib.ListN.{length, get_or, replicate, get_or-eq_default}
+use lib.ListN.{length, get_or, drop, replicate, get_or-eq_default}
+use Rattle.base_lists.proofs.Puts.{put_back}
 use Rattle.math_ring.proofs.Laws as laws
 use Rattle.math_rows.specs.Made.{reading}
 use Rattle.math_rows.specs.Row.{tab, Row, Size, row, coefs}
@@ -52,3 +53,15 @@ listed s r i fits l b =
       law = λ p pr. let R = reading p pr in
           row_32 R r b.size ∙ psum_ext R 32 (coefs R r) (coefs R s) (λ k u. ap R.cast (at k)) ∙ sym (row_upto R s 32 past);
     }
+
+-- a list written over the front of a row of zeros
+pub listed_front : (s t : List ℕ) → length s ≤ 32 → t ≡ s → Listed s (t ++ drop (length s) (replicate 32 0))
+listed_front s t fits e =
+    let r = s ++ drop (length s) (replicate 32 0) in
+    let a = put_back 0 (length s) (replicate 32 0) s (omega arith) refl in
+    subst (λ z. Listed s (z ++ drop (length s) (replicate 32 0))) (sym e)
+    (listed s r (length s) fits (omega arith) (record {
+      size = a.size;
+      done = λ k u. ap (λ j. get_or r j 0) (sym (zero-add k)) ∙ a.inside k u;
+      rest = λ k u. a.after k (omega arith) ∙ zeros_at 32 k;
+    }))

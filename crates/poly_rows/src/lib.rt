@@ -12,21 +12,21 @@ ghost use Rattle.math_rows.specs.Sum.{sum_to, term_at};
 
 use num_mod::{Modulus, add_product, prepare, reduce, reduce_once};
 
-type Row = [u64; 32];
+pub type Row = [u64; 32];
+
+// A lent row with its length: it is 0 from there on.
+#[derive(Clone, Copy)]
+pub struct Poly<'a> {
+    pub row: &'a Row,
+    pub len: usize,
+}
 
 // The trimmed length of x, whose coefficients from n on are 0.
 pub fn size_from(x: &Row, n: usize) -> usize
     requires { Cut x.now n }
     ensures { Size x.now result }
 {
-    let mut m = n;
-    while m > 0 {
-        if x[m - 1] != 0 {
-            return m;
-        }
-        m -= 1;
-    }
-    m
+    base_lists::size(&x[..n])
 }
 
 // One more than the degree; 0 for the zero polynomial.
@@ -34,7 +34,7 @@ pub fn size(x: &Row) -> usize
     requires { length x.now ≡ 32 }
     ensures { Size x.now result }
 {
-    size_from(x, 32)
+    base_lists::size(x)
 }
 
 // - x
@@ -42,11 +42,9 @@ pub fn minus(p: u64, x: &Row) -> Row
     requires { Given p x.now }
     ensures { Opposite p x.now result }
 {
-    let mut r: Row = [0; 32];
-    let mut i: usize = 0;
-    while i < 32 {
-        r[i] = reduce_once(p, p - x[i]);
-        i += 1;
+    let mut r = *x;
+    for c in r.iter_mut() {
+        *c = reduce_once(p, p - *c);
     }
     r
 }
@@ -57,25 +55,21 @@ fn folded(p: u64, x: &Row, y: &Row, from: usize, to: usize, k: usize) -> u64
     ensures { Part p x.now y.now from to k result }
 {
     let mut s: u64 = 0;
-    let mut i = from;
-    while i < to {
+    for i in from..to {
         s = add_product(p, s, x[i], y[k - i]);
-        i += 1;
     }
     s
 }
 
-// The same: below 2^28 the sum fits as it is.
+// The same. Below 2^28 the sum fits as it is, and the inner loop of the walk is faster without the test of each turn.
 fn terms(p: u64, x: &Row, y: &Row, from: usize, to: usize, k: usize) -> u64
     requires { PartAsks p x.now y.now from to k }
     ensures { Part p x.now y.now from to k result }
 {
     if p < 268435456 {
         let mut s: u64 = 0;
-        let mut i = from;
-        while i < to {
+        for i in from..to {
             s += x[i] * y[k - i];
-            i += 1;
         }
         s
     } else {
@@ -88,8 +82,8 @@ fn product_coefficient(q: Modulus, x: &Row, n: usize, y: &Row, m: usize, k: usiz
     requires { ProductCoefficientAsks q x.now n y.now m k }
     ensures { result ≡ sum_to (term_at x.now y.now k) n % q.p }
 {
-    let from = if k < m { 0 } else { k + 1 - m };
-    let to = if k < n { k + 1 } else { n };
+    let from = (k + 1).saturating_sub(m);
+    let to = n.min(k + 1);
     let v = terms(q.p, x, y, from, to, k);
     reduce(q, v)
 }
@@ -103,10 +97,8 @@ pub fn mul(p: u64, x: &Row, y: &Row) -> Row
     let n = size(x);
     let m = size(y);
     let mut r: Row = [0; 32];
-    let mut k: usize = 0;
-    while k + 1 < n + m {
+    for k in 0..(n + m).saturating_sub(1) {
         r[k] = product_coefficient(q, x, n, y, m, k);
-        k += 1;
     }
     r
 }
@@ -117,11 +109,7 @@ pub fn from_list(s: &[u64]) -> Row
     ensures { Listed s.now result }
 {
     let mut r: Row = [0; 32];
-    let mut i: usize = 0;
-    while i < s.len() {
-        r[i] = s[i];
-        i += 1;
-    }
+    r[..s.len()].copy_from_slice(s);
     r
 }
 
@@ -140,7 +128,7 @@ pub fn quotient_coefficient(
     ensures { Digit s.p a.now q.now b.now m il k result }
 {
     let at = k + (m - 1);
-    let to = if at < top { at + 1 } else { top };
+    let to = top.min(at + 1);
     let u = terms(s.p, q, b, k + 1, to, at);
     let v = reduce(s, u);
     reduce(s, (a[at] + (s.p - v)) * il)

@@ -5,6 +5,7 @@
 ghost use Rattle.poly_sums.specs.Sums.{SignedAsks, Signed, LaidAsks, Laid, GatherAsks, Gathered, SettleAsks, Settled};
 
 use num_mod::{Modulus, add_product, reduce, reduce_once};
+use poly_rows::{Poly, Row};
 
 // v, or - v mod p
 fn signed(p: u64, minus: bool, v: u64) -> u64
@@ -14,49 +15,33 @@ fn signed(p: u64, minus: bool, v: u64) -> u64
     if minus { reduce_once(p, p - v) } else { v }
 }
 
-// acc + v t^i y up to multiples of p, in place of acc; y ends before m.
-fn laid(p: u64, v: u64, y: &[u64; 32], m: usize, i: usize, acc: &mut [u64; 32])
-    requires { LaidAsks p v y.now m i acc.old }
-    ensures { Laid p v y.now m i acc.old acc.new }
+// acc + v t^i y up to multiples of p, in place of acc.
+fn laid(p: u64, v: u64, y: Poly, i: usize, acc: &mut Row)
+    requires { LaidAsks p v y.row.now y.len i acc.old }
+    ensures { Laid p v y.entry.row.now y.entry.len i acc.old acc.new }
 {
-    let mut j: usize = 0;
-    while j < m {
-        let a = add_product(p, acc[i + j], v, y[j]);
-        acc[i + j] = a;
-        j += 1;
+    for j in 0..y.len {
+        acc[i + j] = add_product(p, acc[i + j], v, y.row[j]);
     }
 }
 
-// acc + x y, or acc - x y, up to multiples of p, in place of acc; x and y end before n and m.
-pub fn gather(
-    p: u64,
-    minus: bool,
-    x: &[u64; 32],
-    n: usize,
-    y: &[u64; 32],
-    m: usize,
-    acc: &mut [u64; 32],
-)
-    requires { GatherAsks p x.now n y.now m acc.old }
-    ensures { Gathered p minus x.now n y.now m acc.old acc.new }
+// acc + x y, or acc - x y, up to multiples of p, in place of acc.
+pub fn gather(p: u64, minus: bool, x: Poly, y: Poly, acc: &mut Row)
+    requires { GatherAsks p x.row.now x.len y.row.now y.len acc.old }
+    ensures { Gathered p minus x.entry.row.now x.entry.len y.entry.row.now y.entry.len acc.old acc.new }
 {
-    let mut i: usize = 0;
-    while i < n {
-        let v = signed(p, minus, x[i]);
-        laid(p, v, y, m, i, acc);
-        i += 1;
+    for i in 0..x.len {
+        let v = signed(p, minus, x.row[i]);
+        laid(p, v, y, i, acc);
     }
 }
 
 // Each coefficient mod p, in place; those from t on are below p as they are.
-pub fn settle(q: Modulus, acc: &mut [u64; 32], t: usize)
+pub fn settle(q: Modulus, acc: &mut Row, t: usize)
     requires { SettleAsks q acc.old t }
     ensures { Settled q.p acc.old acc.new }
 {
-    let mut k: usize = 0;
-    while k < t {
-        let v = reduce(q, acc[k]);
-        acc[k] = v;
-        k += 1;
+    for k in 0..t {
+        acc[k] = reduce(q, acc[k]);
     }
 }

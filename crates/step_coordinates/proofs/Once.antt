@@ -11,7 +11,8 @@ use Rattle.math_chain.specs.Parts.{Parts}
 use Rattle.math_chain.proofs.Parts.{parts}
 use Rattle.field_open.specs.Refusal.{Accepted}
 use Rattle.basis_record.specs.Record.{setting, poly_of}
-use Rattle.basis_record.specs.Seven.{Seven, rows_of, Three}
+use Rattle.basis_record.specs.Seven.{rows_of, Three}
+use Rattle.basis_record.specs.declared.Seven.{Seven}
 use Rattle.basis_lattice.specs.Coordinates.{AreSpans}
 use Rattle.basis_lattice.specs.declared.Spans.{Spans}
 use Rattle.step_coordinates.specs.Turns.{GeneratorsAsks, TurnedR, TurnedW, Negated}

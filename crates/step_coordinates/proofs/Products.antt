@@ -29,7 +29,8 @@ use Rattle.math_ideals.specs.Element.{times_r, times_w}
 use Rattle.math_ideals.proofs.Degrees.{Small, small, det_lead}
 use Rattle.field_open.specs.Refusal.{Accepted}
 use Rattle.basis_record.specs.Record.{setting}
-use Rattle.basis_record.specs.Seven.{Seven, row_at, rows_of, Holds}
+use Rattle.basis_record.specs.Seven.{row_at, rows_of, Holds}
+use Rattle.basis_record.specs.declared.Seven.{Seven}
 use Rattle.basis_lattice.specs.Coordinates.{Quotients, LengthsOfAsks}
 use Rattle.basis_lattice.proofs.Elements.{quot_of, times_g_is, times_h_is, times_gh_is}
 use Rattle.step_coordinates.specs.Turns.{GeneratorsAsks}

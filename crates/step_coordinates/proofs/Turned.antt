@@ -23,7 +23,8 @@ use Rattle.math_chain.proofs.Parts.{parts}
 use Rattle.basis_record.specs.Record.{setting}
 use Rattle.poly_rows.proofs.Lengths.{fits_of}
 use Rattle.poly_lent.specs.Sized.{TimesInGives}
-use Rattle.basis_record.specs.Seven.{Seven, rows_of, Three, Blank}
+use Rattle.basis_record.specs.Seven.{rows_of, Three, Blank}
+use Rattle.basis_record.specs.declared.Seven.{Seven}
 use Rattle.basis_lattice.specs.Coordinates.{Found, CoordinatesAsks, Coordinates}
 use Rattle.basis_lattice.specs.declared.Spans.{Spans}
 use Rattle.basis_lattice.specs.declared.Lengths.{Lengths}

@@ -18,7 +18,8 @@ use Rattle.math_ideals.specs.Ideal.{Coords}
 use Rattle.math_ideals.specs.Basis.{Good}
 use Rattle.field_open.specs.Refusal.{Accepted}
 use Rattle.basis_record.specs.Record.{setting, poly_of}
-use Rattle.basis_record.specs.Seven.{Seven, AreRows, rows_of, Holds, Three, Blank}
+use Rattle.basis_record.specs.Seven.{AreRows, rows_of, Holds, Three, Blank}
+use Rattle.basis_record.specs.declared.Seven.{Seven}
 use Rattle.basis_lattice.specs.Coordinates.{Found, AreSpans}
 use Rattle.basis_lattice.specs.declared.Spans.{Spans}
 use Rattle.basis_lattice.specs.declared.Lengths.{Lengths}

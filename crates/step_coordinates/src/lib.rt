@@ -1,88 +1,61 @@
 // r m and w m in coordinates, on rows, and a row negated. specs/Turns.antt says what the functions do.
 #![tactic(auto)]
 
-ghost use Rattle.basis_record.specs.Seven.{seven, three};
+ghost use Rattle.basis_record.specs.Seven.{three};
+ghost use Rattle.basis_lattice.specs.Lent.{seven_of, sizes_of};
 ghost use Rattle.step_coordinates.specs.Turns.{CoordinatesOfRmAsks, TurnedR, CoordinatesOfWmAsks, TurnedW, NegateAsks, Negated};
 
-use basis_lattice::{Lengths, Spans, coordinates};
+use basis_lattice::{Lattice, Spans, coordinates};
 use num_mod::{Modulus, reduce_once};
 use poly_lent::times_in;
+use poly_rows::{Poly, Row};
 
 // r m = M2 G H + M0 r + M1 H w in coordinates.
 pub fn coordinates_of_rm(
     q: Modulus,
-    h: &[u64; 32],
-    lh: usize,
-    gh: &[u64; 32],
-    lk: usize,
-    m0: &[u64; 32],
-    m1: &[u64; 32],
-    m2: &[u64; 32],
-    n0: &[u64; 32],
-    n1: &[u64; 32],
-    n2: &[u64; 32],
-    u: &[u64; 32],
-    l: Lengths,
-    e: &[u64; 32],
-    ie: u64,
-    a: &mut [u64; 32],
-    b: &mut [u64; 32],
-    c: &mut [u64; 32],
+    h: Poly,
+    gh: Poly,
+    k: &Lattice,
+    a: &mut Row,
+    b: &mut Row,
+    c: &mut Row,
 ) -> Spans
-    requires { CoordinatesOfRmAsks q h.now lh gh.now lk (seven m0.now m1.now m2.now n0.now n1.now n2.now u.now) l e.now ie (three a.old b.old c.old) }
-    ensures { TurnedR q.p h.now gh.now (seven m0.now m1.now m2.now n0.now n1.now n2.now u.now) (three a.new b.new c.new) result }
+    requires { CoordinatesOfRmAsks q h.row.now h.len gh.row.now gh.len (seven_of k.now) (sizes_of k.now) k.now.e.row.now k.now.ie (three a.old b.old c.old) }
+    ensures { TurnedR q.p h.entry.row.now gh.entry.row.now (seven_of k.now) (three a.new b.new c.new) result }
 {
-    let mut x: [u64; 32] = [0; 32];
-    let mut z: [u64; 32] = [0; 32];
-    let nx = times_in(q, m2, l.m2, gh, lk, &mut x);
-    let nz = times_in(q, m1, l.m1, h, lh, &mut z);
-    coordinates(
-        q, &mut x, nx, m0, l.m0, &z, nz, m0, m1, m2, n0, n1, n2, u, l, e, ie, a, b, c,
-    )
+    let mut x: Row = [0; 32];
+    let mut z: Row = [0; 32];
+    let nx = times_in(q, k.m2, gh, &mut x);
+    let nz = times_in(q, k.m1, h, &mut z);
+    coordinates(q, &mut x, nx, k.m0, Poly { row: &z, len: nz }, k, a, b, c)
 }
 
 // w m = M1 G H + M2 G r + M0 w in coordinates.
 pub fn coordinates_of_wm(
     q: Modulus,
-    g: &[u64; 32],
-    lg: usize,
-    gh: &[u64; 32],
-    lk: usize,
-    m0: &[u64; 32],
-    m1: &[u64; 32],
-    m2: &[u64; 32],
-    n0: &[u64; 32],
-    n1: &[u64; 32],
-    n2: &[u64; 32],
-    u: &[u64; 32],
-    l: Lengths,
-    e: &[u64; 32],
-    ie: u64,
-    a: &mut [u64; 32],
-    b: &mut [u64; 32],
-    c: &mut [u64; 32],
+    g: Poly,
+    gh: Poly,
+    k: &Lattice,
+    a: &mut Row,
+    b: &mut Row,
+    c: &mut Row,
 ) -> Spans
-    requires { CoordinatesOfWmAsks q g.now lg gh.now lk (seven m0.now m1.now m2.now n0.now n1.now n2.now u.now) l e.now ie (three a.old b.old c.old) }
-    ensures { TurnedW q.p g.now gh.now (seven m0.now m1.now m2.now n0.now n1.now n2.now u.now) (three a.new b.new c.new) result }
+    requires { CoordinatesOfWmAsks q g.row.now g.len gh.row.now gh.len (seven_of k.now) (sizes_of k.now) k.now.e.row.now k.now.ie (three a.old b.old c.old) }
+    ensures { TurnedW q.p g.entry.row.now gh.entry.row.now (seven_of k.now) (three a.new b.new c.new) result }
 {
-    let mut x: [u64; 32] = [0; 32];
-    let mut y: [u64; 32] = [0; 32];
-    let nx = times_in(q, m1, l.m1, gh, lk, &mut x);
-    let ny = times_in(q, m2, l.m2, g, lg, &mut y);
-    coordinates(
-        q, &mut x, nx, &y, ny, m0, l.m0, m0, m1, m2, n0, n1, n2, u, l, e, ie, a, b, c,
-    )
+    let mut x: Row = [0; 32];
+    let mut y: Row = [0; 32];
+    let nx = times_in(q, k.m1, gh, &mut x);
+    let ny = times_in(q, k.m2, g, &mut y);
+    coordinates(q, &mut x, nx, Poly { row: &y, len: ny }, k.m0, k, a, b, c)
 }
 
 // - x in place of x, whose length is n.
-pub fn negate(p: u64, x: &mut [u64; 32], n: usize)
+pub fn negate(p: u64, x: &mut Row, n: usize)
     requires { NegateAsks p x.old n }
     ensures { Negated p x.old x.new n }
 {
-    let mut i: usize = 0;
-    while i < n {
-        let v = reduce_once(p, p - x[i]);
-        x[i] = v;
-        i += 1;
+    for i in 0..n {
+        x[i] = reduce_once(p, p - x[i]);
     }
 }

@@ -1,5 +1,6 @@
 -- What `next_generators` asks of its calls, and what it hands out.
 --   turn_in            the rows, measured
+--   lent_turn          the same of the basis lent, and turned_r_rows, turned_w_rows back
 --   take_in, divided   the four that lose their common factor, and the generators
 use mathlib.Core.Path.{◌≡◌, refl, sym, ap, ap₂, ◌∙◌, subst}
 use mathlib.Core.List.{List, [], ◌∷◌}
@@ -27,10 +28,14 @@ use Rattle.field_open.specs.Refusal.{Accepted}
 use Rattle.basis_record.specs.Record.{setting, poly_of}
 use Rattle.poly_rows.proofs.Lengths.{fits_of}
 use Rattle.poly_content.specs.Common.{four, four_det, CutAsks, WithoutContentAsks, Taken}
-use Rattle.basis_record.specs.Seven.{Seven, rows_of, Holds, Three, Blank}
+use Rattle.basis_record.specs.Seven.{rows_of, Holds, Three, Blank}
+use Rattle.basis_record.specs.declared.Seven.{Seven}
 use Rattle.basis_lattice.specs.Coordinates.{Found}
 use Rattle.basis_lattice.specs.declared.Spans.{Spans}
 use Rattle.basis_lattice.specs.declared.Lengths.{Lengths}
+use Rattle.basis_lattice.specs.declared.Lattice.{Lattice}
+use Rattle.basis_lattice.specs.Lent.{Lent, seven_of, sizes_of}
+use Rattle.basis_lattice.proofs.Lent.{as_lent}
 use Rattle.step_coordinates.specs.Turns.{GeneratorsAsks, TurnAsks, TurnedR, TurnedW, Negated}
 use Rattle.step_coordinates.proofs.Products.{Sizes, sizes, modulus}
 use Rattle.step_coordinates.proofs.Turned.{r_near, w_near}
@@ -39,6 +44,17 @@ use Rattle.step_divide.specs.declared.Cuts.{Cuts}
 
 abbrev of : ℕ → ℕ → ℕ → Modulus
 of p mul lim = record { p = p; m = mul; lim = lim }
+
+-- the turns of a lent basis are those of its rows
+pub lent_turn : {q : Modulus} {g h gh : List ℕ} {lk : ℕ} {b : Seven} {l : Lengths} {e : List ℕ} {ie : ℕ} {o : Three} {k : Lattice} → Lent b l e ie k → TurnAsks q g h gh lk b l e ie o
+    → TurnAsks q g h gh lk (seven_of k) (sizes_of k) k.e.row.now k.ie o
+lent_turn {q} {g} {h} {gh} {lk} {b} {l} {e} {ie} {o} s = as_lent s (λ b l e ie. TurnAsks q g h gh lk b l e ie o)
+
+pub turned_r_rows : {p : ℕ} {h gh : List ℕ} {b b' : Seven} {t : Three} {o : Spans} → b' ≡ b → TurnedR p h gh b' t o → TurnedR p h gh b t o
+turned_r_rows {p} {h} {gh} {b} {b'} {t} {o} = subst (λ s. TurnedR p h gh s t o)
+
+pub turned_w_rows : {p : ℕ} {g gh : List ℕ} {b b' : Seven} {t : Three} {o : Spans} → b' ≡ b → TurnedW p g gh b' t o → TurnedW p g gh b t o
+turned_w_rows {p} {g} {gh} {b} {b'} {t} {o} = subst (λ s. TurnedW p g gh s t o)
 
 module _ {p cap : ℕ} {g h gh : List ℕ} {ie : ℕ} {b : Seven} (i : GeneratorsAsks p cap g h gh ie b) where
   abbrev ρ : Reading p

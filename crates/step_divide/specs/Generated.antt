@@ -12,7 +12,8 @@ use Rattle.math_ideals.specs.Basis.{Good}
 use Rattle.math_chain.specs.Parts.{Parts, Cut, x1, y1, base}
 use Rattle.field_open.specs.Refusal.{Accepted}
 use Rattle.basis_record.specs.Record.{setting, poly_of}
-use Rattle.basis_record.specs.Seven.{Seven, rows_of, Holds, Three, Blank}
+use Rattle.basis_record.specs.Seven.{rows_of, Holds, Three, Blank}
+use Rattle.basis_record.specs.declared.Seven.{Seven}
 use Rattle.step_coordinates.specs.Turns.{GeneratorsAsks}
 use Rattle.step_divide.specs.declared.Cuts.{Cuts}
 

@@ -18,7 +18,8 @@ use Rattle.math_chain.proofs.Changed.{changed_of}
 use Rattle.math_chain.proofs.Frame.{pair, Framed, Rebased}
 use Rattle.math_chain.proofs.Correct.{base_framed, step_correct}
 use Rattle.basis_record.specs.Record.{setting, poly_of, basis_of}
-use Rattle.basis_record.specs.Seven.{Seven, rows_of}
+use Rattle.basis_record.specs.Seven.{rows_of}
+use Rattle.basis_record.specs.declared.Seven.{Seven}
 use Rattle.step_divide.specs.Generated.{Generators, Generated, AreGenerators}
 use Rattle.basis_parts.specs.Frame.{frame}
 use Rattle.basis_clear.specs.Clear as reduced

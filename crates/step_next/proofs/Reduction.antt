@@ -1,6 +1,6 @@
 -- From the generators to the reduction: their sizes fit what `reduced_basis` asks.
 use mathlib.Core.Path.{◌≡◌, refl, sym, ap, ap₂, ◌∙◌, subst}
-use mathlib.Core.Logic.{◌≢◌, ◌⊎◌, inl, inr}
+use mathlib.Core.Logic.{◌⊎◌, inl, inr}
 use mathlib.Core.List.{List}
 use Prim.Native.Nat.{ℕ, suc, ◌+◌, ◌-◌, ◌<◌, ◌≤◌}
 use native.Mathlib.Omega.{arith}
@@ -19,13 +19,13 @@ use Rattle.math_turns.specs.Points.{Pt}
 use Rattle.math_turns.proofs.Turn.{b_lt, c_lt}
 use Rattle.field_open.specs.Refusal.{Accepted}
 use Rattle.math_ideals.specs.Setting.{Setting}
-use Rattle.math_ideals.specs.Ideal.{det}
 use Rattle.math_ideals.specs.Basis.{Good}
 use Rattle.math_ideals.proofs.Degrees.{small}
 use Rattle.math_chain.specs.Parts.{base}
 use Rattle.math_chain.proofs.Room.{Room, room}
 use Rattle.basis_record.specs.Record.{setting}
-use Rattle.basis_record.specs.Seven.{Seven, rows_of}
+use Rattle.basis_record.specs.Seven.{rows_of}
+use Rattle.basis_record.specs.declared.Seven.{Seven}
 use Rattle.step_divide.specs.Generated.{Generators, Generated}
 use Rattle.step_coordinates.proofs.Coordinates.{r_narrow, w_narrow}
 use Rattle.step_coordinates.proofs.Products.{sizes}

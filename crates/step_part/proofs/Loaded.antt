@@ -4,7 +4,6 @@ use mathlib.Core.List.{List}
 use Prim.Native.Nat.{ℕ, suc, ◌+◌, ◌*◌, ◌-◌, ◌<◌, ◌≤◌}
 use native.Mathlib.Omega.{arith}
 use lib.ListN.{get_or}
-use Rattle.math_valued.specs.Val.{Valued}
 use Rattle.math_valued.proofs.Degree as d
 use Rattle.math_rows.specs.Made.{reading}
 use Rattle.math_rows.specs.Row.{Size}
@@ -16,7 +15,8 @@ use Rattle.math_ideals.proofs.Degrees.{small}
 use Rattle.math_ideals.proofs.Divided.{ev_M}
 use Rattle.math_chain.specs.Chain.{Degree}
 use Rattle.basis_record.specs.Record.{setting}
-use Rattle.basis_record.specs.Seven.{Seven, AreRows, rows_of}
+use Rattle.basis_record.specs.Seven.{AreRows, rows_of}
+use Rattle.basis_record.specs.declared.Seven.{Seven}
 use Rattle.basis_record.specs.Store.{SevenLoaded}
 use Rattle.basis_record.proofs.Loads.{rows_are, rows_good}
 use Rattle.step_coordinates.proofs.Products.{sizes}

@@ -8,7 +8,8 @@ use Rattle.field_series.specs.Keeps.{Keeps}
 use Rattle.num_mod.specs.Prepared.{PreparedOf}
 use Rattle.num_mod.specs.declared.Modulus.{Modulus}
 use Rattle.basis_record.specs.Record.{IsRecord}
-use Rattle.basis_record.specs.Seven.{Seven, Three, Blank}
+use Rattle.basis_record.specs.Seven.{Three, Blank}
+use Rattle.basis_record.specs.declared.Seven.{Seven}
 use Rattle.step_divide.specs.Generated.{Generators, Divided}
 use Rattle.basis_record.specs.Store.{SevenLoaded}
 use Rattle.step_part.specs.declared.Measures.{Measures}

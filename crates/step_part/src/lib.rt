@@ -1,12 +1,15 @@
 // The first half of the step: from the record to the generators of the ideal divided by m.
 #![tactic(auto)]
 
+ghost use Rattle.std.specs.Prelude.{◌+◌};
 ghost use Rattle.basis_record.specs.Seven.{three};
 ghost use Rattle.step_divide.specs.Generated.{generators};
 ghost use Rattle.step_part.specs.Parting.{PartedAsks, Parting};
 
-use basis_record::load;
+use basis_parts::Element;
+use basis_record::unpacked;
 use num_mod::Modulus;
+use poly_rows::{Poly, Row};
 use step_divide::next_generators;
 
 // The degree of m, the degree of what the generators had in common, and the lengths of x1, y1 and of the denominator.
@@ -19,60 +22,36 @@ pub struct Measures {
     pub d: usize,
 }
 
-// The generators of the ideal divided by m, into seven zero rows. The rows of the record end before n + 1, which is the length of G H.
-// The lengths of G and H follow from the degrees of r and w: these are (deg G + 2 deg H)/3 and (2 deg G + deg H)/3.
+// The generators of the ideal divided by m, into two elements and three rows of zeros. The rows of the record end before dr + dw + 1, which is the
+// length of G H. The lengths of G and H follow from the degrees of r and w: these are (deg G + 2 deg H)/3 and (2 deg G + deg H)/3. A frame of
+// its own bounds the stack.
+#[inline(never)]
 pub fn parted(
     q: Modulus,
-    g: &[u64; 32],
-    h: &[u64; 32],
-    gh: &[u64; 32],
-    n: usize,
+    g: &Row,
+    h: &Row,
+    gh: &Row,
     dr: usize,
     dw: usize,
     b: &[u16; 119],
-    nc: &mut [u64; 32],
-    x: &mut [u64; 32],
-    mc: &mut [u64; 32],
-    nb: &mut [u64; 32],
-    y: &mut [u64; 32],
-    mb: &mut [u64; 32],
-    d: &mut [u64; 32],
+    m: &mut Element,
+    n: &mut Element,
+    x: &mut Row,
+    y: &mut Row,
+    d: &mut Row,
 ) -> Measures
-    requires { PartedAsks q g.now h.now gh.now n dr dw b.now (three nc.old x.old mc.old) (three nb.old y.old mb.old) d.old }
-    ensures { Parting q.p g.now h.now gh.now b.now (generators x.new y.new mb.new mc.new nb.new nc.new d.new result.cut) result }
+    requires { PartedAsks q g.now h.now gh.now (dr + dw) dr dw b.now (three n.old.c x.old m.old.c) (three n.old.b y.old m.old.b) d.old }
+    ensures { Parting q.p g.now h.now gh.now b.now (generators x.new y.new m.new.b m.new.c n.new.b n.new.c d.new result.cut) result }
 {
-    let m0 = load(b, 0);
-    let m1 = load(b, 1);
-    let m2 = load(b, 2);
-    let n0 = load(b, 3);
-    let n1 = load(b, 4);
-    let n2 = load(b, 5);
-    let u = load(b, 6);
-    let l = gh[n];
-    let k = next_generators(
-        q,
-        n + 1,
-        g,
-        2 * dw + 1 - dr,
-        h,
-        2 * dr + 1 - dw,
-        gh,
-        q.p - l,
-        &m0,
-        &m1,
-        &m2,
-        &n0,
-        &n1,
-        &n2,
-        &u,
-        nc,
-        x,
-        mc,
-        nb,
-        y,
-        mb,
-        d,
-    );
+    let rows = unpacked(b);
+    let top = dr + dw;
+    let lg = 2 * dw + 1 - dr;
+    let lh = 2 * dr + 1 - dw;
+    let lk = top + 1;
+    let g = Poly { row: g, len: lg };
+    let h = Poly { row: h, len: lh };
+    let xy = Poly { row: gh, len: lk };
+    let k = next_generators(q, g, h, xy, q.p - gh[top], &rows, m, n, x, y, d);
     Measures {
         degree: k.m0 - k.u,
         cut: k.cut,

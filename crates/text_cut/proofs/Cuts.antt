@@ -1,27 +1,25 @@
--- A text cut at one byte: the laws of `until`, `pieces` and `rest_at`.
+-- A text cut at one byte: the laws of `until` and `pieces`.
 --   until_here, until_skip, until_past   `until` from a place on, byte by byte
---   search_here, search_on               a search from place to place
+--   search_here, search_on, search_past  a search from place to place
 --   until_take, until_le                 it is the front of the text
 --   pieces_none, pieces_hit, pieces_miss   `pieces` byte by byte
---   piece_at     the pieces from a place on: the one that ends at the next c, then those behind it
---   rest_start, rest_none                from the start on, and past the end
---   Passed c s n at   n pieces of s are passed, and the next begins at `at`; passed_none, passed_more, passed_end
+--   piece, end_le   what stands from a place on up to the next c, and where that is
 --   Free c t          the byte c is not in t; free_append, pieces_free, pieces_next
---   pieces_some       a text has a first piece
+--   pieces_some       a text has a first piece; head_of: what stands at the front of the pieces from piece n on
 use mathlib.Core.Path.{◌≡◌, refl, sym, ap, ◌∙◌}
 use mathlib.Core.Logic.{◌≢◌}
 use mathlib.Core.Bool.{Bool, true, false}
 use mathlib.Core.List.{List, [], ◌∷◌, ◌++◌}
-use Prim.Native.Nat.{ℕ, zero, suc, ◌+◌, ◌-◌, ◌≤◌, ◌<◌}
+use Prim.Native.Nat.{ℕ, zero, suc, ◌+◌, ◌-◌, ◌≤◌, ◌<◌, max}
 use native.Mathlib.Nat.{add-zero}
 use native.Mathlib.Numerals.{add-one}
 use native.Mathlib.Decide.{dec_le}
 use native.Mathlib.Omega.{arith}
-use lib.Dec.{eqb, leb-suc-suc}
+use lib.Dec.{eqb}
 use lib.ListN.{length, get_or, take, drop, length-drop, drop_of_length-le}
 use lib.Seq.{drop-cons, drop-drop, get_or-drop}
-use borrow.Author.Tests.{eq-eqb, ne_eqb, eqb-true, eqb-false, le-leb, lt-leb}
-use Rattle.text_cut.specs.Pieces.{until, ahead, pieces, rest_at}
+use borrow.Author.Tests.{eq-eqb, ne_eqb, eqb-true, eqb-false}
+use Rattle.text_cut.specs.Pieces.{until, ahead, pieces}
 
 -- ---- until
 until_if : ℕ → ℕ → List ℕ → Bool → List ℕ
@@ -59,6 +57,14 @@ pub search_on : (c : ℕ) (s : List ℕ) (i m : ℕ) → i < length s → (get_o
 search_on c s i m h n e =
     let a : length (until c (drop i s)) ≡ suc (length (until c (drop (i + 1) s))) = ap length (until_skip c s i h n) in
     omega arith
+
+-- a search that began at `from` and has met no c
+pub search_past : (c : ℕ) (s : List ℕ) (from i : ℕ) → length s ≤ i → (from ≤ length s → i ≤ length s)
+    → i + length (until c (drop i s)) ≡ from + length (until c (drop from s)) → max from (length s) ≡ from + length (until c (drop from s))
+search_past c s from i h k e = elim (dec_le (length s) from) [
+  | yes p ↦ (let a : length (until c (drop from s)) ≡ 0 = ap length (until_past c s from p) in omega arith)
+  | no p ↦ (let a : length (until c (drop i s)) ≡ 0 = ap length (until_past c s i h) in let b : i ≤ length s = k (omega arith) in omega arith)
+]
 
 pub until_le : (c : ℕ) (s : List ℕ) → length (until c s) ≤ length s
 unfolding until until_if
@@ -102,41 +108,7 @@ until_stop c (x ∷ s) h = go (eqb x c) refl (until_stop c s) h
         ih (omega arith)
         ∙ ap (λ (j : ℕ). c ∷ drop j (x ∷ s)) (let e : suc (length (until c s) + 1) ≡ suc (length (until c s)) + 1 = omega arith in e)
 
--- ---- the pieces from a place on
-rest_if : ℕ → List ℕ → ℕ → Bool → List (List ℕ)
-rest_if c s at b = elim b [ true ↦ pieces c (drop at s) | false ↦ [] ]
-
-rest_in : (c : ℕ) (s : List ℕ) (at : ℕ) → at ≤ length s → rest_at c s at ≡ pieces c (drop at s)
-unfolding rest_at rest_if
-rest_in c s at h = ap (rest_if c s at) (le-leb at (length s) h)
-
-pub rest_none : (c : ℕ) (s : List ℕ) (at : ℕ) → length s < at → rest_at c s at ≡ []
-unfolding rest_at rest_if
-rest_none c s at h = ap (rest_if c s at) (lt-leb at (length s) h)
-
-pub rest_start : (c : ℕ) (s : List ℕ) → rest_at c s 0 ≡ pieces c s
-rest_start c s = rest_in c s 0 (omega arith)
-
-rest_suc : (c x : ℕ) (s : List ℕ) (k : ℕ) → rest_at c (x ∷ s) (suc k) ≡ rest_at c s k
-unfolding rest_at rest_if
-rest_suc c x s k = ap (rest_if c s k) (leb-suc-suc k (length s))
-
-rest_drop : (c : ℕ) (s : List ℕ) (at j : ℕ) → at ≤ length s → rest_at c (drop at s) j ≡ rest_at c s (at + j)
-rest_drop c s at j h = elim (dec_le (at + j) (length s)) [ yes p ↦ inside p | no p ↦ beyond p ]
-  where
-    long : length (drop at s) ≡ length s - at
-    long = length-drop at s
-
-    inside : at + j ≤ length s → rest_at c (drop at s) j ≡ rest_at c s (at + j)
-    inside p =
-        let l : length (drop at s) ≡ length s - at = long in
-        rest_in c (drop at s) j (omega arith) ∙ ap (pieces c) (drop-drop j at s) ∙ sym (rest_in c s (at + j) p)
-
-    beyond : ¬ (at + j ≤ length s) → rest_at c (drop at s) j ≡ rest_at c s (at + j)
-    beyond p =
-        let l : length (drop at s) ≡ length s - at = long in
-        rest_none c (drop at s) j (omega arith) ∙ sym (rest_none c s (at + j) (omega arith))
-
+-- ---- the pieces
 pieces_if : ℕ → ℕ → List ℕ → Bool → List (List ℕ)
 pieces_if c x s b = elim b [ true ↦ [] ∷ pieces c s | false ↦ ahead x (pieces c s) ]
 
@@ -152,27 +124,6 @@ pub pieces_none : (c : ℕ) → pieces c [] ≡ [] ∷ []
 unfolding pieces
 pieces_none c = refl
 
-pub pieces_until : (c : ℕ) (s : List ℕ) → pieces c s ≡ until c s ∷ rest_at c s (length (until c s) + 1)
-unfolding pieces until pieces_if until_if ahead
-pieces_until c [] = ap (λ (z : List (List ℕ)). [] ∷ z) (sym (rest_none c [] 1 (omega arith)))
-pieces_until c (x ∷ s) = go (eqb x c) (pieces_until c s)
-  where
-    go : (b : Bool) → pieces c s ≡ until c s ∷ rest_at c s (length (until c s) + 1)
-        → pieces_if c x s b ≡ until_if c x s b ∷ rest_at c (x ∷ s) (length (until_if c x s b) + 1)
-    go true h = ap (λ (z : List (List ℕ)). [] ∷ z) (sym (rest_suc c x s 0 ∙ rest_start c s))
-    go false h =
-        ap (ahead x) h
-        ∙ ap (λ (z : List (List ℕ)). (x ∷ until c s) ∷ z)
-        (sym (rest_suc c x s (length (until c s) + 1)) ∙ ap (rest_at c (x ∷ s)) (let e : suc (length (until c s) + 1) ≡ suc (length (until c s)) + 1 = omega arith in e))
-
-rest_step : (c : ℕ) (s : List ℕ) (at : ℕ) → at ≤ length s
-    → rest_at c s at ≡ until c (drop at s) ∷ rest_at c s (at + length (until c (drop at s)) + 1)
-rest_step c s at h =
-    rest_in c s at h ∙ pieces_until c (drop at s)
-    ∙ ap (λ (z : List (List ℕ)). until c (drop at s) ∷ z)
-    (rest_drop c s at (length (until c (drop at s)) + 1) h
-    ∙ ap (rest_at c s) (let e : at + (length (until c (drop at s)) + 1) ≡ at + length (until c (drop at s)) + 1 = omega arith in e))
-
 pub end_le : (c : ℕ) (s : List ℕ) (at e : ℕ) → at ≤ length s → e ≡ at + length (until c (drop at s)) → e ≤ length s
 end_le c s at e h q =
     let a : length (until c (drop at s)) ≤ length (drop at s) = until_le c (drop at s) in
@@ -184,54 +135,13 @@ piece c s at e q =
     let k : length (until c (drop at s)) ≡ e - at = omega arith in
     until_take c (drop at s) ∙ ap (λ (j : ℕ). take j (drop at s)) k
 
-pub piece_at : (c : ℕ) (s : List ℕ) (at e : ℕ) → at ≤ length s → e ≡ at + length (until c (drop at s))
-    → rest_at c s at ≡ take (e - at) (drop at s) ∷ rest_at c s (e + 1)
-piece_at c s at e h q =
-    rest_step c s at h
-    ∙ ap (λ (z : List ℕ). z ∷ rest_at c s (at + length (until c (drop at s)) + 1)) (piece c s at e q)
-    ∙ ap (λ (k : ℕ). take (e - at) (drop at s) ∷ rest_at c s (k + 1)) (sym q)
-
--- ---- passing the pieces one after the other
-head_of : (n : ℕ) (ps : List (List ℕ)) {p : List ℕ} {qs : List (List ℕ)} → drop n ps ≡ p ∷ qs → (n < length ps) × (get_or ps n [] ≡ p) × (drop (n + 1) ps ≡ qs)
+pub head_of : (n : ℕ) (ps : List (List ℕ)) {p : List ℕ} {qs : List (List ℕ)} → drop n ps ≡ p ∷ qs → (n < length ps) × (get_or ps n [] ≡ p) × (drop (n + 1) ps ≡ qs)
 head_of n ps {p} {qs} e = (
   let l : length (drop n ps) ≡ length ps - n = length-drop n ps in
       let k : length (drop n ps) ≡ suc (length qs) = ap length e in omega arith,
   ap (λ (j : ℕ). get_or ps j []) (sym (add-zero n)) ∙ sym (get_or-drop n ps 0 []) ∙ ap (λ (z : List (List ℕ)). get_or z 0 []) e,
   sym (drop-drop 1 n ps) ∙ ap (drop 1) e,
 )
-
-pub record Passed (c : ℕ) (s : List ℕ) (n at : ℕ) : Type 0 where
-  pub few : n ≤ at
-  pub place : at ≤ length s + 1
-  pub inside : n ≤ length (pieces c s)
-  pub rest : drop n (pieces c s) ≡ rest_at c s at
-
-pub passed_none : (c : ℕ) (s : List ℕ) → Passed c s 0 0
-passed_none c s = record { few = omega arith; place = omega arith; inside = omega arith; rest = sym (rest_start c s) }
-
-module _ (c : ℕ) (s : List ℕ) (n at e : ℕ) (a : Passed c s n at) (h : at ≤ length s) (q : e ≡ at + length (until c (drop at s))) where
-  next_piece : drop n (pieces c s) ≡ take (e - at) (drop at s) ∷ rest_at c s (e + 1)
-  next_piece = a.rest ∙ piece_at c s at e h q
-
-  pub passed_in : n < length (pieces c s)
-  passed_in = (head_of n (pieces c s) next_piece).0
-
-  pub passed_piece : get_or (pieces c s) n [] ≡ take (e - at) (drop at s)
-  passed_piece = (head_of n (pieces c s) next_piece).1
-
-  pub passed_more : Passed c s (n + 1) (e + 1)
-  passed_more =
-      let f : n ≤ at = a.few in
-      let i : n < length (pieces c s) = passed_in in
-      let l : e ≤ length s = end_le c s at e h q in
-      record { few = omega arith; place = omega arith; inside = omega arith; rest = (head_of n (pieces c s) next_piece).2 }
-
-pub passed_end : (c : ℕ) (s : List ℕ) (n at : ℕ) → Passed c s n at → length s < at → n ≡ length (pieces c s)
-passed_end c s n at a h =
-    let i : n ≤ length (pieces c s) = a.inside in
-    let l : length (drop n (pieces c s)) ≡ length (pieces c s) - n = length-drop n (pieces c s) in
-    let z : length (drop n (pieces c s)) ≡ 0 = ap length (a.rest ∙ rest_none c s at h) in
-    omega arith
 
 -- ---- a byte that is not in a text
 abbrev pub Free : ℕ → List ℕ → Type 0

@@ -1,9 +1,8 @@
 -- A text, a list of bytes, cut at one byte.
 --   until c s       the bytes of s before the first c; all of s where there is none
 --   pieces c s      the pieces of s between the bytes c, in order: one more than there are bytes c
---   rest_at c s at   the pieces of s from the place `at` on; none past the end of s
 -- Laws: proofs/Cuts; of pieces joined again: Joins of crate text_read.
-use Rattle.std.specs.Prelude.{true, false, List, [], ◌∷◌, ℕ, eqb, leb, length, drop}
+use Rattle.std.specs.Prelude.{true, false, List, [], ◌∷◌, ℕ, eqb}
 
 unfoldable pub until : ℕ → List ℕ → List ℕ
 until c [] = []
@@ -17,6 +16,3 @@ ahead x (p ∷ ps) = (x ∷ p) ∷ ps
 unfoldable pub pieces : ℕ → List ℕ → List (List ℕ)
 pieces c [] = [] ∷ []
 pieces c (x ∷ s) = elim (eqb x c) [ true ↦ [] ∷ pieces c s | false ↦ ahead x (pieces c s) ]
-
-unfoldable pub rest_at : ℕ → List ℕ → ℕ → List (List ℕ)
-rest_at c s at = elim (leb at (length s)) [ true ↦ pieces c (drop at s) | false ↦ [] ]

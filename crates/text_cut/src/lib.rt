@@ -20,14 +20,12 @@ pub enum Step {
 pub fn find(s: &[u8], from: usize, c: u8) -> usize
     ensures { result ≡ from + length (until c (drop from s.now)) }
 {
-    let mut i = from;
-    while i < s.len() {
+    for i in from..s.len() {
         if s[i] == c {
             return i;
         }
-        i += 1;
     }
-    i
+    from.max(s.len())
 }
 
 // A byte behind the m that are pending; nothing where the slice is full. Returns how many are pending by now, counted up to one more
@@ -37,12 +35,8 @@ fn keep(kept: &mut [u8], m: usize, b: u8) -> usize
 {
     if m < kept.len() {
         kept[m] = b;
-        return m + 1;
     }
-    if m == kept.len() {
-        return m + 1;
-    }
-    m
+    if m <= kept.len() { m + 1 } else { m }
 }
 
 // The bytes of s behind the n that are pending.
@@ -50,15 +44,14 @@ fn carry(kept: &mut [u8], n: usize, s: &[u8]) -> usize
     ensures { Carried kept.old n s.now result kept.new }
 {
     let mut m = n;
-    let mut i: usize = 0;
-    while i < s.len() {
-        m = keep(kept, m, s[i]);
-        i += 1;
+    for b in s {
+        m = keep(kept, m, *b);
     }
     m
 }
 
-// Goes on with a line of which n bytes are pending, in the bytes of s from `at` on.
+// Goes on with a line of which n bytes are pending, in the bytes of s from `at` on. `kept` and n are two arguments, not a struct, since
+// this function is public.
 pub fn next_line(kept: &mut [u8], n: usize, s: &[u8], at: usize) -> Step
     ensures { CutTells kept.old n s.now at result kept.new }
 {
@@ -68,10 +61,10 @@ pub fn next_line(kept: &mut [u8], n: usize, s: &[u8], at: usize) -> Step
     let e = find(s, at, b'\n');
     let m = carry(kept, n, &s[at..e]);
     if s.len() <= e {
-        return Step::Pending(m);
+        Step::Pending(m)
+    } else if m <= kept.len() {
+        Step::Whole(m, e + 1)
+    } else {
+        Step::Broken(e + 1)
     }
-    if m <= kept.len() {
-        return Step::Whole(m, e + 1);
-    }
-    Step::Broken(e + 1)
 }

@@ -8,7 +8,8 @@ pub fn finish(out: &mut [u8], n: usize) -> usize
     ensures { Ends out.old n result out.new }
 {
     if n == 0 {
-        return 0;
+        0
+    } else {
+        text_put::put_refused(out, 0, 12)
     }
-    text_put::put_refused(out, 0, 12)
 }

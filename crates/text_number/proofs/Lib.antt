@@ -1,5 +1,6 @@
 pub mod Values
 pub mod Numbers
+pub mod Taken
 pub mod Lists
 pub mod Inverse
 pub mod Joins

@@ -1,47 +1,48 @@
 -- A list read number by number, and a line field by field.
---   Numerals s n at   n pieces of the list s are passed, and all are numerals; numerals_none, numerals_more, numerals_bad, numerals_end
+--   Numerals steps it s n   n pieces of the list s are taken, and all are numerals; numerals_none, numerals_more, numerals_bad, numerals_end
 --   listed_length     a list has as many numbers as its text has pieces
 --   Filling s d d' n  d' is d with the first n numbers of the list s in front; filling_none, filling_more, filling_end
 use mathlib.Core.Path.{◌≡◌, refl, sym, ap, ◌∙◌, subst}
 use mathlib.Core.List.{List, [], ◌∷◌, ◌++◌, map, append_assoc}
-use Prim.Native.Nat.{ℕ, suc, ◌+◌, ◌-◌, ◌≤◌, ◌<◌}
+use Prim.Native.Nat.{ℕ, suc, ◌+◌, ◌≤◌, ◌<◌}
 use native.Mathlib.Numerals.{add-one}
 use native.Mathlib.Omega.{arith}
 use lib.ListN.{length, get_or, take, drop, set, length-set, length-map, get_or-map}
 use lib.Seq.{take_all, take-suc, drop-cons, set_at, length-take-le}
 use borrow.Author.Count.{below_more}
 use Rattle.text_put.specs.Print.{comma}
-use Rattle.text_cut.specs.Pieces.{until, pieces}
-use Rattle.text_cut.proofs.Cuts.{Passed, passed_none, passed_in, passed_piece, passed_more, passed_end}
+use Rattle.text_cut.specs.Pieces.{pieces}
+use Rattle.text_number.proofs.Taken.{Left, left_piece, left_none}
+use Rattle.std.specs.Prelude.{Option, Some, None}
+use denote.Ref.{Bor}
 use Rattle.text_number.specs.Grammar.{value, value_from, Numeral, Number, Listed}
 
-pub record Numerals (s : List ℕ) (n at : ℕ) : Type 0 where
-  pub passed : Passed comma s n at
+-- n pieces of the list s are taken, and all are numerals
+pub record Numerals {S : Type 0} (steps : S → Option (Bor (List ℕ)) → S → Type 0) (it : S) (s : List ℕ) (n : ℕ) : Type 0 where
+  pub left : Left steps it comma s n
   pub each : (k : ℕ) → k < n → Numeral (get_or (pieces comma s) k [])
 
-pub numerals_none : (s : List ℕ) → Numerals s 0 0
-numerals_none s = record { passed = passed_none comma s; each = λ k h. absurd (omega arith) }
+pub numerals_none : {S : Type 0} {steps : S → Option (Bor (List ℕ)) → S → Type 0} {it : S} {s : List ℕ} → Left steps it comma s 0 → Numerals steps it s 0
+numerals_none a = record { left = a; each = λ k h. absurd (omega arith) }
 
-module _ (s : List ℕ) (n at e : ℕ) (h : at ≤ length s) (q : e ≡ at + length (until comma (drop at s))) where
-  pub numerals_more : {v : ℕ} → Numerals s n at → Number (take (e - at) (drop at s)) v → Numerals s (n + 1) (e + 1)
-  numerals_more {v} a b =
-      record {
-        passed = passed_more comma s n at e a.passed h q;
-        each = below_more _ _ a.each (subst Numeral (sym (passed_piece comma s n at e a.passed h q)) b.numeral);
-      }
+module _ {S : Type 0} {steps : S → Option (Bor (List ℕ)) → S → Type 0} {it : S} (it' : S) {s : List ℕ} {n : ℕ} (a : Numerals steps it s n) where
+  pub numerals_more : (x : Bor (List ℕ)) {v : ℕ} → steps it (Some x) it' → Number x.now v → Numerals steps it' s (n + 1)
+  numerals_more x t b =
+      let (i, p, r) = left_piece it' a.left x t in
+      record { left = r; each = below_more _ _ a.each (subst Numeral (sym p) b.numeral) }
 
-  pub numerals_bad : Numerals s n at → ((m : ℕ) → Number (take (e - at) (drop at s)) m → ⊥) → (l : List ℕ) → Listed s l → ⊥
-  numerals_bad a b l r =
-      let t : Numeral (take (e - at) (drop at s)) =
-      subst Numeral (passed_piece comma s n at e a.passed h q) (r.each n (passed_in comma s n at e a.passed h q)) in
-      b (value (take (e - at) (drop at s))) record { numeral = t; means = refl }
+  pub numerals_bad : (x : Bor (List ℕ)) → steps it (Some x) it' → ((m : ℕ) → Number x.now m → ⊥) → (l : List ℕ) → Listed s l → ⊥
+  numerals_bad x t b l r =
+      let (i, p, q) = left_piece it' a.left x t in
+      b (value x.now) record { numeral = subst Numeral p (r.each n i); means = refl }
 
 pub listed_length : {s l : List ℕ} → Listed s l → length l ≡ length (pieces comma s)
 listed_length {s} r = ap length r.means ∙ length-map (pieces comma s) value
 
-pub numerals_end : (s : List ℕ) (n at : ℕ) → Numerals s n at → length s < at → (l : List ℕ) × Listed s l × (length l ≡ n)
-numerals_end s n at a h =
-    let e : n ≡ length (pieces comma s) = passed_end comma s n at a.passed h in
+pub numerals_end : {S : Type 0} {steps : S → Option (Bor (List ℕ)) → S → Type 0} {it : S} (it' : S) {s : List ℕ} {n : ℕ} → Numerals steps it s n → steps it None it'
+    → (l : List ℕ) × Listed s l × (length l ≡ n)
+numerals_end it' {s} {n} a t =
+    let e = left_none it' a.left t in
     let r : Listed s (map value (pieces comma s)) = record { each = λ k q. a.each k (omega arith); means = refl } in
     (map value (pieces comma s), r, listed_length r ∙ sym e)
 

@@ -1,9 +1,8 @@
 -- A number read digit by digit.
 --   Sofar s v i   the first i bytes of s are digits, of value v; sofar_none, sofar_more, sofar_small, sofar_all
---   one_zero      the text "0" is the number 0
 use mathlib.Core.Path.{◌≡◌, refl, sym, ap, ◌∙◌, subst}
 use mathlib.Core.Logic.{◌≢◌}
-use mathlib.Core.List.{List, [], ◌∷◌}
+use mathlib.Core.List.{List}
 use Prim.Native.Nat.{ℕ, ◌+◌, ◌-◌, ◌*◌, ◌≤◌, ◌<◌}
 use native.Mathlib.Numerals.{add-one}
 use native.Mathlib.Omega.{arith}
@@ -22,12 +21,12 @@ pub sofar_none : (s : List ℕ) → Sofar s 0 0
 unfolding value_from
 sofar_none s = record { place = omega arith; means = refl; digits = λ k h. absurd (omega arith) }
 
-pub sofar_more : (s : List ℕ) (v i : ℕ) → Sofar s v i → i < length s → Digit (get_or s i 0) → Sofar s (v * 10 + (get_or s i 0 - 48)) (i + 1)
-sofar_more s v i a h d =
+pub sofar_more : (s : List ℕ) (v i : ℕ) {w : ℕ} → Sofar s v i → i < length s → Digit (get_or s i 0) → w ≡ get_or s i 0 - 48 → Sofar s (v * 10 + w) (i + 1)
+sofar_more s v i a h d e =
     record {
       place = omega arith;
       means =
-          ap (λ (z : ℕ). z * 10 + (get_or s i 0 - 48)) a.means ∙ sym (value_last (take i s) (get_or s i 0))
+          ap (λ (z : ℕ). v * 10 + z) e ∙ ap (λ (z : ℕ). z * 10 + (get_or s i 0 - 48)) a.means ∙ sym (value_last (take i s) (get_or s i 0))
           ∙ ap value (sym (take-suc s i 0 h) ∙ ap (λ (k : ℕ). take k s) (sym (add-one i)));
       digits = below_more _ _ a.digits d;
     }
@@ -40,27 +39,9 @@ sofar_small s v i a h =
     let m : v ≡ value (take i s) = a.means in
     omega arith
 
-pub sofar_all : (s : List ℕ) (v i : ℕ) → Sofar s v i → length s ≤ i → 1 ≤ length s → length s ≤ 5 → get_or s 0 0 ≢ 48 → Number s v
+pub sofar_all : (s : List ℕ) (v i : ℕ) → Sofar s v i → length s ≤ i → 1 ≤ length s → length s ≤ 5 → (1 < length s → get_or s 0 0 ≢ 48) → Number s v
 sofar_all s v i a h some few plain =
     record {
-      numeral = record { some = some; few = few; digits = λ k q. a.digits k (omega arith); plain = λ q. plain };
+      numeral = record { some = some; few = few; digits = λ k q. a.digits k (omega arith); plain = plain };
       means = a.means ∙ ap value (take_all i s h);
-    }
-
-zero_value : (s : List ℕ) → length s ≡ 1 → get_or s 0 0 ≡ 48 → 0 ≡ value s
-unfolding value_from
-zero_value [] l e = absurd (omega arith)
-zero_value (b ∷ []) l e = omega arith
-zero_value (b ∷ x ∷ s) l e = absurd (omega arith)
-
-pub one_zero : (s : List ℕ) → 1 ≤ length s → length s ≤ 1 → get_or s 0 0 ≡ 48 → Number s 0
-one_zero s some few e =
-    record {
-      numeral = record {
-        some = some;
-        few = omega arith;
-        digits = λ k q. let z : 0 ≡ k = omega arith in subst (λ (j : ℕ). Digit (get_or s j 0)) z (omega arith, omega arith);
-        plain = λ q. absurd (omega arith);
-      };
-      means = zero_value s (omega arith) e;
     }

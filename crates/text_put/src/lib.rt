@@ -1,10 +1,35 @@
 // Bytes, numbers, lists and fields put into a lent slice, one after the other. Each function returns the place after what it put;
-// what does not fit the slice is left out, and the place stops at the slice's end.
+// what does not fit the slice is left out, and the place stops at the slice's end. Slice and place are two arguments, not a struct,
+// since these functions are public.
 #![tactic(auto)]
 
-ghost use Rattle.std.specs.Prelude.{[], ◌∷◌, take};
+ghost use Rattle.std.specs.Prelude.{◌≡◌, [], ◌∷◌, ℕ, map, take};
 ghost use Rattle.base_lists.specs.Pieces.{Put};
 ghost use Rattle.text_put.specs.Print.{number_text, list_text, line_text, refused_text};
+
+// What a list may hold: a number of its own width, written as one of 64 bits.
+trait Entry: Copy {
+    ghost number: { Self → ℕ };
+
+    fn wide(self) -> u64
+        ensures { result ≡ number self };
+}
+
+impl Entry for u16 {
+    ghost number = { λ n. n };
+
+    fn wide(self) -> u64 {
+        u64::from(self)
+    }
+}
+
+impl Entry for u64 {
+    ghost number = { λ n. n };
+
+    fn wide(self) -> u64 {
+        self
+    }
+}
 
 // One byte.
 pub fn put_byte(out: &mut [u8], at: usize, b: u8) -> usize
@@ -12,9 +37,10 @@ pub fn put_byte(out: &mut [u8], at: usize, b: u8) -> usize
 {
     if at < out.len() {
         out[at] = b;
-        return at + 1;
+        at + 1
+    } else {
+        at
     }
-    at
 }
 
 // The bytes of a text.
@@ -22,10 +48,8 @@ fn put_bytes(out: &mut [u8], at: usize, s: &[u8]) -> usize
     ensures { Put out.old at s.now result out.new }
 {
     let mut to = at;
-    let mut i: usize = 0;
-    while i < s.len() {
-        to = put_byte(out, to, s[i]);
-        i += 1;
+    for b in s {
+        to = put_byte(out, to, *b);
     }
     to
 }
@@ -43,18 +67,16 @@ pub fn put_number(out: &mut [u8], at: usize, n: u64) -> usize
 }
 
 // The numbers of a slice, with commas.
-fn put_all(out: &mut [u8], at: usize, l: &[u16]) -> usize
-    ensures { Put out.old at (list_text l.now) result out.new }
+fn put_all<T: Entry>(out: &mut [u8], at: usize, l: &[T]) -> usize
+    ensures { Put out.old at (list_text (map T.number l.now)) result out.new }
 {
-    if l.len() == 0 {
+    let Some((first, others)) = l.split_first() else {
         return at;
-    }
-    let mut to = put_number(out, at, l[0] as u64);
-    let mut i: usize = 1;
-    while i < l.len() {
+    };
+    let mut to = put_number(out, at, first.wide());
+    for x in others {
         to = put_byte(out, to, b',');
-        to = put_number(out, to, l[i] as u64);
-        i += 1;
+        to = put_number(out, to, x.wide());
     }
     to
 }
@@ -63,27 +85,7 @@ fn put_all(out: &mut [u8], at: usize, l: &[u16]) -> usize
 pub fn put_list(out: &mut [u8], at: usize, l: &[u16], n: usize) -> usize
     ensures { Put out.old at (list_text (take n l.now)) result out.new }
 {
-    if n < l.len() {
-        return put_all(out, at, &l[..n]);
-    }
-    put_all(out, at, l)
-}
-
-// The numbers of a slice of wide ones, with commas.
-fn put_wide(out: &mut [u8], at: usize, l: &[u64]) -> usize
-    ensures { Put out.old at (list_text l.now) result out.new }
-{
-    if l.len() == 0 {
-        return at;
-    }
-    let mut to = put_number(out, at, l[0]);
-    let mut i: usize = 1;
-    while i < l.len() {
-        to = put_byte(out, to, b',');
-        to = put_number(out, to, l[i]);
-        i += 1;
-    }
-    to
+    put_all(out, at, &l[..n.min(l.len())])
 }
 
 // A field: p;G;H.
@@ -92,9 +94,9 @@ pub fn put_field(out: &mut [u8], at: usize, p: u64, g: &[u64], h: &[u64]) -> usi
 {
     let a = put_number(out, at, p);
     let b = put_byte(out, a, b';');
-    let c = put_wide(out, b, g);
+    let c = put_all(out, b, g);
     let d = put_byte(out, c, b';');
-    put_wide(out, d, h)
+    put_all(out, d, h)
 }
 
 // The answer `refused n`, with its newline.

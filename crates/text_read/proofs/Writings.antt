@@ -19,7 +19,7 @@ use Rattle.text_number.proofs.Values.{value_text}
 use Rattle.text_number.proofs.Inverse.{text_numeral, text_number, numeral_text, number_below}
 use Rattle.text_number.proofs.Joins.{pieces_join, join_pieces, join_long, join_free}
 use Rattle.text_number.proofs.Lists.{listed_length, entry_value}
-use Rattle.text_read.proofs.Parts.{reads_of}
+use Rattle.text_read.proofs.Parts.{three_of, reads_of}
 
 -- a function that changes no entry of a list
 map_same : (f : List ℕ → List ℕ) (ps : List (List ℕ)) → ((k : ℕ) → k < length ps → f (get_or ps k []) ≡ get_or ps k []) → map f ps ≡ ps
@@ -70,13 +70,6 @@ text_listed n l h =
     listed_by (list_text (n ∷ l)) (map number_text (n ∷ l)) (n ∷ l) (texts_pieces n l h) (texts_numeral (n ∷ l) h) (sym (values_texts (n ∷ l)))
 
 -- ---- lines
-three_of : (ps : List (List ℕ)) → length ps ≡ 3 → ps ≡ get_or ps 0 [] ∷ get_or ps 1 [] ∷ get_or ps 2 [] ∷ []
-three_of [] h = absurd (omega arith)
-three_of (a ∷ []) h = absurd (omega arith)
-three_of (a ∷ b ∷ []) h = absurd (omega arith)
-three_of (a ∷ b ∷ c ∷ []) h = refl
-three_of (a ∷ b ∷ c ∷ d ∷ ps) h = absurd (omega arith)
-
 pub line_parts : {line : List ℕ} {p : ℕ} {G H : List ℕ} → Reads line p G H → line ≡ join semicolon (field line 0 ∷ field line 1 ∷ field line 2 ∷ [])
 line_parts {line} r = sym (join_pieces semicolon line) ∙ ap (join semicolon) (three_of (pieces semicolon line) r.three)
 

@@ -31,16 +31,15 @@ fn coordinate(
     ensures { CoordinateGives p x.now y.now z.now w.now u.now m.now
         n.now v.now k result }
 {
-    let o: usize = 0;
     let j = c + c;
     let l = j + 32;
     let mut a: [u16; 8192] = [0; 8192];
-    mix(p, x, y, z, w, &mut a[o..j]);
+    mix(p, x, y, z, w, &mut a[0..j]);
     let mut b: [u16; 8192] = [0; 8192];
-    times(p, m, n, &mut b[o..j]);
+    times(p, m, n, &mut b[0..j]);
     let mut d: [u16; 8224] = [0; 8224];
-    mix(p, u, &a[o..j], v, &b[o..j], &mut d[o..l]);
-    constant(k, &d[o..l])
+    mix(p, u, &a[0..j], v, &b[0..j], &mut d[0..l]);
+    constant(k, &d[0..l])
 }
 
 // Is the product of the element in the first three rows and the one in the last three 1? gh is g h.
@@ -49,27 +48,20 @@ fn product_is_one(p: u64, c: usize, g: &[u16], h: &[u16], gh: &[u16], rows: &[u1
     ensures { ProductGives p c g.now h.now rows.now result }
 {
     let one: [u16; 1] = [1; 1];
-    let z: usize = 0;
     let c2 = c + c;
     let c3 = c2 + c;
     let c4 = c3 + c;
     let c5 = c4 + c;
     let c6 = c5 + c;
-    let e0 = &rows[z..c];
+    let e0 = &rows[0..c];
     let e1 = &rows[c..c2];
     let e2 = &rows[c2..c3];
     let f0 = &rows[c3..c4];
     let f1 = &rows[c4..c5];
     let f2 = &rows[c5..c6];
-    let r0 = coordinate(p, c, e1, f2, e2, f1, gh, e0, f0, &one, 1);
-    if !r0 {
-        return false;
-    }
-    let r1 = coordinate(p, c, e0, f1, e1, f0, &one, e2, f2, g, 0);
-    if !r1 {
-        return false;
-    }
-    coordinate(p, c, e0, f2, e2, f0, &one, e1, f1, h, 0)
+    coordinate(p, c, e1, f2, e2, f1, gh, e0, f0, &one, 1)
+        && coordinate(p, c, e0, f1, e1, f0, &one, e2, f2, g, 0)
+        && coordinate(p, c, e0, f2, e2, f0, &one, e1, f1, h, 0)
 }
 
 // Do the last three rows hold the inverse of the element in the first three?
@@ -78,12 +70,9 @@ fn is_inverse(f: OpenedField, c: usize, rows: &[u16]) -> bool
     ensures { IsInverseGives f c rows.now result }
 {
     let q = f.field;
-    let x = q.g;
-    let y = q.h;
-    let z = q.gh;
-    let g = to_stored(&x);
-    let h = to_stored(&y);
-    let gh = to_stored(&z);
+    let g = to_stored(&q.g);
+    let h = to_stored(&q.h);
+    let gh = to_stored(&q.gh);
     product_is_one(q.p, c, &g, &h, &gh, rows)
 }
 
@@ -93,16 +82,6 @@ pub fn is_unit(f: OpenedField, c: usize, rows: &[u16]) -> bool
     ensures { IsUnitGives f c rows.now result }
 {
     let q = f.field;
-    let small = below(q.p, rows);
-    if !small {
-        return false;
-    }
-    let inverse = is_inverse(f, c, rows);
-    if !inverse {
-        return false;
-    }
-    let z: usize = 0;
     let c3 = c + c + c;
-    let c4 = c3 + c;
-    longer(&rows[z..c], &rows[c3..c4])
+    below(q.p, rows) && is_inverse(f, c, rows) && longer(&rows[0..c], &rows[c3..c3 + c])
 }

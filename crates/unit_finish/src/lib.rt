@@ -12,14 +12,10 @@ fn inverted(f: OpenedField, c: usize, k: usize, rows: &mut [u16], s: &mut [u16])
     ensures { Inverses f c rows.old s.old rows.new s.new }
 {
     let q = f.field;
-    let x = q.g;
-    let y = q.h;
-    let z = q.gh;
-    let m = poly_rows::minus(q.p, &z);
-    let g = to_stored(&x);
-    let h = to_stored(&y);
-    let gh = to_stored(&z);
-    let ngh = to_stored(&m);
+    let g = to_stored(&q.g);
+    let h = to_stored(&q.h);
+    let gh = to_stored(&q.gh);
+    let ngh = to_stored(&poly_rows::minus(q.p, &q.gh));
     unit_inverse::invert(q.p, c, k, &g, &h, &gh, &ngh, rows, s);
 }
 

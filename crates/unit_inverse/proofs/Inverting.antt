@@ -1,6 +1,5 @@
 -- cof(E)/N(E): the three rows of the cofactor, the norm as a number, and the rows scaled by its inverse.
 use mathlib.Core.Path.{◌≡◌, sym, ap, ap₂, ◌∙◌, subst}
-use mathlib.Core.Logic.{◌≢◌}
 use mathlib.Core.List.{List, [], ◌∷◌, ◌++◌}
 use Prim.Native.Nat.{ℕ, ◌+◌, ◌*◌, ◌-◌, ◌%◌, ◌<◌, ◌≤◌}
 use native.Mathlib.Omega.{arith}
@@ -10,7 +9,6 @@ use lib.Seq.{ext_get_or, get_or-take, get_or-drop}
 use Rattle.math_ring.proofs.Solve.{var, one, zer, minus, ◌:+◌, ◌:*◌, hyp, solve, solve_by}
 use Rattle.math_triple.specs.Tri.{Tri, norm_t, cof_t}
 use Rattle.math_fp.specs.Fp.{Prime}
-use Rattle.math_valued.specs.Degree.{Lt}
 use Rattle.math_valued.proofs.Degree.{lt_eq}
 use Rattle.math_rows.specs.Reading.{Reading}
 use Rattle.math_rows.specs.Made.{reading}
@@ -19,13 +17,13 @@ use Rattle.math_rows.proofs.Tab.{length_tab, at_tab}
 use Rattle.math_rows.proofs.Rows.{cast_sub, const_neg}
 use Rattle.math_rows.proofs.Unique.{const_inj}
 use Rattle.num_power.specs.Powers.{Inverse, Nonzero}
-use Rattle.poly_long.specs.Long.{Low, Scaled}
+use Rattle.poly_long.specs.Long.{Scaled}
 use Rattle.poly_long.proofs.Low.{low_unique, scale_law}
 use Rattle.base_lists.specs.Pieces.{cut, between}
 use Rattle.base_lists.proofs.Pieces.{between_length, cut_same}
 use Rattle.base_lists.proofs.Puts.{Around, put_back}
 use Rattle.unit_rows.proofs.Multiply.{row_grow}
-use Rattle.unit_inverse.specs.Inverse.{PairAsks, CofactorAsks, Cofactor, NormAsks, Norm, element, InvertAsks, Inverted}
+use Rattle.unit_inverse.specs.Inverse.{CofactorAsks, Cofactor, NormAsks, Norm, element, InvertAsks, Inverted}
 
 -- one number
 pub row_one : {p : ℕ} (ρ : Reading p) (v : ℕ) → row ρ (v ∷ []) ≡ ρ.𝓥.const (ρ.cast v)

@@ -5,7 +5,7 @@ ghost use Rattle.unit_inverse.specs.Inverse.{PairAsks, Pair, CofactorAsks, Cofac
 
 use base_lists::wide;
 use num_power::inverse;
-use poly_long::{clear, scale};
+use poly_long::scale;
 use poly_mix::mix;
 
 // The low k coefficients of the products of the rows at x and y and of those at v and w, one after the other.
@@ -24,14 +24,15 @@ fn pair(
     ensures { Pair p c k x y v w rows.now s.old s.new }
 {
     let o: [u16; 1] = [0; 1];
-    let z: usize = 0;
-    let x2 = x + c;
-    let y2 = y + c;
-    let v2 = v + c;
-    let w2 = w + c;
-    let k2 = k + k;
-    mix(p, &rows[x..x2], &rows[y..y2], &o, &o, &mut s[z..k]);
-    mix(p, &rows[v..v2], &rows[w..w2], &o, &o, &mut s[k..k2]);
+    mix(p, &rows[x..x + c], &rows[y..y + c], &o, &o, &mut s[0..k]);
+    mix(
+        p,
+        &rows[v..v + c],
+        &rows[w..w + c],
+        &o,
+        &o,
+        &mut s[k..k + k],
+    );
 }
 
 // The low k coefficients of g x y + f v w, into the row at place at.
@@ -53,10 +54,7 @@ fn cofactor(
     ensures { Cofactor p c k x y v w g.now f.now at rows.old s.old rows.new s.new }
 {
     pair(p, c, k, x, y, v, w, rows, s);
-    let z: usize = 0;
-    let k2 = k + k;
-    let to = at + k;
-    mix(p, g, &s[z..k], f, &s[k..k2], &mut rows[at..to]);
+    mix(p, g, &s[0..k], f, &s[k..k + k], &mut rows[at..at + k]);
 }
 
 // The constant coefficient of E0 C0 + G H (E1 C2 + E2 C1), where C stands after E.
@@ -64,23 +62,21 @@ fn norm(p: u64, c: usize, gh: &[u16], rows: &[u16]) -> u64
     requires { NormAsks p c gh.now rows.now }
     ensures { Norm p c gh.now rows.now result }
 {
-    let z: usize = 0;
     let c2 = c + c;
     let c3 = c2 + c;
     let c4 = c3 + c;
     let c5 = c4 + c;
-    let c6 = c5 + c;
     let mut a: [u16; 1] = [0; 1];
     mix(
         p,
         &rows[c..c2],
-        &rows[c5..c6],
+        &rows[c5..c5 + c],
         &rows[c2..c3],
         &rows[c4..c5],
         &mut a,
     );
     let mut b: [u16; 1] = [0; 1];
-    mix(p, gh, &a, &rows[z..c], &rows[c3..c4], &mut b);
+    mix(p, gh, &a, &rows[0..c], &rows[c3..c4], &mut b);
     wide(b[0])
 }
 
@@ -112,5 +108,5 @@ pub fn invert(
     cofactor(p, c, k, c, c, 0, c2, h, &less, c5, rows, s);
     let q = inverse(p, norm(p, c, gh, rows));
     scale(p, q, &mut rows[c3..c6]);
-    clear(s);
+    s.fill(0);
 }

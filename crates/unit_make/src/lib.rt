@@ -5,7 +5,7 @@
 ghost use Rattle.unit_make.specs.Making.{MultipliedAsks, Multiplies, StartedAsks, Starts, StepAndMultiplyAsks, Further, ProductAsks, ProductOf, MakeAsks, Making};
 
 use field_series::OpenedField;
-use poly_long::{clear, to_stored};
+use poly_long::to_stored;
 use step_next::{StepTaken, step_in_field};
 use unit_finish::finished;
 
@@ -15,12 +15,9 @@ fn multiplied(f: OpenedField, c: usize, n: usize, b: [u16; 119], rows: &mut [u16
     ensures { Multiplies f c n b rows.old s.old rows.new s.new }
 {
     let k = f.field;
-    let x = k.g;
-    let y = k.h;
-    let z = k.gh;
-    let g = to_stored(&x);
-    let h = to_stored(&y);
-    let gh = to_stored(&z);
+    let g = to_stored(&k.g);
+    let h = to_stored(&k.h);
+    let gh = to_stored(&k.gh);
     unit_rows::multiply_by_m(k.p, c, n, &g, &h, &gh, &b, rows, s);
 }
 
@@ -37,8 +34,7 @@ fn step_and_multiply(
     ensures { Further f c d b rows.old s.old result rows.new s.new }
 {
     let o = step_in_field(f, b);
-    let k = o.degree;
-    multiplied(f, c, d + (k as usize) + 1, b, rows, s);
+    multiplied(f, c, d + (o.degree as usize) + 1, b, rows, s);
     o
 }
 
@@ -49,14 +45,10 @@ fn product(f: OpenedField, c: usize, from: [u16; 119], steps: u64, rows: &mut [u
 {
     let mut b = from;
     let mut d: usize = 0;
-    let mut i: u64 = 0;
-    while i < steps {
+    for i in 0..steps {
         let o = step_and_multiply(f, c, d, b, rows, s);
-        let k = o.degree;
-        let t = o.basis;
-        d += k as usize;
-        b = t;
-        i += 1;
+        d += o.degree as usize;
+        b = o.basis;
     }
 }
 
@@ -65,8 +57,8 @@ fn started(rows: &mut [u16], s: &mut [u16])
     requires { StartedAsks rows.old }
     ensures { Starts rows.old s.old rows.new s.new }
 {
-    clear(rows);
-    clear(s);
+    rows.fill(0);
+    s.fill(0);
     rows[0] = 1;
 }
 

@@ -13,7 +13,5 @@ pub fn monic(p: u64, c: usize, n: usize, rows: &mut [u16])
     ensures { MonicMade p c n rows.old rows.new }
 {
     let q = inverse(p, wide(rows[n - 1]));
-    let z: usize = 0;
-    let to = c + c + c;
-    scale(p, q, &mut rows[z..to]);
+    scale(p, q, &mut rows[0..c + c + c]);
 }

@@ -1,10 +1,11 @@
 // The six rows of a unit and its inverse, in one lent slice: E0, E1, E2, F0, F1, F2 of c coefficients each. Here the rows of E.
+// The places c, c + c, .. are written out: the contracts count in them, and a function for a row would hide where it stands.
 #![tactic(auto)]
 
 ghost use Rattle.std.specs.Prelude.{◌≡◌, length, replicate};
 ghost use Rattle.unit_rows.specs.Six.{ByAsks, By, CoordinateAsks, Coordinate, TimesAsks, Times, MultiplyByMAsks, Turn};
 
-use poly_long::{clear, copy, size};
+use poly_long::size;
 use poly_quotient::quotient;
 
 // x y, for two short ones
@@ -33,24 +34,17 @@ fn coordinate(
     requires { CoordinateAsks p c n a.now b.now d.now u.now e.now at s.old }
     ensures { Coordinate p c n a.now b.now d.now u.now e.now at s.old s.new }
 {
-    let la = size(a);
-    let lb = size(b);
-    let ld = size(d);
-    let lu = size(u);
-    let z: usize = 0;
     let c2 = c + c;
-    let c3 = c2 + c;
-    let to = at + n;
     quotient(
         p,
-        &a[z..la],
-        &e[z..c],
-        &b[z..lb],
+        &a[0..size(a)],
+        &e[0..c],
+        &b[0..size(b)],
         &e[c..c2],
-        &d[z..ld],
-        &e[c2..c3],
-        &u[z..lu],
-        &mut s[at..to],
+        &d[0..size(d)],
+        &e[c2..c2 + c],
+        &u[0..size(u)],
+        &mut s[at..at + n],
     );
 }
 
@@ -69,16 +63,10 @@ fn times(
     requires { TimesAsks p c n g.now h.now gh.now b.now e.now s.old }
     ensures { Times p c n g.now h.now gh.now b.now e.now s.old s.new }
 {
-    let i0: usize = 0;
-    let i1: usize = 17;
-    let i2: usize = 34;
-    let i3: usize = 51;
-    let i6: usize = 102;
-    let i7: usize = 119;
-    let m0 = &b[i0..i1];
-    let m1 = &b[i1..i2];
-    let m2 = &b[i2..i3];
-    let u = &b[i6..i7];
+    let m0 = &b[0..17];
+    let m1 = &b[17..34];
+    let m2 = &b[34..51];
+    let u = &b[102..119];
     let m1gh = by(p, m1, gh);
     let m2gh = by(p, m2, gh);
     let m2g = by(p, m2, g);
@@ -104,8 +92,7 @@ pub fn multiply_by_m(
     ensures { Turn p c n g.now h.now gh.now b.now rows.old s.old rows.new s.new }
 {
     times(p, c, n, g, h, gh, b, rows, s);
-    let z: usize = 0;
-    let to = c + c + c;
-    copy(&s[z..to], &mut rows[z..to]);
-    clear(s);
+    let c3 = c + c + c;
+    rows[0..c3].copy_from_slice(&s[0..c3]);
+    s.fill(0);
 }

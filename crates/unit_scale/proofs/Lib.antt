@@ -3,5 +3,4 @@ pub mod Numbers
 pub mod Scales
 pub mod Turning
 pub mod Turned
-pub mod Named
 pub mod Invertible

@@ -7,8 +7,7 @@
 --   turned_scaled    what comes out is scaled
 use mathlib.Core.Path.{◌≡◌, sym, ap, ◌∙◌, subst}
 use mathlib.Core.List.{List, [], ◌∷◌}
-use Prim.Native.Nat.{ℕ, ◌+◌, ◌*◌}
-use Rattle.math_ring.proofs.Laws as rg
+use Prim.Native.Nat.{ℕ, ◌+◌}
 use Rattle.math_ring.proofs.Solve.{var, hyp, one, ◌:*◌, solve_by}
 use Rattle.math_valued.specs.Polynomial.{polys}
 use Rattle.math_valued.proofs.Degree.{has_eq}

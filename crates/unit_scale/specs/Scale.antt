@@ -1,5 +1,6 @@
 -- A unit scaled by a convention, its six rows in place.
---   no_convention  NoConvention   whether the number n names no convention
+--   meant w, numbered w   the convention that the code's w stands for, and its number
+--   convention_of  NoConvention   whether the number n names no convention
 --   constant A s              the number s as a polynomial
 --   Turned k p G H c rows rows'   the rows hold a unit and its inverse, as they did, now scaled by the convention k: E' is a constant s other
 --                             than 0 times E, and F' the inverse of E'
@@ -13,12 +14,21 @@ use Rattle.math_rows.specs.Made.{reading}
 use Rattle.field_open.specs.Refusal.{Accepted}
 use Rattle.math_ideals.specs.Setting.{P}
 use Rattle.math_ideals.specs.Element.{O, sc}
-use Rattle.math_chain.specs.Convention.{Convention, number, Scaled}
+use Rattle.math_chain.specs.Convention.{Convention, e0_monic, norm_one, number, Scaled}
 use Rattle.basis_record.specs.Record.{setting}
 use Rattle.field_series.specs.Keeps.{Kept}
 use Rattle.field_series.specs.declared.OpenedField.{OpenedField}
 use Rattle.base_answers.specs.Limits.{longest}
+use Rattle.unit_scale.specs.declared.Convention.{Convention as Way}
+use Rattle.unit_scale.specs.declared.Convention.TheVariants.{Monic, Norm}
 use Rattle.unit_finish.specs.Rows.{six, HoldsUnit}
+
+abbrev pub meant : Way → Convention
+meant Monic = e0_monic
+meant Norm = norm_one
+
+abbrev pub numbered : Way → ℕ
+numbered w = number (meant w)
 
 abbrev pub NoConvention : ℕ → Bool → Type 0
 NoConvention n true = (k : Convention) → number k ≡ n → ⊥

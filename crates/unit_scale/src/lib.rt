@@ -1,26 +1,33 @@
-// A unit scaled by a convention: 1, E0 monic; 2, norm 1. specs/AtZero.antt and specs/Scale.antt say what is asked and done.
+// A unit scaled by a convention, which callers name by a number: 1, E0 monic; 2, norm 1. specs/AtZero.antt and specs/Scale.antt say what is asked and done.
 #![tactic(auto)]
 
-ghost use Rattle.std.specs.Prelude.{◌*◌, ◌%◌, ◌≡◌};
+ghost use Rattle.std.specs.Prelude.{◌*◌, ◌%◌, ◌≡◌, IfSome};
+ghost use Rattle.std.specs.Option.{is_none};
 ghost use Rattle.unit_scale.specs.AtZero.{ThreeAsks, NormAsks, NormIs, ForMonicAsks, ForMonic, ForNormAsks, ForNorm};
-ghost use Rattle.unit_scale.specs.Scale.{NoConvention, FactorAsks, Factors, TurnAsks, Turns};
+ghost use Rattle.unit_scale.specs.Scale.{numbered, NoConvention, FactorAsks, Factors, TurnAsks, Turns};
 
 use base_lists::wide;
 use field_series::OpenedField;
 use num_power::{cube_root, inverse, mul};
 use poly_long::{scale, size};
 
-// Does the number name no convention?
-pub fn no_convention(n: u32) -> bool
-    ensures { NoConvention n result }
+// By which rule a unit is scaled: E0 is monic, or the norm is 1.
+#[derive(Clone, Copy, PartialEq, Eq)]
+pub enum Convention {
+    Monic,
+    Norm,
+}
+
+// The convention that a caller's number names.
+pub fn convention_of(n: u32) -> Option<Convention>
+    ensures some { IfSome result (λ k. numbered k ≡ n) }
+    ensures none { NoConvention n (is_none result) }
 {
-    if n == 1 {
-        return false;
+    match n {
+        1 => Some(Convention::Monic),
+        2 => Some(Convention::Norm),
+        _ => None,
     }
-    if n == 2 {
-        return false;
-    }
-    true
 }
 
 // a b c
@@ -49,8 +56,7 @@ fn for_monic(p: u64, c: usize, rows: &[u16]) -> u64
     requires { ForMonicAsks p c rows.now }
     ensures { ForMonic p c rows.now result }
 {
-    let z: usize = 0;
-    let n = size(&rows[z..c]);
+    let n = size(&rows[0..c]);
     inverse(p, wide(rows[n - 1]))
 }
 
@@ -61,35 +67,31 @@ fn for_norm(p: u64, g: u64, h: u64, c: usize, rows: &[u16]) -> u64
 {
     let v = norm(p, g, h, wide(rows[0]), wide(rows[c]), wide(rows[c + c]));
     let u = inverse(p, v);
-    let w = cube_root(p, u);
-    w
+    cube_root(p, u)
 }
 
 // The constant by which the unit in the rows is to be multiplied.
-pub fn factor(f: OpenedField, convention: u32, c: usize, rows: &[u16]) -> u64
-    requires { FactorAsks f convention c rows.now }
-    ensures { Factors f convention c rows.now result }
+pub fn factor(f: OpenedField, convention: Convention, c: usize, rows: &[u16]) -> u64
+    requires { FactorAsks f (numbered convention) c rows.now }
+    ensures { Factors f (numbered convention) c rows.now result }
 {
     let q = f.field;
-    if convention == 1 {
-        return for_monic(q.p, c, rows);
+    match convention {
+        Convention::Monic => for_monic(q.p, c, rows),
+        Convention::Norm => for_norm(q.p, q.g[0], q.h[0], c, rows),
     }
-    let g = q.g;
-    let h = q.h;
-    for_norm(q.p, g[0], h[0], c, rows)
 }
 
 // The unit in the rows scaled by a convention, in place: E times the constant, its inverse over it.
-pub fn turn(f: OpenedField, convention: u32, c: usize, rows: &mut [u16])
-    requires { TurnAsks f convention c rows.old }
-    ensures { Turns f convention c rows.old rows.new }
+pub fn turn(f: OpenedField, convention: Convention, c: usize, rows: &mut [u16])
+    requires { TurnAsks f (numbered convention) c rows.old }
+    ensures { Turns f (numbered convention) c rows.old rows.new }
 {
     let q = f.field;
     let by = factor(f, convention, c, rows);
     let back = inverse(q.p, by);
-    let z: usize = 0;
     let c3 = c + c + c;
     let c6 = c3 + c3;
-    scale(q.p, by, &mut rows[z..c3]);
+    scale(q.p, by, &mut rows[0..c3]);
     scale(q.p, back, &mut rows[c3..c6]);
 }

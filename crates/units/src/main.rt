@@ -26,10 +26,7 @@ fn again(why: Error) -> bool {
 fn count(got: Result<usize>) -> usize
     ensures { result ≡ moved (told got) }
 {
-    match got {
-        Ok(n) => n,
-        Err(_) => 0,
-    }
+    got.unwrap_or(0)
 }
 
 // The phase after a call that answered this. Where it failed for good, `why` says so.
@@ -41,14 +38,11 @@ fn settle(phase: u8, got: Result<usize>, why: &mut Option<Error>) -> u8
             *why = Some(Error::from(ErrorKind::WriteZero));
             3
         }
-        Ok(_) => phase,
-        Err(e) => {
-            if again(e) {
-                return phase;
-            }
+        Err(e) if !again(e) => {
             *why = Some(e);
             3
         }
+        _ => phase,
     }
 }
 
@@ -58,15 +52,10 @@ fn wrote(s: Stand, part: &[u8], got: Result<usize>, why: &mut Option<Error>) -> 
     requires within { s.from + length part.now ≤ s.to }
     ensures { Wrote s (told got) result }
 {
-    let from = s.from + count(got);
-    let phase = settle(s.phase, got, why);
     Stand {
-        n: s.n,
-        at: s.at,
-        m: s.m,
-        from,
-        to: s.to,
-        phase,
+        from: s.from + count(got),
+        phase: settle(s.phase, got, why),
+        ..s
     }
 }
 
@@ -75,17 +64,18 @@ fn answer(kept: &mut [u8], buf: &[u8], out: &mut [u8], s: Stand) -> Stand
     requires { s.m ≤ length buf.now }
     ensures { Answers kept.old buf.now out.old s result kept.new out.new }
 {
-    let n = s.n;
-    let at = s.at;
-    let m = s.m;
-    let g = lister::pass(kept, &buf[..m], out, Going { at, n, to: 0 });
+    let from = Going {
+        at: s.at,
+        n: s.n,
+        to: 0,
+    };
+    let g = lister::pass(kept, &buf[..s.m], out, from);
     Stand {
         n: g.n,
         at: g.at,
-        m,
         from: 0,
         to: g.to,
-        phase: s.phase,
+        ..s
     }
 }
 
@@ -94,10 +84,10 @@ fn heard(out: &mut [u8], s: Stand, got: Result<usize>, why: &mut Option<Error>) 
     ensures { Heard out.old s (told got) result out.new }
 {
     if let Ok(0) = got {
-        return ended(out, s);
+        ended(out, s)
+    } else {
+        came(s, count(got), settle(s.phase, got, why))
     }
-    let phase = settle(s.phase, got, why);
-    came(s, count(got), phase)
 }
 
 // One turn: what `plan` says is done.
@@ -129,7 +119,8 @@ fn turn<R: Read, W: Write>(
     }
 }
 
-// Turn after turn. A proved loop has to end, so the turns are counted down, from a number that no input uses up.
+// Turn after turn. A proved loop has to end, so there are at most as many turns as no input uses up.
+// The slices are arguments of their own, since the contract of a turn speaks of each, before and after.
 fn run<R: Read, W: Write>(
     input: &mut R,
     output: &mut W,
@@ -150,11 +141,12 @@ fn run<R: Read, W: Write>(
         to: 0,
         phase: 0,
     };
-    let mut left = u64::MAX;
-    while s.phase < 2 && left > 0 {
-        let r = turn(input, output, kept, buf, out, s, why);
-        s = r;
-        left -= 1;
+    for _ in 0..u64::MAX {
+        let phase = s.phase;
+        if phase > 1 {
+            break;
+        }
+        s = turn(input, output, kept, buf, out, s, why);
     }
     s
 }

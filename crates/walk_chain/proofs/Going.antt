@@ -15,7 +15,6 @@ use Rattle.basis_record.specs.Record.{setting, basis_of, IsRecord}
 use Rattle.field_series.specs.Keeps.{Keeps}
 use Rattle.step_next.specs.Steps.{Steps, Advanced}
 use Rattle.step_next.specs.declared.StepTaken.{StepTaken}
-use Rattle.walk_chain.specs.declared.WalkAnswer.{WalkAnswer}
 use Rattle.walk_closed.specs.Closed.{IsClosedAsks, OnePart}
 use Rattle.walk_chain.specs.Walk.{Reaches, Closes, StaysOpen, Closed, Spent}
 use Rattle.base_answers.specs.Limits.{most}
@@ -62,10 +61,10 @@ module _ (p : ℕ) (g h gh : List ℕ) (dr dw : ℕ) (r w B : List ℕ) (budget 
     record_at = (st.reaches i.G i.H i.keeps i.is_a_record).is_a_record
 
     -- the budget is spent
-    pub gone_spent : s ≡ budget → Gone p g h gh dr dw r w B budget (record { refusal = 10; steps = s; sum = d; basis = b })
+    pub gone_spent : s ≡ budget → Gone p g h gh dr dw r w B budget (record { refusal = 10; steps = budget; sum = d; basis = b })
     gone_spent e G H k is = inr (record {
       number = refl;
-      all = e;
+      all = refl;
       none = subst (λ m. StaysOpen p G H B m) e (st.free G H k is);
       reaches = subst (λ m. Reaches p G H B m d b) e (st.reaches G H k is);
     })

@@ -1,4 +1,5 @@
 pub mod Walk
+pub mod Told
 pub mod TakenUp
 pub mod Going
 pub mod Even

@@ -11,8 +11,7 @@ use Rattle.field_open.specs.Refusal.{Accepted}
 use Rattle.field_open.proofs.Door.{door_out}
 use Rattle.math_chain.proofs.Walk.{chain_room}
 use Rattle.basis_record.specs.Record.{setting, basis_of, IsRecord}
-use Rattle.walk_chain.specs.declared.WalkAnswer.{WalkAnswer}
-use Rattle.walk_chain.specs.Walk.{Reaches, refused, Goes, budget, no_record, closed, spent, Walks}
+use Rattle.walk_chain.specs.Walk.{Reaches, refused, Goes, budget, no_record, closed, spent, Walks, WalkAnswer}
 
 pub reaches_room : {p : ℕ} {G H B B' : List ℕ} {s d : ℕ} → Accepted p G H → IsRecord p G H B → Reaches p G H B s d B' → d ≤ 16 * s
 reaches_room {B = B} {s = s} A is r =

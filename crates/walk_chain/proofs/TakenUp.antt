@@ -16,8 +16,7 @@ use Rattle.math_chain.specs.Chain.{Chain, Closing, Open}
 use Rattle.math_chain.proofs.Walk.{same_chain, chain_then, prefix}
 use Rattle.field_open.proofs.Stages.{refusal_unique, numbered}
 use Rattle.basis_record.specs.Record.{setting, basis_of, IsRecord}
-use Rattle.walk_chain.specs.declared.WalkAnswer.{WalkAnswer}
-use Rattle.walk_chain.specs.Walk.{Reaches, StaysOpen, Closes, Spent, Goes, budget, no_record, closed, spent, Walks}
+use Rattle.walk_chain.specs.Walk.{Reaches, StaysOpen, Closes, Spent, Goes, budget, no_record, closed, spent, Walks, WalkAnswer}
 use Rattle.base_answers.specs.Limits.{most}
 
 -- ---- of any chain

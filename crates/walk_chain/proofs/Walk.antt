@@ -10,8 +10,7 @@ use Rattle.math_chain.specs.Chain.{Chain, Closing, Open}
 use Rattle.math_chain.proofs.Walk.{same_chain, closing_unique}
 use Rattle.basis_record.specs.Record.{setting, basis_of, IsRecord}
 use Rattle.basis_record.proofs.Unique.{basis_unique}
-use Rattle.walk_chain.specs.declared.WalkAnswer.{WalkAnswer}
-use Rattle.walk_chain.specs.Walk.{Reaches, Closes, StaysOpen, Closed, Spent, Goes, budget, no_record, closed, spent, Walks}
+use Rattle.walk_chain.specs.Walk.{Reaches, Closes, StaysOpen, Closed, Spent, Goes, budget, no_record, closed, spent, Walks, WalkAnswer}
 
 -- an answer is its four parts
 walked_eq : (v w : WalkAnswer) → v.refusal ≡ w.refusal → v.steps ≡ w.steps → v.sum ≡ w.sum → v.basis ≡ w.basis → v ≡ w

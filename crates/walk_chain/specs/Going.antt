@@ -6,8 +6,7 @@
 use Rattle.std.specs.Prelude.{◌⊎◌, List, ℕ, ◌*◌, ◌≤◌}
 use Rattle.basis_record.specs.Record.{IsRecord}
 use Rattle.field_series.specs.Keeps.{Keeps}
-use Rattle.walk_chain.specs.declared.WalkAnswer.{WalkAnswer}
-use Rattle.walk_chain.specs.Walk.{Reaches, StaysOpen, Closed, Spent}
+use Rattle.walk_chain.specs.Walk.{Reaches, StaysOpen, Closed, Spent, WalkAnswer}
 use Rattle.base_answers.specs.Limits.{most}
 
 module _ (p : ℕ) (g h gh : List ℕ) (dr dw : ℕ) (r w B : List ℕ) (budget : ℕ) where

@@ -3,7 +3,7 @@
 --   WalkInFieldGives c B n o   o is the walk from B: closed within the budget, or the budget spent, whatever accepted G, H the field is opened from
 use Rattle.std.specs.Prelude.{List, ℕ}
 use Rattle.field_series.specs.declared.OpenedField.{OpenedField}
-use Rattle.walk_chain.specs.declared.WalkAnswer.{WalkAnswer}
+use Rattle.walk_chain.specs.Walk.{WalkAnswer}
 use Rattle.walk_chain.specs.Going.{WalkOnRowsAsks, Gone}
 
 abbrev pub WalkInFieldAsks : OpenedField → List ℕ → ℕ → Type 0

@@ -1,3 +1,4 @@
 pub mod Walk
+pub mod Told
 pub mod Going
 pub mod InField

@@ -2,6 +2,7 @@
 --   Reaches p G H B s d B'      s steps from the record B end in the record B', and the degrees of the minima passed add up to d
 --   Closes p G H B s d B'       and s is the first count of steps after which U = 1
 --   StaysOpen p G H B n         no count from 1 to n closes
+--   WalkAnswer                  document 01's answer: the refusal's number, 0 for closed, with steps, sum of the degrees and last basis
 --   refused n                   the answer beside the refusal n: zeros
 --   Walks p G H n B w           the whole answer to a walk from B with the budget n
 -- `walks_unique` in proofs/Walk.antt: two answers that meet it are equal. `taken_up`: a walk that is taken up again where refusal 10 left it
@@ -12,7 +13,6 @@ use Rattle.field_open.specs.Refusal.{Accepted}
 use Rattle.field_open.specs.Door.{Door}
 use Rattle.math_chain.specs.Chain.{Chain, Closing, Open}
 use Rattle.basis_record.specs.Record.{setting, basis_of, IsRecord}
-use Rattle.walk_chain.specs.declared.WalkAnswer.{WalkAnswer}
 
 module _ (p : ℕ) (G H B : List ℕ) where
   pub record Reaches (s d : ℕ) (B' : List ℕ) : Type 0 where
@@ -26,6 +26,12 @@ module _ (p : ℕ) (G H B : List ℕ) where
 
   abbrev pub StaysOpen : ℕ → Type 0
   StaysOpen n = (A : Accepted p G H) → Open (setting A) (basis_of A B) n
+
+pub record WalkAnswer : Type 0 where
+  pub refusal : ℕ
+  pub steps : ℕ
+  pub sum : ℕ
+  pub basis : List ℕ
 
 abbrev pub refused : ℕ → WalkAnswer
 refused n = record { refusal = n; steps = 0; sum = 0; basis = blank }

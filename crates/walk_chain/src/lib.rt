@@ -3,14 +3,22 @@
 
 ghost use Rattle.walk_chain.specs.Going.{WalkOnRowsAsks, Gone};
 ghost use Rattle.walk_chain.specs.InField.{WalkInFieldAsks, WalkInFieldGives};
+ghost use Rattle.walk_chain.specs.Told.{gone};
 
 use step_next::step_on_rows;
 use walk_closed::is_closed;
 
-// What a walk answers: the refusal's number (0: closed), the steps taken, the sum of the degrees passed, the last basis.
+// How a walk ends: it closes, or its budget is spent, which is refusal 10 and can be taken up again.
+#[derive(Clone, Copy, PartialEq, Eq)]
+pub enum End {
+    Closed,
+    Spent,
+}
+
+// A walk: how it ended, the steps taken, the sum of the degrees passed, the last basis.
 #[derive(Clone, Copy)]
-pub struct WalkAnswer {
-    pub refusal: u32,
+pub struct Walked {
+    pub end: End,
     pub steps: u64,
     pub sum: u64,
     pub basis: [u16; 119],
@@ -28,48 +36,39 @@ pub fn walk_on_rows(
     w: &[u64; 32],
     from: [u16; 119],
     budget: u64,
-) -> WalkAnswer
+) -> Walked
     requires { WalkOnRowsAsks p g.now h.now gh.now dr dw r.now w.now from budget }
-    ensures { Gone p g.now h.now gh.now dr dw r.now w.now from budget result }
+    ensures { Gone p g.now h.now gh.now dr dw r.now w.now from budget (gone result) }
 {
     let mut b = from;
-    let mut steps: u64 = 0;
     let mut sum: u64 = 0;
-    while steps < budget {
+    for steps in 0..budget {
         let o = step_on_rows(p, g, h, gh, dr, dw, r, w, &b);
         let d = o.degree;
-        let c = o.basis;
         sum += d;
-        steps += 1;
-        b = c;
-        let done = is_closed(p, &b);
-        if done {
-            return WalkAnswer {
-                refusal: 0,
-                steps: steps,
-                sum: sum,
+        b = o.basis;
+        if is_closed(p, &b) {
+            return Walked {
+                end: End::Closed,
+                steps: steps + 1,
+                sum,
                 basis: b,
             };
         }
     }
-    WalkAnswer {
-        refusal: 10,
-        steps: steps,
-        sum: sum,
+    Walked {
+        end: End::Spent,
+        steps: budget,
+        sum,
         basis: b,
     }
 }
 
 // The walk in an opened field.
-pub fn walk_in_field(c: field_series::OpenedField, b: [u16; 119], budget: u64) -> WalkAnswer
+pub fn walk_in_field(c: field_series::OpenedField, b: [u16; 119], budget: u64) -> Walked
     requires { WalkInFieldAsks c b budget }
-    ensures { WalkInFieldGives c b budget result }
+    ensures { WalkInFieldGives c b budget (gone result) }
 {
-    let f = c.field;
-    let r = c.r;
-    let w = c.w;
-    let g = f.g;
-    let h = f.h;
-    let gh = f.gh;
-    walk_on_rows(f.p, &g, &h, &gh, f.dr, f.dw, &r, &w, b, budget)
+    let f = &c.field;
+    walk_on_rows(f.p, &f.g, &f.h, &f.gh, f.dr, f.dw, &c.r, &c.w, b, budget)
 }

@@ -5,8 +5,10 @@ use mathlib.Core.List.{List, [], ◌∷◌}
 use Prim.Native.Nat.{ℕ, zero, suc, ◌+◌, ◌*◌, ◌-◌, ◌<◌, ◌≤◌}
 use native.Mathlib.Omega.{arith}
 use native.Mathlib.Decide.{dec_lt}
-use lib.ListN.{get_or, replicate}
-use Rattle.math_ring.specs.Ring.{Ops}
+use lib.ListN.{length, get_or, replicate}
+use Rattle.std.specs.Bool.{MatchBool}
+use Rattle.std.specs.List.{between, AllWithin, HoldsAt}
+use Rattle.std.proofs.lemmas.List.Edits.{length-between, get_or-between}
 use Rattle.math_ring.proofs.Solve.{one, zer, ◌:+◌, ◌:*◌, solve}
 use Rattle.math_fp.specs.Fp.{Prime}
 use Rattle.math_rows.specs.Reading.{Reading}
@@ -41,7 +43,7 @@ module _ (p : ℕ) (B : List ℕ) where
   at : (j : ℕ) → j < 17 → get_or (part 6 B) j 0 ≡ get_or B (102 + j) 0
   at j l = at_tab 17 (λ j. get_or B (17 * 6 + j) 0) j l
 
-  pub part_one : get_or B 102 0 ≡ 1 → ((k : ℕ) → 103 ≤ k → k < 119 → get_or B k 0 ≡ 0) → OnePart p B true
+  part_one : get_or B 102 0 ≡ 1 → ((k : ℕ) → 103 ≤ k → k < 119 → get_or B k 0 ≡ 0) → OnePart p B true
   part_one e z pr = one_of (reading p pr) (part 6 B) (record { fits = omega (arith, length_tab 17 (λ j. get_or B (17 * 6 + j) 0)); above = above; top = λ l q. absurd (omega (arith, at 0 (omega arith))) }) (at 0 (omega arith) ∙ e)
     where
       above : (j : ℕ) → 1 ≤ j → get_or (part 6 B) j 0 ≡ 0
@@ -63,8 +65,16 @@ module _ (p : ℕ) (B : List ℕ) where
   pub first_other : IsClosedAsks p B → get_or B 102 0 ≢ 1 → OnePart p B false
   first_other h f pr e = f (sym (at 0 (omega arith)) ∙ ap (λ l. get_or l 0 0) (is_a_unit h pr e))
 
-  pub later_other : IsClosedAsks p B → (k : ℕ) → 103 ≤ k → k < 119 → get_or B k 0 ≢ 0 → OnePart p B false
+  later_other : IsClosedAsks p B → (k : ℕ) → 103 ≤ k → k < 119 → get_or B k 0 ≢ 0 → OnePart p B false
   later_other h k l u f pr e = f (ap (λ m. get_or B m 0) (let q : k ≡ 102 + suc (k - 103) = omega arith in q) ∙ sym (at (suc (k - 103)) (omega arith)) ∙ ap (λ l. get_or l (suc (k - 103)) 0) (is_a_unit h pr e) ∙ zeros_at 16 (k - 103))
+
+  -- what a test of all numbers after the first says
+  pub rest_settles : get_or B 102 0 ≡ 1 → IsClosedAsks p B → (r : Bool) → MatchBool r (AllWithin (λ x. x ≡ 0) (between 103 119 B) 0 (length (between 103 119 B)))
+      ((k : ℕ) × (k < length (between 103 119 B)) × HoldsAt (λ x. x ≢ 0) (between 103 119 B) k) → OnePart p B r
+  rest_settles e h true w = part_one e (λ k l u. ap (λ m. get_or B m 0) (let q : k ≡ 103 + (k - 103) = omega arith in q)
+      ∙ sym (get_or-between B 103 119 (k - 103) 0 (omega arith)) ∙ w (k - 103) 0 (omega arith) (let s : length (between 103 119 B) ≡ 16 = length-between B 103 119 (omega (arith, h.size)) in omega arith))
+  rest_settles e h false (k, l, w) = let s : length (between 103 119 B) ≡ 16 = length-between B 103 119 (omega (arith, h.size)) in
+      later_other h (103 + k) (omega arith) (omega arith) (λ z. w 0 (get_or-between B 103 119 k 0 (omega arith) ∙ z))
 
 pub closed_unique : (p : ℕ) (pr : Prime p) (B : List ℕ) (a b : Bool) → OnePart p B a → OnePart p B b → a ≡ b
 closed_unique p pr B true true h k = refl

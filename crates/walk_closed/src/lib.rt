@@ -8,15 +8,5 @@ pub fn is_closed(p: u64, b: &[u16; 119]) -> bool
     requires { IsClosedAsks p b.now }
     ensures { OnePart p b.now result }
 {
-    if b[102] != 1 {
-        return false;
-    }
-    let mut k: usize = 103;
-    while k < 119 {
-        if b[k] != 0 {
-            return false;
-        }
-        k += 1;
-    }
-    true
+    b[102] == 1 && b[103..].iter().all(|x| *x == 0)
 }

@@ -2,8 +2,7 @@
 --   not_going    what is passed over is not open
 --   not_closed   a refusal is not closed
 --   low_refusal  1 to 8 are refusals
---   none_passed  a number that is passed over by no test
---   fit, within  a record that no test finds unfit; the limits that one which is not unfit keeps
+--   within       the limits that a record which is not unfit keeps
 --   counted_within counted_over counted_room   how many entries are read: never more than there are
 use mathlib.Core.Path.{◌≡◌, ap}
 use mathlib.Core.Bool.{Bool, true, false}
@@ -12,7 +11,7 @@ use Prim.Native.Nat.{ℕ, ◌*◌, ◌≤◌, ◌<◌}
 use native.Mathlib.Omega.{arith}
 use native.Mathlib.Decide.{dec_le}
 use borrow.Author.Tests.{le-leb, lt-leb}
-use Rattle.walk_record.specs.State.{going, closed, IsRefusal, Passed, Unknown}
+use Rattle.walk_record.specs.State.{going, closed, IsRefusal, Passed}
 use Rattle.walk_record.specs.declared.WalkRecord.{WalkRecord}
 use Rattle.walk_record.specs.Record.{most_steps, counted, Unfit}
 
@@ -27,18 +26,6 @@ not_closed (inr a) e = omega arith
 
 pub low_refusal : {k : ℕ} → k ≢ 0 → k ≤ 8 → IsRefusal k
 low_refusal f l = inl (omega arith, omega arith)
-
--- ---- the tests' numbers
-pub none_passed : {s : ℕ} → s ≢ closed → s ≢ 14 → (s ≡ 0) ⊎ (9 < s) → Passed s → ⊥
-none_passed f g h (inl e) = f e
-none_passed f g (inl z) (inr (inl (a, b))) = omega arith
-none_passed f g (inr l) (inr (inl (a, b))) = omega arith
-none_passed f g h (inr (inr e)) = g e
-
-pub fit : {s n d : ℕ} → s ≡ going → n ≤ most_steps → d ≤ 16 * n → Unknown s ⊎ ((most_steps < n) ⊎ (16 * n < d)) → ⊥
-fit z l d (inl (f, g)) = f z
-fit z l d (inr (inl k)) = omega arith
-fit z l d (inr (inr k)) = omega arith
 
 pub within : (r : WalkRecord) → (Unfit r → ⊥) → (r.steps ≤ most_steps) × (r.sum ≤ 16 * r.steps)
 within r f = (

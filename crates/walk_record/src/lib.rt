@@ -20,6 +20,7 @@ pub struct WalkRecord {
     pub basis: [u16; 119],
     pub steps: u64,
     pub sum: u64,
+    // a number, since C reads and writes it
     pub state: u32,
 }
 
@@ -27,16 +28,7 @@ pub struct WalkRecord {
 pub fn passed_over(state: u32) -> bool
     ensures { Decides result (S.Passed state) }
 {
-    if state == 100 {
-        return true;
-    }
-    if state == 14 {
-        return true;
-    }
-    if state == 0 {
-        return false;
-    }
-    if state > 9 { false } else { true }
+    matches!(state, 1..=9 | 14 | 100)
 }
 
 // Whether a record that is not passed over is refused with 14.
@@ -44,16 +36,7 @@ pub fn unfit(r: WalkRecord) -> bool
     requires { S.Passed r.state → ⊥ }
     ensures { Decides result (R.Unfit r) }
 {
-    let state = r.state;
-    let steps = r.steps;
-    let sum = r.sum;
-    if state != 0 {
-        return true;
-    }
-    if steps > 1000000000 {
-        return true;
-    }
-    if sum > 16 * steps { true } else { false }
+    r.state != 0 || r.steps > 1000000000 || r.sum > 16 * r.steps
 }
 
 // How many entries of an array of 32 give a list, where n are told.
@@ -67,9 +50,7 @@ pub fn counted(n: usize) -> usize
 pub fn marked(r: WalkRecord, number: u32) -> WalkRecord
     ensures { result ≡ R.marked r number }
 {
-    let mut t = r;
-    t.state = number;
-    t
+    WalkRecord { state: number, ..r }
 }
 
 // The record with a walk from it put in: the last basis, steps and degrees added.
@@ -77,22 +58,18 @@ pub fn moved(r: WalkRecord, basis: [u16; 119], steps: u64, sum: u64, state: u32)
     requires { R.MoveAsks r steps sum }
     ensures { result ≡ R.moved r basis steps sum state }
 {
-    let mut t = r;
-    let n = t.steps + steps;
-    let d = t.sum + sum;
-    t.basis = basis;
-    t.steps = n;
-    t.sum = d;
-    t.state = state;
-    t
+    WalkRecord {
+        basis,
+        steps: r.steps + steps,
+        sum: r.sum + sum,
+        state,
+        ..r
+    }
 }
 
 // Whether a sheet of n records with this budget is refused.
 pub fn beyond(n: usize, budget: u64) -> bool
     ensures { Decides result (R.Beyond n budget) }
 {
-    if n > 64 {
-        return true;
-    }
-    over_budget(budget)
+    n > 64 || over_budget(budget)
 }

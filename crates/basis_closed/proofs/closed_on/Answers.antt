@@ -20,7 +20,7 @@ times_in-ja-requires c = let i = c.requires in
 
 pub times_in-jb-requires : goal.times_in-jb-requires
 times_in-jb-requires c = let i = c.requires in
-    by_13 i i.hc i.sc (search i.given) (search (i.sg, i.sh)) refl
+    by_13 i i.hc i.sc i.given.hg i.sg refl
 
 pub member-by_w-requires : goal.member-by_w-requires
 member-by_w-requires c = w_in c.requires c.times_in-ja.ensures c.times_in-jb.ensures

@@ -5,7 +5,7 @@ use Rattle.basis_lattice.proofs.coordinates.Goals as goal
 
 pub outer-o-requires : goal.outer-o-requires
 outer-o-requires c = let i = c.requires in
-    record { va = _; na = _; m0 = _; n0 = _; u = _; inp = i.inp; blank_s = refl; blank_t = refl; blank_β = i.blank.b; blank_γ = i.blank.c }
+    record { va = _; na = _; inp = i.inp; blank_s = refl; blank_t = refl; blank_β = i.blank.b; blank_γ = i.blank.c }
 
 pub both_in-n-requires : goal.both_in-n-requires
 both_in-n-requires c = both_asks c.requires c.outer-o.ensures

@@ -4,6 +4,3 @@ use Rattle.basis_scale.proofs.order.Goals as goal
 
 pub reduced_basis-requires : goal.reduced_basis-requires
 reduced_basis-requires c = order_by c.requires
-
-pub returns : goal.returns
-returns c = c.reduced_basis.ensures.based

@@ -1,10 +1,11 @@
--- `basis_scale::reduced_basis` meets its contract: `basis_in`, on rows of zeros.
-use Rattle.basis_clear.proofs.Clearing.{blank}
+-- `basis_scale::reduced_basis` meets its contract: `finished` of the pair that the reduction made, in its order.
+use mathlib.Core.Bool.{true, false}
 use Rattle.basis_scale.proofs.reduced_basis.Goals as goal
 
-pub basis_in-requires : goal.basis_in-requires
-basis_in-requires c = let i = c.requires in
-    record { by = i; hmx = blank i.inp.clear.room; hnx = blank i.inp.clear.room }
+pub returns-then-o : goal.returns-then-o
+returns-then-o c = let o = c.finished.ensures in
+    record { based = o.each c.requires.inp c.requires.size (rw c.if-o.true at c.reduced-o.ensures); swap = true; left = o.left }
 
-pub returns : goal.returns
-returns c = c.basis_in.ensures
+pub returns-else-o : goal.returns-else-o
+returns-else-o c = let o = c.finished-else-o.ensures in
+    record { based = o.each c.requires.inp c.requires.size (rw c.if-o.false at c.reduced-o.ensures); swap = false; left = o.left }

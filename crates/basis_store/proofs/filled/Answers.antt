@@ -10,6 +10,3 @@ store_element-requires-2 c = fill_n c.requires c.store_element.ensures
 
 pub stored-requires : goal.stored-requires
 stored-requires c = fill_u c.requires c.store_element.ensures c.store_element-2.ensures
-
-pub returns : goal.returns
-returns c = record { B₁ = _; B₂ = _; at_m = c.store_element.ensures; at_n = c.store_element-2.ensures; at_u = c.stored.ensures }

@@ -3,8 +3,8 @@ use native.Mathlib.Omega.{arith}
 use Rattle.basis_top.proofs.Tops.{part_lt, top_led}
 use Rattle.basis_top.proofs.lead_of.Goals as goal
 
-pub top_of-t-requires : goal.top_of-t-requires
-top_of-t-requires c = record { inp = c.requires.inp; fits = omega arith; room = omega arith; ends = part_lt c.args.minus c.requires.inp }
+pub top_of-requires : goal.top_of-requires
+top_of-requires c = record { inp = c.requires.inp; fits = omega arith; room = omega arith; ends = part_lt c.args.minus c.requires.inp }
 
 pub returns : goal.returns
-returns c = top_led c.top_of-t.ensures
+returns c = top_led c.top_of.ensures

@@ -14,4 +14,4 @@ returns-then-n-out c = let a = c.args in let n = length_list 16 2 a.s.now a.k in
 
 pub returns : goal.returns
 returns c = let a = c.args in
-    list_got a.s.now a.k _ _ _ (omega arith) c.read_list-m.ensures (omega arith)
+    list_got a.s.now a.k _ _ _ (omega arith) c.read_list.ensures (omega arith)

@@ -1,17 +1,8 @@
 -- `book_bytes::put_four` meets its contract.
-use native.Mathlib.Omega.{arith}
-use lib.ListN.{length-set}
-use Rattle.book_bytes.proofs.Write.{four_put}
+use mathlib.Core.Path.{◌∙◌}
+use Rattle.book_bytes.proofs.Read.{length_le4}
+use Rattle.book_bytes.proofs.Write.{four_bytes, bytes_put}
 use Rattle.book_bytes.proofs.put_four.Goals as goal
 
-pub bounds-out-at-2 : goal.bounds-out-at-2
-bounds-out-at-2 c = simp length-set (omega arith)
-
-pub bounds-out-at-3 : goal.bounds-out-at-3
-bounds-out-at-3 c = simp length-set (omega arith)
-
-pub bounds-out-at-4 : goal.bounds-out-at-4
-bounds-out-at-4 c = simp length-set (omega arith)
-
 pub returns : goal.returns
-returns c = four_put c.args.out.now c.args.at c.args.v
+returns c = bytes_put (c.to_le_bytes.ensures ∙ four_bytes c.args.v) (length_le4 c.args.v) c.copy_in.ensures

@@ -1,11 +1,8 @@
 -- `book_bytes::start` meets its contract.
 use Rattle.book_bytes.specs.Bytes.{list_start}
-use Prim.Native.Nat.{◌≤◌, ◌-◌, ◌*◌, ◌+◌}
+use Prim.Native.Nat.{◌≤◌, ◌*◌, ◌+◌}
 use mathlib.Core.Path.{◌≡◌}
 use Rattle.book_bytes.proofs.start.Given as goal
 
 abbrev pub invariant-loop-i : goal.invariant-loop-i
-invariant-loop-i l = (l.i ≤ l.k) × (l.at ≡ list_start l.head l.from l.s l.i) × (l.at ≤ l.head + 131070 * l.i)
-
-abbrev pub decreases-loop-i : goal.decreases-loop-i
-decreases-loop-i l = l.k - l.i
+invariant-loop-i l = (l.at ≡ list_start l.head l.from l.s l.i) × (l.at ≤ l.head + 131070 * l.i)

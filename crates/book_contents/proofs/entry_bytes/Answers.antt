@@ -1,5 +1,5 @@
 -- `book_contents::entry_bytes` meets its contract.
-use Rattle.book_contents.proofs.Contents.{inside, part_read, few_of}
+use Rattle.book_contents.proofs.Contents.{inside, few_of}
 use native.Mathlib.Omega.{arith}
 use Rattle.book_contents.proofs.entry_bytes.Goals as goal
 
@@ -17,6 +17,3 @@ overflow_add-i-2 c = let h = few_of _ c.requires.marked c.requires.listed in ome
 
 pub slice_bounds-result-end : goal.slice_bounds-result-end
 slice_bounds-result-end c = let h = inside c.args.s.now c.args.i c.requires.listed c.requires.there in omega arith
-
-pub returns : goal.returns
-returns c = part_read c.args.s.now c.args.i c.four-a.result c.four-l.result c.four-a.ensures.0 c.four-l.ensures.0

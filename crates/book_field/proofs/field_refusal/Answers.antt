@@ -20,7 +20,7 @@ slice_bounds-strict_refusal-end-2 c = let e : length c.first_14-h.result ≡ 14 
     sym (length-take-le _ _ (omega arith))
 
 pub returns : goal.returns
-returns c = field_says c.args.s.now _ c.clip-n.result c.clip-m.result c.strict_refusal.result c.first_14-g.result c.first_14-h.result
+returns c = field_says c.args.s.now _ c.clip-n.result c.clip-m.result _ c.first_14-g.result c.first_14-h.result
     c.two-p.ensures.0 (subst (λ (z : ℕ). Clipped z c.clip-n.result) c.two.ensures.0 c.clip-n.ensures)
     (subst (λ (z : ℕ). Clipped z c.clip-m.result) c.two-2.ensures.0 c.clip-m.ensures) c.first_14-g.ensures
     c.first_14-h.ensures c.strict_refusal.ensures

@@ -2,8 +2,8 @@
 use Rattle.book_parts.proofs.Judged.{list_good, list_bad}
 use Rattle.book_parts.proofs.list.Goals as goal
 
-pub returns-in-Good : goal.returns-in-Good
-returns-in-Good c = list_good _ _ c.judge-own.ensures c.list_of-a.result c.in-Good.is c.list_of-a.ensures c.got_row.ensures
+pub returns-in-Ok : goal.returns-in-Ok
+returns-in-Ok c = list_good _ c.list_of.result c.in-Ok.ensures c.list_of.ensures c.got_row.ensures
 
-pub returns-in-Bad : goal.returns-in-Bad
-returns-in-Bad c = list_bad _ _ c.judge-own.ensures c.in-Bad.why c.in-Bad.is c.reason_row.ensures
+pub returns-in-Err : goal.returns-in-Err
+returns-in-Err c = list_bad _ c.in-Err.why c.in-Err.ensures c.reason_row.ensures

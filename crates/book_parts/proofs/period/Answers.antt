@@ -1,11 +1,11 @@
 -- `period` meets its contract.
 use mathlib.Core.Path.{refl}
-use Rattle.book_parts.proofs.Judged.{number_good, number_bad}
+use Rattle.book_parts.specs.Parts.{fault}
+use Rattle.book_parts.proofs.Judged.{number_good}
 use Rattle.book_parts.proofs.period.Goals as goal
 
-pub returns-in-Good : goal.returns-in-Good
-returns-in-Good c = record { said = _; tells = number_good _ _ c.judge-own.ensures c.in-Good.is c.period_of-t.ensures; written = refl }
+pub returns-in-Ok : goal.returns-in-Ok
+returns-in-Ok c = record { said = _; tells = number_good _ c.in-Ok.ensures c.period_of.ensures; written = refl }
 
-pub returns-in-Bad : goal.returns-in-Bad
-returns-in-Bad c = let why = c.in-Bad.why in
-    record { said = _; tells = number_bad _ _ c.judge-own.ensures why c.in-Bad.is; written = c.reason_row.ensures }
+pub returns-in-Err : goal.returns-in-Err
+returns-in-Err c = record { said = _; tells = fault c.in-Err.ensures; written = c.reason_row.ensures }

@@ -10,14 +10,14 @@ put_lines-y-requires c = let a = c.args in
     let l = w.low in
     let r = w.room in
     let t = w.top in
-    let k = long_kept a.out.now a.c a.n _ _ _ _ _ _ c.lift-end.ensures c.put_two-x.ensures in (
+    let k = long_kept a.out.now a.c a.n _ _ _ _ _ _ c.lift-end.ensures c.put_two.ensures in (
       omega arith,
       omega arith,
-      λ i u. let e = ends_kept a.out.now a.c a.n _ _ _ _ _ _ c.lift-end.ensures c.put_two-x.ensures (6 + 8 * suc a.c) i u in
+      λ i u. let e = ends_kept a.out.now a.c a.n _ _ _ _ _ _ c.lift-end.ensures c.put_two.ensures (6 + 8 * suc a.c) i u in
           let f = w.fits i u in omega arith,
     )
 
 pub returns : goal.returns
 returns c = let a = c.args in
-    assemble a.out.now a.n a.c a.b.now _ _ _ _ _ _ _ _ _ _ c.requires c.lift-end.ensures c.put_two-x.ensures c.put_lines-y.ensures
-    c.put_line-z.ensures c.copy_in.ensures
+    assemble a.out.now a.n a.c a.b.now _ _ _ _ _ _ _ _ _ _ c.requires c.lift-end.ensures c.put_two.ensures c.put_lines-y.ensures
+    c.put_line.ensures c.copy_in.ensures

@@ -16,11 +16,8 @@ slice_bounds-write_body-end-3 c = row_count _ _ c.requires _ _ refl c.widen-n2.e
 
 pub returns : goal.returns
 returns c = let a = c.args in
-    let t = c.write_body.ensures in (
-      same_body a.p (unpad a.g.now) (unpad a.h.now) a.period.0
-          (row_is a.c a.rows.now c.requires 0 a.c (omega arith) c.widen-n0.ensures)
-          (row_is a.c a.rows.now c.requires _ _ refl c.widen-n1.ensures)
-          (row_is a.c a.rows.now c.requires _ _ refl c.widen-n2.ensures)
-          t.0,
-      t.1,
-    )
+    same_body a.p (unpad a.g.now) (unpad a.h.now) a.period.0
+    (row_is a.c a.rows.now c.requires 0 a.c (omega arith) c.widen-n0.ensures)
+    (row_is a.c a.rows.now c.requires _ _ refl c.widen-n1.ensures)
+    (row_is a.c a.rows.now c.requires _ _ refl c.widen-n2.ensures)
+    c.write_body.ensures

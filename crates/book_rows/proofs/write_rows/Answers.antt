@@ -1,23 +1,23 @@
 -- `write_rows` meets its contract.
+use Rattle.base_answers.proofs.Faults.{some_number}
 use Rattle.base_answers.proofs.Limits as limits
 use Rattle.book_rows.specs.Rows.{body}
 use Rattle.book_rows.proofs.Facts.{refused_rows, unfit_rows}
 use Rattle.book_rows.proofs.write_rows.Goals as goal
 
-pub returns-then-x-ne0 : goal.returns-then-x-ne0
-returns-then-x-ne0 c = refused_rows c.args.rows.now c.no_six_rows-odd.ensures c.if-odd.true
-    c.if-x-ne0.true c.refusal-x.ensures
+pub returns-in-Ok : goal.returns-in-Ok
+returns-in-Ok c = unfit_rows c.args.rows.now c.no_six_rows.ensures c.if-no_six_rows.true c.in-Ok.ensures
 
-pub returns-then-odd : goal.returns-then-odd
-returns-then-odd c = unfit_rows c.args.rows.now c.no_six_rows-odd.ensures c.if-odd.true
-    c.if-x-ne0.false c.refusal-x.ensures
+pub returns-in-Err : goal.returns-in-Err
+returns-in-Err c =
+    rw c.from.ensures (refused_rows c.args.rows.now c.no_six_rows.ensures c.if-no_six_rows.true (some_number _) c.in-Err.ensures)
 
 pub put_rows-w-requires : goal.put_rows-w-requires
-put_rows-w-requires c = limits.six_at _ (limits.six_of c.no_six_rows-odd.ensures c.if-odd.false)
+put_rows-w-requires c = limits.six_at _ (limits.six_of c.no_six_rows.ensures c.if-no_six_rows.false)
 
 pub returns : goal.returns
 returns c = record {
   said = _;
-  tells = body _ (limits.six_at _ (limits.six_of c.no_six_rows-odd.ensures c.if-odd.false)) c.put_rows-w.ensures.0;
+  tells = body _ (limits.six_at _ (limits.six_of c.no_six_rows.ensures c.if-no_six_rows.false)) c.put_rows-w.ensures;
   written = c.wrote_row.ensures;
 }

@@ -10,5 +10,4 @@ pub slice_bounds-write_strict-end-2 : goal.slice_bounds-write_strict-end-2
 slice_bounds-write_strict-end-2 c = unpadded_length c.unpadded-m.ensures
 
 pub returns : goal.returns
-returns c = let (w, k) = c.write_strict.ensures in
-    (fronts_told c.unpadded-n.ensures c.unpadded-m.ensures w, k)
+returns c = fronts_told c.unpadded-n.ensures c.unpadded-m.ensures c.write_strict.ensures

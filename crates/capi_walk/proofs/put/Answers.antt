@@ -8,24 +8,13 @@ returns-then-n-eq0 c = record {
   number = refl;
   steps_is = refl;
   sum_is = refl;
-  rows = record { stored = λ _. refl; kept = λ f g. absurd (f c.if-n-eq0.true) };
+  rows = record { stored = λ _. refl; kept = λ f g. elim c.then-n-eq0.either [ inl e ↦ absurd (f e) | inr e ↦ absurd (g e.1) ] };
 }
 
-pub returns-then-n-eq10 : goal.returns-then-n-eq10
-returns-then-n-eq10 c = record {
+pub returns-else-n-eq10 : goal.returns-else-n-eq10
+returns-else-n-eq10 c = record {
   number = refl;
   steps_is = refl;
   sum_is = refl;
-  rows = record { stored = λ _. refl; kept = λ f g. absurd (g c.if-n-eq10.true) };
-}
-
-pub returns : goal.returns
-returns c = record {
-  number = refl;
-  steps_is = refl;
-  sum_is = refl;
-  rows = record {
-    stored = elim [ inl e ↦ absurd (c.if-n-eq0.false e) | inr e ↦ absurd (c.if-n-eq10.false e) ];
-    kept = λ f g. refl;
-  };
+  rows = record { stored = elim [ inl e ↦ absurd (c.if-n-eq0.false e) | inr e ↦ absurd (c.if-n-eq10.false e) ]; kept = λ f g. refl };
 }

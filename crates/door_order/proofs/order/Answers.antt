@@ -1,17 +1,11 @@
--- `door_order::order` meets its contract: zeros beside a refusal, the record of the order beside 0.
+-- `door_order::order` meets its contract: the record of the order in the opened field.
 use mathlib.Core.Path.{refl}
-use native.Mathlib.Omega.{arith}
-use Rattle.field_open.proofs.Door.{door_refused}
-use Rattle.field_series.proofs.Answer.{expands_number}
 use Rattle.basis_field.proofs.Known.{known_of}
 use Rattle.door_order.proofs.Answer.{orders_made}
 use Rattle.door_order.proofs.order.Goals as goal
 
-pub returns-then-n-ne0 : goal.returns-then-n-ne0
-returns-then-n-ne0 c = door_refused (expands_number c.open_with_series-e.ensures) c.if-n-ne0.true refl
-
-pub order_basis-b-requires : goal.order_basis-b-requires
-order_basis-b-requires c = known_of c.open_with_series-e.ensures (omega arith)
+pub order_basis-requires : goal.order_basis-requires
+order_basis-requires c = known_of c.in_ok-c.ensures refl
 
 pub returns : goal.returns
-returns c = orders_made c.open_with_series-e.ensures c.if-n-ne0.false c.order_basis-b.ensures
+returns c = orders_made c.in_ok-c.ensures refl c.order_basis.ensures

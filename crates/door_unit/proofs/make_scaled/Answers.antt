@@ -1,5 +1,6 @@
 -- `door_unit::make_scaled` meets its contract.
-use Prim.Native.Nat.{◌-◌}
+use mathlib.Core.Path.{ap}
+use Rattle.unit_scale.specs.Scale.{numbered}
 use Rattle.door_unit.proofs.Conventions.{turn_in, made_first, made_turned}
 use Rattle.door_unit.proofs.make_scaled.Goals as goal
 
@@ -9,8 +10,8 @@ make-requires c = c.requires.make
 pub turn-requires : goal.turn-requires
 turn-requires c = turn_in c.make.ensures c.requires
 
-pub returns-then-convention-ne1 : goal.returns-then-convention-ne1
-returns-then-convention-ne1 c = made_turned c.make.ensures c.turn.ensures
+pub returns-in-Norm : goal.returns-in-Norm
+returns-in-Norm c = made_turned c.make.ensures c.turn.ensures
 
-pub returns-else-convention-ne1 : goal.returns-else-convention-ne1
-returns-else-convention-ne1 c = made_first c.make.ensures c.if-convention-ne1.false
+pub returns-in-Monic : goal.returns-in-Monic
+returns-in-Monic c = made_first c.make.ensures (ap numbered c.in-Monic.is)

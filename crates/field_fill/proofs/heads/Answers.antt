@@ -1,19 +1,19 @@
--- `field_fill::heads` meets its contract: a row filled from the front.
-use mathlib.Core.Path.{refl}
+-- `field_fill::heads` meets its contract: at each place stands what the closure gives there.
+use mathlib.Core.Path.{◌≡◌, sym, ◌∙◌}
 use native.Mathlib.Omega.{arith}
-use Rattle.math_rows.proofs.Tab.{filled_start, filled_more, filled_end}
+use Prim.Native.Nat.{◌<◌}
+use lib.ListN.{get_or}
+use lib.Seq.{ext_get_or}
+use Rattle.std.proofs.Common.{rules, tests}
+use Rattle.math_rows.specs.Row.{tab}
+use Rattle.math_rows.proofs.Tab.{length_tab, at_tab}
 use Rattle.field_roots.specs.SeriesOf.{top}
-use Rattle.field_fill.proofs.Top.{top_below}
 use Rattle.field_fill.proofs.heads.Goals as goal
 
-pub loop-i-init : goal.loop-i-init
-loop-i-init c = filled_start 13 (top c.args.s.now) _ refl
-
-pub overflow_cast-r : goal.overflow_cast-r
-overflow_cast-r c = omega (arith, c.head.ensures, top_below c.requires.list.1 c.loop-i.i, c.requires.small)
-
-pub loop-i-preserved : goal.loop-i-preserved
-loop-i-preserved c = filled_more 13 (top c.args.s.now) c.loop-i.r c.loop-i.i c.head.result c.loop-i.invariant (omega arith) c.head.ensures
-
 pub returns : goal.returns
-returns c = filled_end 13 (top c.args.s.now) c.loop-i.r c.loop-i.i c.loop-i.invariant (omega arith)
+returns c = let r = c.from_fn.result in
+    let f = top c.args.s.now in
+    let m = c.from_fn.ensures.items in
+    ext_get_or 0 r (tab 13 f) (m.long ∙ sym (length_tab 13 f)) (λ k u. let in_row : k < 13 = omega (arith, m.long) in
+    let w = m.at k 0 in_row in
+    let e : get_or r k 0 ≡ f k = search (rules, tests) in e ∙ sym (at_tab 13 f k in_row))

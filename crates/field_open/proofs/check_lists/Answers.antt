@@ -1,12 +1,7 @@
 -- `field_open::check_lists` meets its contract: refusals 3 to 6.
-use mathlib.Core.Path.{refl}
-use mathlib.Core.Logic.{inl}
 use native.Mathlib.Omega.{arith}
 use Rattle.field_open.proofs.Parts.{list_short, row_three, row_four, row_five, row_six, row_none}
 use Rattle.field_open.proofs.check_lists.Goals as goal
-
-pub returns-then-lg-eq0 : goal.returns-then-lg-eq0
-returns-then-lg-eq0 c = inl (c.list_length-lg.ensures.none c.if-lg-eq0.true, refl)
 
 pub returns-then-lh-eq0 : goal.returns-then-lh-eq0
 returns-then-lh-eq0 c = row_three c.list_length-lg.ensures c.list_length-lh.ensures c.if-lg-eq0.false c.if-lh-eq0.true

@@ -1,18 +1,13 @@
--- `field_open::check_p` meets its contract: refusals 1 and 2.
+-- `field_open::check_p` meets its contract: refusal 1 has two ways in.
 use mathlib.Core.Path.{refl}
-use mathlib.Core.Logic.{inl, inr}
+use mathlib.Core.Logic.{inl}
 use native.Mathlib.Omega.{arith}
-use Rattle.field_open.proofs.Parts.{no_prime, is_good_lem}
+use Rattle.field_open.proofs.Parts.{no_prime}
 use Rattle.field_open.proofs.check_p.Goals as goal
+use Rattle.field_open.proofs.check_p.Goals.{then-p-lt5-via-then-p-lt5, then-p-lt5-via-else-p-lt5+then-not-is_prime}
 
 pub returns-then-p-lt5 : goal.returns-then-p-lt5
-returns-then-p-lt5 c = inl (inl (omega arith), refl)
-
-pub returns-then-not-ok : goal.returns-then-not-ok
-returns-then-not-ok c = inl (no_prime _ _ c.is_prime-ok.ensures c.if-not-ok.true, refl)
-
-pub returns-then-p-eq1 : goal.returns-then-p-eq1
-returns-then-p-eq1 c = inr (is_good_lem _ _ (omega arith) c.is_prime-ok.ensures c.if-not-ok.false, inl (c.if-p-eq1.true, refl))
-
-pub returns : goal.returns
-returns c = inr (is_good_lem _ _ (omega arith) c.is_prime-ok.ensures c.if-not-ok.false, inr (c.if-p-eq1.false, refl))
+returns-then-p-lt5 c = elim c.then-p-lt5.branch [
+  | then-p-lt5-via-then-p-lt5 w ↦ inl (inl (omega arith), refl)
+  | then-p-lt5-via-else-p-lt5+then-not-is_prime w ↦ inl (no_prime _ _ w.is_prime.ensures w.if-not-is_prime.true, refl)
+]

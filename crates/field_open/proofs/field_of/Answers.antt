@@ -4,12 +4,6 @@ use Rattle.field_open.proofs.Parts.{length_of}
 use Rattle.field_open.proofs.Rows.{product_room, field_holds}
 use Rattle.field_open.proofs.field_of.Goals as goal
 
-pub overflow_sub-d : goal.overflow_sub-d
-overflow_sub-d c = omega (arith, length_of _ c.requires.list_g c.list_length-lg.ensures)
-
-pub overflow_sub-e : goal.overflow_sub-e
-overflow_sub-e c = omega (arith, length_of _ c.requires.list_h c.list_length-lh.ensures)
-
 pub mul-z-requires : goal.mul-z-requires
 mul-z-requires c = product_room c.requires c.from_list-x.ensures c.from_list-y.ensures
 

@@ -13,4 +13,4 @@ same {p} {G} {H} {r} {w} {x} {y} e f h = subst (λ a. SeriesOf p G H a y) (sym e
 
 pub returns : goal.returns
 returns c = let g = c.grow.ensures in
-    holding _ _ _ c.requires.accepted c.requires.held (ap length c.widened-x.ensures ∙ g.size) (same c.widened-x.ensures c.widened-y.ensures g.series)
+    holding _ _ _ c.requires.accepted c.requires.held (ap length c.widened.ensures ∙ g.size) (same c.widened.ensures c.widened-2.ensures g.series)

@@ -2,9 +2,6 @@
 use Rattle.poly_rows.proofs.Division.{divided}
 use Rattle.poly_divide.proofs.divide_in.Goals as goal
 
-pub quotient_in-l-requires : goal.quotient_in-l-requires
-quotient_in-l-requires c = c.requires
-
 pub less_in-k-requires : goal.less_in-k-requires
 less_in-k-requires c = let i = c.requires in
     let o = c.quotient_in-l.ensures in

@@ -3,7 +3,4 @@ use Rattle.poly_rows.proofs.Division.{Dividing}
 use Rattle.poly_divide.proofs.quotient_in.Given as goal
 
 abbrev pub invariant-loop-k : goal.invariant-loop-k
-invariant-loop-k l = Dividing l.q.p l.a l.b l.il l.m l.top l.r l.k
-
-abbrev pub decreases-loop-k : goal.decreases-loop-k
-decreases-loop-k l = l.k
+invariant-loop-k l = Dividing l.q.p l.a.row.now l.b.row.now l.il l.b.len l.top l.r l.k

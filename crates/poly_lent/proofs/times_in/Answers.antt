@@ -7,8 +7,8 @@ use Rattle.poly_lent.proofs.times_in.Goals as goal
 pub mix_in-requires : goal.mix_in-requires
 mix_in-requires c = times_first c.requires
 
-pub overflow_add-n : goal.overflow_add-n
-overflow_add-n c = let f : c.args.n + c.args.m ≤ 33 = c.requires.fits in record { fits = omega arith }
+pub overflow_add-x : goal.overflow_add-x
+overflow_add-x c = let f : c.args.x.len + c.args.y.len ≤ 33 = c.requires.fits in record { fits = omega arith }
 
 pub reach-t-requires : goal.reach-t-requires
 reach-t-requires c = record { fit_a = c.requires.fits; fit_b = omega arith }

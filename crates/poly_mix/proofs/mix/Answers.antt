@@ -1,21 +1,13 @@
 -- `poly_mix::mix` meets its contract: the list is filled with the remainders of the sums, which need no more than the sizes of g and h.
-use Prim.Native.Nat.{◌<◌, ◌+◌, ◌%◌}
-use mathlib.Core.Path.{◌∙◌, ap₂, refl}
+use Prim.Native.Nat.{◌+◌, ◌%◌}
+use mathlib.Core.Path.{◌∙◌, ap₂}
 use native.Mathlib.Omega.{arith}
 use lib.ListN.{length}
-use native.Mathlib.Nat.{mod-lt}
 use Rattle.math_rows.specs.Sum.{sum_to, term_at}
-use Rattle.math_rows.proofs.Tab.{filled_start, filled_more}
+use Rattle.math_rows.proofs.Tab.{filled_more}
 use Rattle.poly_mix.proofs.Sums.{trimmed}
 use Rattle.poly_mix.proofs.Mixing.{mixed}
 use Rattle.poly_mix.proofs.mix.Goals as goal
-
-pub loop-k-init : goal.loop-k-init
-loop-k-init c = filled_start _ _ _ refl
-
-pub overflow_cast-d : goal.overflow_cast-d
-overflow_cast-d c = let pos : 0 < c.args.p = omega (arith, c.requires.modulus.prime.big) in
-    omega (arith, c.requires.modulus.small, mod-lt (c.sum_at-s.result + c.sum_at-t.result) pos)
 
 pub loop-k-preserved : goal.loop-k-preserved
 loop-k-preserved c = let l = c.loop-k in
@@ -23,9 +15,6 @@ loop-k-preserved c = let l = c.loop-k in
     (term_at c.args.h.now c.args.y.now i) (length c.args.h.now)) % c.args.p)
     l.d l.k _ l.invariant (omega (arith, l.invariant.size)) (ap₂ (λ v w. (v + w) % c.args.p)
     (c.sum_at-s.ensures.value ∙ trimmed _ _ _ _ c.size-m.ensures) (c.sum_at-t.ensures.value ∙ trimmed _ _ _ _ c.size-n.ensures))
-
-pub shape_of-d : goal.shape_of-d
-shape_of-d c = c.loop-k.invariant.size
 
 pub returns : goal.returns
 returns c = mixed _ _ _ _ _ _ _ _ c.requires c.loop-k.invariant (omega (arith, c.loop-k.invariant.size))

@@ -7,13 +7,13 @@ pub loop-k-init : goal.loop-k-init
 loop-k-init c = down_start _ _ _ _ _ _ _ _ _ (omega arith)
 
 pub overflow_cast-q : goal.overflow_cast-q
-overflow_cast-q c = omega (arith, c.digit-v.ensures.below, c.requires.modulus.small)
+overflow_cast-q c = omega (arith, c.digit.ensures.below, c.requires.modulus.small)
 
 pub loop-k-preserved : goal.loop-k-preserved
-loop-k-preserved c = down_more _ _ _ _ _ _ _ _ _ _ _ _ c.requires c.loop-k.invariant c.loop-k-test.true c.digit-v.ensures
+loop-k-preserved c = down_more _ _ _ _ _ _ _ _ _ _ _ _ c.requires c.loop-k.invariant (omega arith) c.digit.ensures
 
 pub shape_of-q : goal.shape_of-q
 shape_of-q c = c.loop-k.invariant.size
 
 pub returns : goal.returns
-returns c = down_end _ _ _ _ _ _ _ _ _ _ _ c.loop-k.invariant c.loop-k-test.false
+returns c = down_end _ _ _ _ _ _ _ _ _ _ _ c.loop-k.invariant (omega arith)

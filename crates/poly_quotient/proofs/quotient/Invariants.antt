@@ -4,6 +4,3 @@ use Rattle.poly_quotient.proofs.quotient.Given as goal
 
 abbrev pub invariant-loop-k : goal.invariant-loop-k
 invariant-loop-k l = Down l.p l.a l.x l.b l.y l.c l.z l.u l.initial.q l.q l.k
-
-abbrev pub decreases-loop-k : goal.decreases-loop-k
-decreases-loop-k l = l.k

@@ -19,21 +19,8 @@ ask {x = x} {y = y} e h = subst (λ j. MulAsks j x y) (sym e) h
 back : {p k : ℕ} {x y r : List ℕ} → k ≡ p → Product k x y r → Product p x y r
 back {x = x} {y = y} {r = r} e h = subst (λ j. Product j x y r) e h
 
-pub prepare-q-requires : goal.prepare-q-requires
-prepare-q-requires c = c.requires.modulus
-
-pub size-n-requires : goal.size-n-requires
-size-n-requires c = c.requires.hx.size
-
-pub size-m-requires : goal.size-m-requires
-size-m-requires c = c.requires.hy.size
-
 pub loop-k-init : goal.loop-k-init
-loop-k-init c = (omega arith, begun_start 32 _)
-
-pub overflow_add-n : goal.overflow_add-n
-overflow_add-n c = let r : c.size-n.result + c.size-m.result ≤ 33 = c.requires.room _ _ c.size-n.ensures c.size-m.ensures in
-    omega arith
+loop-k-init c = begun_start 32 _
 
 pub product_coefficient-requires : goal.product_coefficient-requires
 product_coefficient-requires c = let e = c.prepare-q.ensures in
@@ -43,20 +30,16 @@ product_coefficient-requires c = let e = c.prepare-q.ensures in
       hy = carry e.is c.requires.hy;
       sx = c.size-n.ensures;
       sy = c.size-m.ensures;
-      inside = c.loop-k-test.true;
+      inside = omega arith;
     }
-
-pub bounds-r-k : goal.bounds-r-k
-bounds-r-k c = let r : c.size-n.result + c.size-m.result ≤ 33 = c.requires.room _ _ c.size-n.ensures c.size-m.ensures in
-    omega arith
 
 pub loop-k-preserved : goal.loop-k-preserved
 loop-k-preserved c = let r : c.size-n.result + c.size-m.result ≤ 33 = c.requires.room _ _ c.size-n.ensures c.size-m.ensures in
     let l = c.loop-k in
-    (omega arith, begun_more 32 _ _ l.k _ l.invariant.1 (omega arith) c.product_coefficient.ensures)
+    begun_more 32 _ _ l.k _ l.invariant (omega arith) c.product_coefficient.ensures
 
 pub returns : goal.returns
 returns c = let e = c.prepare-q.ensures in
     let z = c.size-n in
     let w = c.size-m in
-    back e.is (product _ c.args.x.now c.args.y.now z.result w.result c.loop-k.k _ (ask e.is c.requires) z.ensures w.ensures (omega arith) c.loop-k.invariant.1)
+    back e.is (product _ c.args.x.now c.args.y.now z.result w.result c.loop-k.k _ (ask e.is c.requires) z.ensures w.ensures (omega arith) c.loop-k.invariant)

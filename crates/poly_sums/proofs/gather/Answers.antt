@@ -1,16 +1,10 @@
 -- `poly_sums::gather` meets its contract: each turn is `gathering_turn`.
 use native.Mathlib.Omega.{arith}
-use Rattle.poly_sums.proofs.Sums.{gathering_start, lay_in, gathering_turn, gathering_end}
+use Rattle.poly_sums.proofs.Sums.{gathering_start, gathering_turn, gathering_end}
 use Rattle.poly_sums.proofs.gather.Goals as goal
 
 pub loop-i-init : goal.loop-i-init
 loop-i-init c = gathering_start c.requires _
-
-pub signed-v-requires : goal.signed-v-requires
-signed-v-requires c = record { modulus = c.requires.modulus; below = c.requires.hx.each c.loop-i.i }
-
-pub laid-requires : goal.laid-requires
-laid-requires c = lay_in c.requires c.args.minus c.loop-i.invariant c.loop-i-test.true c.signed-v.ensures.below
 
 pub loop-i-preserved : goal.loop-i-preserved
 loop-i-preserved c = gathering_turn c.requires c.args.minus _ c.loop-i.invariant c.loop-i-test.true c.signed-v.ensures c.laid.ensures

@@ -1,5 +1,5 @@
 -- `poly_sums::signed` meets its contract.
-use mathlib.Core.Path.{◌≡◌, refl, ap, sym, ◌∙◌, subst}
+use mathlib.Core.Path.{◌≡◌, ap, sym, ◌∙◌, subst}
 use Prim.Native.Nat.{◌-◌, ◌%◌, ◌<◌}
 use native.Mathlib.Nat.{mod-lt}
 use native.Mathlib.Omega.{arith}
@@ -15,7 +15,3 @@ returns-then-minus c = let a = c.args in
     let l : (a.p - a.v) % a.p < a.p = mod-lt _ (omega arith) in
     subst (λ s. Signed a.p s a.v c.reduce_once.result) (sym c.if-minus.true)
     (record { below = omega arith; law = λ pr. let ρ = reading a.p pr in ap ρ.cast e ∙ ρ.cast_mod (a.p - a.v) ∙ cast_sub ρ a.v (omega arith) })
-
-pub returns-else-minus : goal.returns-else-minus
-returns-else-minus c = let a = c.args in
-    subst (λ s. Signed a.p s a.v a.v) (sym c.if-minus.false) (record { below = c.requires.below; law = λ pr. refl })

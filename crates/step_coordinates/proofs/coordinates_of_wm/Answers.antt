@@ -6,11 +6,11 @@ use Rattle.step_coordinates.proofs.coordinates_of_wm.Goals as goal
 
 pub times_in-nx-requires : goal.times_in-nx-requires
 times_in-nx-requires c = let s = c.requires.1 in
-    m1_by s.inp s.modulus (search (by_g s.inp, by_gh s.inp)) (s.found.sizes 1) (search (s.sk, c.requires.2)) refl
+    m1_by s.inp s.modulus (by_gh s.inp) (s.found.sizes 1) s.sk refl
 
 pub times_in-ny-requires : goal.times_in-ny-requires
 times_in-ny-requires c = let s = c.requires.1 in
-    m2_by s.inp s.modulus (search (by_g s.inp, by_gh s.inp)) (s.found.sizes 2) (search (s.sk, c.requires.2)) refl
+    m2_by s.inp s.modulus (by_g s.inp) (s.found.sizes 2) c.requires.2 refl
 
 pub coordinates-requires : goal.coordinates-requires
 coordinates-requires c = let s = c.requires.1 in

@@ -15,25 +15,16 @@ slice_bounds-carry-count c = let h = c.find-e.ensures in omega arith
 pub slice_bounds-carry-end : goal.slice_bounds-carry-end
 slice_bounds-carry-end c = end_le newline c.args.s.now c.args.at c.find-e.result (omega arith) c.find-e.ensures
 
-pub shape_of-kept-then-s-e : goal.shape_of-kept-then-s-e
-shape_of-kept-then-s-e c = placed_same c.carry-m.ensures
-
 pub returns-then-s-e : goal.returns-then-s-e
 returns-then-s-e c = let a = c.args in
     (carried_up_to a.kept.now a.n a.s.now a.at c.find-e.result _ _ c.find-e.ensures c.carry-m.ensures, (let h = c.find-e.ensures in omega arith))
-
-pub shape_of-kept-then-m-kept : goal.shape_of-kept-then-m-kept
-shape_of-kept-then-m-kept c = placed_same c.carry-m.ensures
 
 pub returns-then-m-kept : goal.returns-then-m-kept
 returns-then-m-kept c = let l = placed_same c.carry-m.ensures in
     (cut_at c.args.kept.now c.args.n c.args.s.now c.args.at c.find-e.result _ _ c.find-e.ensures c.carry-m.ensures, omega arith, omega arith)
 
-pub shape_of-kept : goal.shape_of-kept
-shape_of-kept c = placed_same c.carry-m.ensures
-
-pub returns : goal.returns
-returns c = let l = placed_same c.carry-m.ensures in (
+pub returns-else-m-kept : goal.returns-else-m-kept
+returns-else-m-kept c = let l = placed_same c.carry-m.ensures in (
   c.carry-m.result,
   cut_at c.args.kept.now c.args.n c.args.s.now c.args.at c.find-e.result _ _ c.find-e.ensures
       c.carry-m.ensures,

@@ -5,5 +5,5 @@ use Rattle.text_end.proofs.finish.Goals as goal
 pub returns-then-n-eq0 : goal.returns-then-n-eq0
 returns-then-n-eq0 c = end_none c.args.out.now c.args.n c.if-n-eq0.true
 
-pub returns : goal.returns
-returns c = end_some c.args.n c.if-n-eq0.false c.put_refused.ensures
+pub returns-else-n-eq0 : goal.returns-else-n-eq0
+returns-else-n-eq0 c = end_some c.args.n c.if-n-eq0.false c.put_refused.ensures

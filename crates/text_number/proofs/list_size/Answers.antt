@@ -1,41 +1,27 @@
--- `text_number::list_size` meets its contract. The invariant: the n pieces before `at` are numerals.
-use mathlib.Core.Path.{subst}
+-- `text_number::list_size` meets its contract.
+use mathlib.Core.Path.{sym, subst}
 use native.Mathlib.Omega.{arith}
+use Rattle.std.proofs.Common.{rules, tests}
 use Rattle.text_put.specs.Print.{comma}
-use Rattle.text_cut.proofs.Cuts.{end_le}
-use Rattle.text_number.specs.Tells.{NumberTells}
+use Rattle.text_number.specs.Tells.{SizeTells}
+use Rattle.text_number.proofs.Taken.{left_split, left_piece, few_pieces}
 use Rattle.text_number.proofs.Lists.{numerals_none, numerals_more, numerals_bad, numerals_end}
 use Rattle.text_number.proofs.list_size.Goals as goal
 
-pub loop-at-init : goal.loop-at-init
-loop-at-init c = numerals_none c.args.s.now
-
-pub slice_bounds-number-count : goal.slice_bounds-number-count
-slice_bounds-number-count c = let h = c.find-e.ensures in omega arith
-
-pub slice_bounds-number-start : goal.slice_bounds-number-start
-slice_bounds-number-start c = let h = c.find-e.ensures in omega arith
-
-pub slice_bounds-number-end : goal.slice_bounds-number-end
-slice_bounds-number-end c = end_le comma c.args.s.now c.loop-at.at c.find-e.result (omega arith) c.find-e.ensures
-
-pub returns-in_default : goal.returns-in_default
-returns-in_default c = numerals_bad c.args.s.now c.loop-at.n c.loop-at.at c.find-e.result (omega arith) c.find-e.ensures c.loop-at.invariant
-    (subst (NumberTells _) c.in_default.is c.number-v.ensures)
+pub loop-part-init : goal.loop-part-init
+loop-part-init c = let s = c.split-part-items.ensures in
+    numerals_none (left_split comma c.args.s.now s.runs c.into_iter-part-iterator.ensures.into_iter_gives s.rest s.done s.closure (λ x r q k. search (rules, tests)))
 
 pub overflow_add-n : goal.overflow_add-n
-overflow_add-n c = let p = c.loop-at.invariant.passed.few in omega arith
+overflow_add-n c = let i = (left_piece c.next.new.self c.loop-part.invariant.left c.in-Some.part c.in-Some.ensures.steps).0 in
+    let k = few_pieces comma c.args.s.now in omega arith
 
-pub overflow_add-at : goal.overflow_add-at
-overflow_add-at c = let h = end_le comma c.args.s.now c.loop-at.at c.find-e.result (omega arith) c.find-e.ensures in
-    omega arith
+pub returns-in_err-number : goal.returns-in_err-number
+returns-in_err-number c = subst (SizeTells _) (sym c.from_residual.ensures)
+    (numerals_bad c.next.new.self c.loop-part.invariant c.in-Some.part c.in-Some.ensures.steps c.in_err-number.ensures)
 
-pub loop-at-smaller : goal.loop-at-smaller
-loop-at-smaller c = let h = c.find-e.ensures in omega arith
-
-pub loop-at-preserved : goal.loop-at-preserved
-loop-at-preserved c = numerals_more c.args.s.now c.loop-at.n c.loop-at.at c.find-e.result (omega arith) c.find-e.ensures c.loop-at.invariant
-    (subst (NumberTells _) c.in-Value.is c.number-v.ensures)
+pub loop-part-preserved : goal.loop-part-preserved
+loop-part-preserved c = numerals_more c.next.new.self c.loop-part.invariant c.in-Some.part c.in-Some.ensures.steps c.in_ok-number.ensures
 
 pub returns : goal.returns
-returns c = numerals_end c.args.s.now c.loop-at.n c.loop-at.at c.loop-at.invariant (omega arith)
+returns c = numerals_end c.next.new.self c.loop-part.invariant c.in-None.ensures.steps

@@ -1,26 +1,18 @@
--- `text_put::put_all` meets its contract. The invariant, `Along`: the first i numbers are put.
+-- `text_put::put_all` meets its contract.
 use native.Mathlib.Omega.{arith}
-use Rattle.base_lists.proofs.Puts.{placed_same}
-use Rattle.text_put.proofs.Texts.{list_none, along_start, along_more, along_put, along_end}
+use Rattle.text_put.proofs.Texts.{list_none, tail_none, tail_more, tail_end}
 use Rattle.text_put.proofs.put_all.Goals as goal
 
-pub returns-then-l-eq0 : goal.returns-then-l-eq0
-returns-then-l-eq0 c = list_none c.args.l.now c.if-l-eq0.true
+pub returns-in_default : goal.returns-in_default
+returns-in_default g c = list_none g.T.Entry.number c.args.l.now c.in_default.ensures.cases
 
-pub overflow_cast-l : goal.overflow_cast-l
-overflow_cast-l c = omega (arith, c.type_inv.l 0)
+pub loop-x-init : goal.loop-x-init
+loop-x-init g c = tail_none _ _
 
-pub loop-i-init : goal.loop-i-init
-loop-i-init c = along_start (omega arith)
-
-pub overflow_cast-l-in-loop-i : goal.overflow_cast-l-in-loop-i
-overflow_cast-l-in-loop-i c = omega (arith, c.type_inv.l c.loop-i.i)
-
-pub loop-i-preserved : goal.loop-i-preserved
-loop-i-preserved c = along_more c.loop-i.invariant (omega arith) c.put_byte-to.ensures c.put_number-to-in-loop-i.ensures
-
-pub shape_of-out : goal.shape_of-out
-shape_of-out c = placed_same (along_put c.loop-i.invariant (omega arith) c.put_number-to.ensures)
+pub loop-x-preserved : goal.loop-x-preserved
+loop-x-preserved g c = tail_more g.T.Entry.number c.in-Some.others.now c.loop-x.x-index c.x-item.result (omega arith) c.x-item.is c.wide-in-loop-x.ensures c.loop-x.invariant
+    c.put_byte-to.ensures c.put_number-to-in-loop-x.ensures
 
 pub returns : goal.returns
-returns c = along_end c.loop-i.invariant (omega arith) (omega arith) c.put_number-to.ensures
+returns g c = tail_end g.T.Entry.number c.args.l.now c.in-Some.others.now c.loop-x.x-index c.in-Some.first.now c.in-Some.ensures.cases.0 c.wide.ensures (omega arith) c.put_number-to.ensures
+    c.loop-x.invariant

@@ -1,11 +1,9 @@
--- `text_put::put_all` meets its contract. The invariant, `Along`: the first i numbers are put.
-use Prim.Native.Nat.{◌-◌}
-use lib.ListN.{length}
-use Rattle.text_put.proofs.Texts.{Along}
+-- `text_put::put_all` meets its contract. The invariant: the numbers before x are put behind the first, a comma before each.
+use mathlib.Core.List.{map}
+use lib.ListN.{take}
+use Rattle.base_lists.specs.Pieces.{Put}
+use Rattle.text_put.proofs.Texts.{tail_text}
 use Rattle.text_put.proofs.put_all.Given as goal
 
-abbrev pub invariant-loop-i : goal.invariant-loop-i
-invariant-loop-i l = Along l.l l.initial.out l.initial.to l.out l.to l.i
-
-abbrev pub decreases-loop-i : goal.decreases-loop-i
-decreases-loop-i l = length l.l - l.i
+abbrev pub invariant-loop-x : goal.invariant-loop-x
+invariant-loop-x g l = Put l.initial.out l.initial.to (tail_text (map g.T.Entry.number (take l.x-index l.others))) l.to l.out

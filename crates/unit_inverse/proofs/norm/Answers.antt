@@ -1,5 +1,5 @@
 -- `unit_inverse::norm` meets its contract: proofs/Cofactors.antt.
-use Prim.Native.Nat.{◌-◌, ◌+◌}
+use Prim.Native.Nat.{◌+◌}
 use native.Mathlib.Omega.{arith}
 use Rattle.unit_inverse.proofs.Cofactors.{norm_first, norm_long, norm_made}
 use Rattle.unit_inverse.proofs.norm.Goals as goal

@@ -1,4 +1,4 @@
--- `product` meets its contract. The loop's invariant is `Stepping`; the steps that are left fall.
+-- `product` meets its contract. The loop's invariant is `Stepping`.
 use Prim.Native.Nat.{◌-◌}
 use mathlib.Core.Path.{◌∙◌, ap}
 use native.Mathlib.Omega.{arith}

@@ -1,5 +1,5 @@
 -- `unit_scale::for_monic` meets its contract.
-use Prim.Native.Nat.{◌<◌, ◌-◌}
+use Prim.Native.Nat.{◌<◌}
 use mathlib.Core.Path.{sym, subst}
 use native.Mathlib.Omega.{arith}
 use Rattle.num_power.specs.Powers.{Inverse}

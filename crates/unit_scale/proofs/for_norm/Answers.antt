@@ -24,8 +24,8 @@ inverse-u-requires c = record {
   below = c.norm-v.ensures.below;
 }
 
-pub cube_root-w-requires : goal.cube_root-w-requires
-cube_root-w-requires c = record { modulus = modulus_of c.requires.modulus; prime = c.requires.modulus.prime; kind = c.requires.kind; below = c.inverse-u.ensures.below }
+pub cube_root-requires : goal.cube_root-requires
+cube_root-requires c = record { modulus = modulus_of c.requires.modulus; prime = c.requires.modulus.prime; kind = c.requires.kind; below = c.inverse-u.ensures.below }
 
 pub returns : goal.returns
 returns c = record {
@@ -33,5 +33,5 @@ returns c = record {
   is_norm = norm_at c.wide.ensures c.wide-2.ensures c.wide-3.ensures c.norm-v.ensures;
   u = c.inverse-u.result;
   inverse = c.inverse-u.ensures;
-  root = c.cube_root-w.ensures;
+  root = c.cube_root.ensures;
 }

@@ -4,10 +4,7 @@ use Rattle.std.specs.Io.KnownBytes.{Consumes, Appends}
 use Rattle.units.specs.Serve.{Call, Run, brought, took}
 use Rattle.units.proofs.run.Given as goal
 
-abbrev pub invariant-loop-s : goal.invariant-loop-s
-invariant-loop-s g l =
+abbrev pub invariant-loop : goal.invariant-loop
+invariant-loop g l =
     (cs : List Call) × Run cs l.kept l.buf l.out l.s × Consumes (g.R.Read.remaining l.fn.input) (g.R.Read.remaining l.input) (brought cs)
     × Appends (g.W.Write.contents l.fn.output) (g.W.Write.contents l.output) (took cs)
-
-abbrev pub decreases-loop-s : goal.decreases-loop-s
-decreases-loop-s g l = l.left

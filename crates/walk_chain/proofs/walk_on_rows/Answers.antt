@@ -1,4 +1,4 @@
--- `walk_on_rows` meets its contract. The loop's invariant is `Going`; what is left of the budget falls.
+-- `walk_on_rows` meets its contract. The loop's invariant is `Going`.
 use Prim.Native.Nat.{◌-◌, ◌≤◌}
 use mathlib.Core.Bool.{Bool}
 use mathlib.Core.Path.{refl, subst}
@@ -25,20 +25,16 @@ overflow_add-sum c = let d : c.step_on_rows-o.result.degree ≤ 16 = degree_at _
     let l : c.args.budget ≤ most = c.requires.within in
     record { fits = omega arith }
 
-pub overflow_add-steps : goal.overflow_add-steps
-overflow_add-steps c = let l : c.args.budget ≤ most = c.requires.within in
-    record { fits = omega arith }
+pub is_closed-requires : goal.is_closed-requires
+is_closed-requires c = closed_at _ _ _ _ _ _ _ _ _ _ c.requires _ _ _ c.loop-steps.invariant c.step_on_rows-o.result c.step_on_rows-o.ensures
 
-pub is_closed-done-requires : goal.is_closed-done-requires
-is_closed-done-requires c = closed_at _ _ _ _ _ _ _ _ _ _ c.requires _ _ _ c.loop-steps.invariant c.step_on_rows-o.result c.step_on_rows-o.ensures
-
-pub returns-then-done : goal.returns-then-done
-returns-then-done c = gone_closed _ _ _ _ _ _ _ _ _ _ c.requires _ _ _ c.loop-steps.invariant c.step_on_rows-o.result c.step_on_rows-o.ensures (omega (arith, c.loop-steps-test.true)) _ _ (add-one _) refl
-    (subst (λ (z : Bool). OnePart c.args.p c.step_on_rows-o.result.basis z) c.if-done.true c.is_closed-done.ensures)
+pub returns-then-is_closed : goal.returns-then-is_closed
+returns-then-is_closed c = gone_closed _ _ _ _ _ _ _ _ _ _ c.requires _ _ _ c.loop-steps.invariant c.step_on_rows-o.result c.step_on_rows-o.ensures (omega (arith, c.loop-steps-test.true)) _ _ (add-one _) refl
+    (subst (λ (z : Bool). OnePart c.args.p c.step_on_rows-o.result.basis z) c.if-is_closed.true c.is_closed.ensures)
 
 pub loop-steps-preserved : goal.loop-steps-preserved
 loop-steps-preserved c = going_more _ _ _ _ _ _ _ _ _ _ c.requires _ _ _ c.loop-steps.invariant c.step_on_rows-o.result c.step_on_rows-o.ensures (omega (arith, c.loop-steps-test.true)) _ _ (add-one _) refl
-    (subst (λ (z : Bool). OnePart c.args.p c.step_on_rows-o.result.basis z) c.if-done.false c.is_closed-done.ensures)
+    (subst (λ (z : Bool). OnePart c.args.p c.step_on_rows-o.result.basis z) c.if-is_closed.false c.is_closed.ensures)
 
 pub returns : goal.returns
 returns c = let u : c.loop-steps.steps ≤ c.args.budget = c.loop-steps.invariant.upto in
