@@ -1,14 +1,14 @@
 -- Numbers and lists written into a slice, and bytes moved within one.
 --   two_bytes, four_bytes, bytes_put   a number in 2 and in 4 bytes
 --   list_none, list_more               a list, number by number
---   pasted, copied, lifted             bytes copied in, or moved up within the slice
+--   pasted, lifted                     bytes put over others, or moved up within the slice
 use mathlib.Core.Path.{◌≡◌, refl, sym, ap, ap₂, ◌∙◌, subst}
 use mathlib.Core.List.{List, [], ◌∷◌, ◌++◌, append_assoc}
 use Prim.Native.Nat.{ℕ, ◌+◌, ◌-◌, ◌*◌, ◌<◌, ◌≤◌}
 use native.Mathlib.Numerals.{add-one}
 use native.Mathlib.Omega.{arith}
 use lib.ListN.{length, get_or, take, drop, length-drop}
-use lib.Seq.{sets, sets-eq, length-sets, take-suc, length-take-le, drop-drop}
+use lib.Seq.{sets, sets-eq, length-sets, take-suc, length-take-le}
 use Rattle.std.specs.Int.{to_le_bytes}
 use mir.Syntax.{w16, w32}
 use Rattle.base_lists.specs.Pieces.{Written}
@@ -52,19 +52,12 @@ list_more d at l i o d' q e h a b =
     subst (λ (k : ℕ). Written d at (words (take (i + 1) l)) k q e) n
     (subst (λ (x : List ℕ). Written d at x (2 * i + 2) q e) w (written_then d at (words (take i l)) (2 * i) o d' (le 2 (get_or l i 0)) 2 q e a b))
 
--- ---- bytes copied or moved at once
+-- ---- bytes moved at once
 pub pasted : (d x : List ℕ) (at k r : ℕ) (d' : List ℕ) → at + k ≤ length d → length x ≡ k → r ≡ at + k → d' ≡ (take at d ++ x) ++ drop (at + k) d
     → Written d at x k r d'
 pasted d x at k r d' l e n q =
     let done : d' ≡ sets d at x = q ∙ ap (λ (z : ℕ). (take at d ++ x) ++ drop (at + z) d) (sym e) ∙ sym (sets-eq x d at (omega arith)) in
     record { next = n; size = e; done = done; same = ap length done ∙ length-sets d at x }
-
-pub copied : (d s : List ℕ) (at k : ℕ) → at + length s ≤ length d → k ≡ length s
-    → Written d at s (length s) (at + length s) (take at d ++ (s ++ drop k (drop at d)))
-copied d s at k l e =
-    pasted d s at (length s) (at + length s) _ l refl refl
-    (ap (λ (z : List ℕ). take at d ++ (s ++ z)) (drop-drop k at d ∙ ap (λ (z : ℕ). drop (at + z) d) e)
-    ∙ sym (append_assoc (take at d) s (drop (at + length s) d)))
 
 pub lifted : (d : List ℕ) (from to by : ℕ) (d' : List ℕ) → from ≤ to → to + by ≤ length d
     → d' ≡ (take (from + by) d ++ take (to - from) (drop from d)) ++ drop ((from + by) + (to - from)) d

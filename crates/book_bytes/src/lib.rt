@@ -103,14 +103,17 @@ pub fn put_list(out: &mut [u8], at: usize, l: &[u64]) -> usize
     o
 }
 
-// The bytes of s at `at`; the place after them.
+// The bytes of s at `at`; the place after them. A loop, since `copy_from_slice` becomes `memmove`, which the archive for C asks of nobody.
 pub fn copy_in(out: &mut [u8], at: usize, s: &[u8]) -> usize
     requires { at + length s.now ≤ length out.old }
     ensures { Written out.old at s.now (length s.now) result out.new }
 {
-    let end = at + s.len();
-    out[at..end].copy_from_slice(s);
-    end
+    let mut o = at;
+    for v in s {
+        out[o] = *v;
+        o += 1;
+    }
+    o
 }
 
 // The bytes from `from` to `to`, moved up by `by`; the place after them.

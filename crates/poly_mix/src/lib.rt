@@ -11,8 +11,9 @@ pub fn sum_at(x: &[u16], n: usize, y: &[u16], k: usize) -> u64
     requires { SumAtAsks x.now n k }
     ensures { SumAt x.now n y.now k result }
 {
-    let from = (k + 1).saturating_sub(y.len());
-    let to = n.min(k + 1);
+    // tests in place of `saturating_sub` and `min`: with those the compiler works out the bounds of each sum anew, a fifth of a unit's time
+    let from = if k < y.len() { 0 } else { k + 1 - y.len() };
+    let to = if k < n { k + 1 } else { n };
     let mut s: u64 = 0;
     for i in from..to {
         s += u64::from(x[i]) * u64::from(y[k - i]);

@@ -5,7 +5,7 @@ ghost use Rattle.unit_inverse.specs.Inverse.{PairAsks, Pair, CofactorAsks, Cofac
 
 use base_lists::wide;
 use num_power::inverse;
-use poly_long::scale;
+use poly_long::{clear, scale};
 use poly_mix::mix;
 
 // The low k coefficients of the products of the rows at x and y and of those at v and w, one after the other.
@@ -108,5 +108,5 @@ pub fn invert(
     cofactor(p, c, k, c, c, 0, c2, h, &less, c5, rows, s);
     let q = inverse(p, norm(p, c, gh, rows));
     scale(p, q, &mut rows[c3..c6]);
-    s.fill(0);
+    clear(s);
 }

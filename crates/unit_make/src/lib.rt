@@ -5,7 +5,7 @@
 ghost use Rattle.unit_make.specs.Making.{MultipliedAsks, Multiplies, StartedAsks, Starts, StepAndMultiplyAsks, Further, ProductAsks, ProductOf, MakeAsks, Making};
 
 use field_series::OpenedField;
-use poly_long::to_stored;
+use poly_long::{clear, to_stored};
 use step_next::{StepTaken, step_in_field};
 use unit_finish::finished;
 
@@ -57,8 +57,8 @@ fn started(rows: &mut [u16], s: &mut [u16])
     requires { StartedAsks rows.old }
     ensures { Starts rows.old s.old rows.new s.new }
 {
-    rows.fill(0);
-    s.fill(0);
+    clear(rows);
+    clear(s);
     rows[0] = 1;
 }
 

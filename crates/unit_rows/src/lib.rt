@@ -5,7 +5,7 @@
 ghost use Rattle.std.specs.Prelude.{◌≡◌, length, replicate};
 ghost use Rattle.unit_rows.specs.Six.{ByAsks, By, CoordinateAsks, Coordinate, TimesAsks, Times, MultiplyByMAsks, Turn};
 
-use poly_long::size;
+use poly_long::{clear, copy, size};
 use poly_quotient::quotient;
 
 // x y, for two short ones
@@ -93,6 +93,6 @@ pub fn multiply_by_m(
 {
     times(p, c, n, g, h, gh, b, rows, s);
     let c3 = c + c + c;
-    rows[0..c3].copy_from_slice(&s[0..c3]);
-    s.fill(0);
+    copy(&s[0..c3], &mut rows[0..c3]);
+    clear(s);
 }

@@ -4,7 +4,6 @@ use mathlib.Core.Path.{◌∙◌, ap, refl}
 use native.Mathlib.Omega.{arith}
 use lib.ListN.{length}
 use lib.ListN.{length-replicate}
-use borrow.Author.Rules.{rules}
 use Rattle.unit_inverse.proofs.Inverting.{invert_asks, norm_asks, inverse_asks, inverted}
 use Rattle.unit_inverse.proofs.invert.Goals as goal
 
@@ -44,16 +43,16 @@ pub shape_of-rows : goal.shape_of-rows
 shape_of-rows c = (inverted c.args.p c.args.c c.args.k c.args.g.now c.args.h.now c.args.gh.now c.args.ngh.now c.args.rows.now c.args.s.now
     c.requires _ _ _ _ _ _ c.cofactor.ensures c.cofactor-2.ensures c.cofactor-3.ensures _ _ _ _
     (c.args.c + c.args.c + c.args.c + c.args.c + c.args.c + c.args.c - (c.args.c + c.args.c + c.args.c)) (omega arith)
-    c.norm.ensures c.inverse-q.ensures c.scale.ensures (c.fill.ensures.after (λ y e. search rules))).size
+    c.norm.ensures c.inverse-q.ensures c.scale.ensures c.clear.ensures).size
 
 pub shape_of-s : goal.shape_of-s
 shape_of-s c = ap length (inverted c.args.p c.args.c c.args.k c.args.g.now c.args.h.now c.args.gh.now c.args.ngh.now c.args.rows.now
     c.args.s.now c.requires _ _ _ _ _ _ c.cofactor.ensures c.cofactor-2.ensures c.cofactor-3.ensures _ _ _ _
     (c.args.c + c.args.c + c.args.c + c.args.c + c.args.c + c.args.c - (c.args.c + c.args.c + c.args.c)) (omega arith)
-    c.norm.ensures c.inverse-q.ensures c.scale.ensures (c.fill.ensures.after (λ y e. search rules))).blank ∙ length-replicate (length c.args.s.now) 0
+    c.norm.ensures c.inverse-q.ensures c.scale.ensures c.clear.ensures).blank ∙ length-replicate (length c.args.s.now) 0
 
 pub returns : goal.returns
 returns c = inverted c.args.p c.args.c c.args.k c.args.g.now c.args.h.now c.args.gh.now c.args.ngh.now c.args.rows.now c.args.s.now
     c.requires _ _ _ _ _ _ c.cofactor.ensures c.cofactor-2.ensures c.cofactor-3.ensures _ _ _ _
     (c.args.c + c.args.c + c.args.c + c.args.c + c.args.c + c.args.c - (c.args.c + c.args.c + c.args.c)) (omega arith)
-    c.norm.ensures c.inverse-q.ensures c.scale.ensures (c.fill.ensures.after (λ y e. search rules))
+    c.norm.ensures c.inverse-q.ensures c.scale.ensures c.clear.ensures
