@@ -18,7 +18,7 @@ abbrev pub reason_says : Reason → Said
 reason_says Mark = malformed 1 0 0
 reason_says Contents = malformed 2 0 0
 reason_says (BodyRule i) = malformed 3 i 0
-reason_says (Field i k) = malformed 4 i (fault_number k)
+reason_says (Field i n) = malformed 4 i n
 reason_says (Twice i j) = malformed 5 i j
 
 abbrev pub refusal_says : BookRefusal → Said

@@ -13,8 +13,8 @@ pub enum Reason {
     Contents,
     // the entry
     BodyRule(usize),
-    // the entry, and the refusal of its field
-    Field(usize, Fault),
+    // the entry, and the number of what is refused of its field
+    Field(usize, u32),
     // the entry, and an earlier one of the same field
     Twice(usize, usize),
 }
@@ -53,5 +53,5 @@ pub fn judge(b: &[u8], i: usize) -> Result<(), Reason>
     if !book_rule::body_rule(b) {
         return Err(Reason::BodyRule(i));
     }
-    book_field::field_refusal(b).map_err(|k| Reason::Field(i, k))
+    book_field::field_refusal(b).map_err(|k| Reason::Field(i, u32::from(k)))
 }

@@ -5,11 +5,30 @@
 ghost use Rattle.std.specs.Prelude.{◌≡◌};
 ghost use Rattle.book_body.specs.Code.{got_says};
 ghost use Rattle.book_judge.specs.Reasons.{reason_says, refusal_says};
-ghost use Rattle.book_write.specs.Write.{wrote_says};
-ghost use Rattle.book_numbers.specs.Numbers.{numbers};
+ghost use Rattle.book_numbers.specs.Numbers.{numbers, writing_says};
 
 use base_answers::Fault;
 use book_judge::{BookRefusal, Reason};
+
+// Why a body is not written or added: something is malformed, or the number of another refusal, whichever number that is.
+#[derive(Clone, Copy)]
+pub enum Unwritten {
+    Malformed(Reason),
+    Number(u32),
+}
+
+impl From<BookRefusal> for Unwritten {
+    ghost use Rattle.book_numbers.specs.Numbers.{unwritten_of};
+
+    ghost from_gives = { λ r u. u ≡ unwritten_of r };
+
+    fn from(r: BookRefusal) -> Unwritten {
+        match r {
+            BookRefusal::Malformed(why) => Unwritten::Malformed(why),
+            BookRefusal::Other(k) => Unwritten::Number(u32::from(k)),
+        }
+    }
+}
 
 // A reason in numbers.
 pub fn reason_row(why: Reason) -> [u64; 5]
@@ -19,7 +38,7 @@ pub fn reason_row(why: Reason) -> [u64; 5]
         Reason::Mark => [13, 1, 0, 0, 0],
         Reason::Contents => [13, 2, 0, 0, 0],
         Reason::BodyRule(i) => [13, 3, i as u64, 0, 0],
-        Reason::Field(i, k) => [13, 4, i as u64, u32::from(k) as u64, 0],
+        Reason::Field(i, n) => [13, 4, i as u64, n as u64, 0],
         Reason::Twice(i, j) => [13, 5, i as u64, j as u64, 0],
     }
 }
@@ -44,12 +63,13 @@ pub fn got_row(a: Result<usize, Fault>) -> [u64; 5]
     }
 }
 
-// The answer of writing a body.
-pub fn wrote_row(a: Result<usize, BookRefusal>) -> [u64; 5]
-    ensures { result ≡ numbers (wrote_says a) }
+// The answer of writing a body, or of adding one.
+pub fn wrote_row(a: Result<usize, Unwritten>) -> [u64; 5]
+    ensures { result ≡ numbers (writing_says a) }
 {
     match a {
         Ok(n) => [0, 0, 0, 0, n as u64],
-        Err(r) => refusal_row(r),
+        Err(Unwritten::Malformed(why)) => reason_row(why),
+        Err(Unwritten::Number(k)) => [k as u64, 0, 0, 0, 0],
     }
 }

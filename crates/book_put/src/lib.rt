@@ -6,7 +6,7 @@ ghost use Rattle.base_lists.specs.Pieces.{Written};
 ghost use Rattle.book_bytes.specs.Bytes.{le};
 ghost use Rattle.book_put.specs.Code.{new_length, line_end, lines, Place, new_bytes};
 
-use book_contents::WIDTH;
+pub use book_contents::WIDTH;
 
 // One contents entry at `at`; the place after it.
 fn put_line(out: &mut [u8], at: usize, start: u64, len: u64) -> usize

@@ -10,6 +10,7 @@ ghost use Rattle.field_open.specs.Padding.{unpad};
 
 use base_answers::Period;
 use book_judge::BookRefusal;
+use book_numbers::Unwritten;
 
 // A row without the zeros at its end, into the front of a lent slice; its length.
 fn widen(row: &[u16], out: &mut [u64]) -> usize
@@ -67,5 +68,5 @@ pub fn write_rows(
         };
     }
     let w = put_rows(p, g, h, period, n / 6, rows, out);
-    book_numbers::wrote_row(w)
+    book_numbers::wrote_row(w.map_err(Unwritten::from))
 }

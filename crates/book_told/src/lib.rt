@@ -9,7 +9,7 @@ ghost use Rattle.book_attest.specs.Attest.{attest_says};
 ghost use Rattle.book_numbers.specs.Numbers.{numbers};
 
 use book_judge::{BookRefusal, Reason};
-use book_numbers::{reason_row, refusal_row};
+use book_numbers::{Unwritten, reason_row, refusal_row};
 
 // The answer of the check.
 pub fn answer_row(a: Result<(), Reason>) -> [u64; 5]
@@ -35,7 +35,7 @@ pub fn request_row(a: Result<(), BookRefusal>) -> [u64; 5]
 pub fn added_row(a: Result<usize, BookRefusal>) -> [u64; 5]
     ensures { result ≡ numbers (added_says a) }
 {
-    book_numbers::wrote_row(a)
+    book_numbers::wrote_row(a.map_err(Unwritten::from))
 }
 
 // The answer of attesting an entry.

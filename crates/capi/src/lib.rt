@@ -308,7 +308,7 @@ pub fn zaminuk_book_write(
     ensures { WriteSays (body_from p (unpad g.now) (unpad h.now) period a.now b.now c.now) out.old out.new said.new }
 {
     let w = book_write::write_body(p, g, h, base_answers::Period(period), a, b, c, out);
-    let o = book_numbers::wrote_row(w);
+    let o = book_numbers::wrote_row(w.map_err(book_numbers::Unwritten::from));
     *said = o;
 }
 

@@ -25,7 +25,8 @@ fn field_answer(p: u64, g: &[u64], h: &[u64], out: &mut [u8], at: usize) -> usiz
     let m = door_unit::unit(p, g, h, 1000, &mut rows, &mut scratch);
     let n = field_open::unpadded(g);
     let k = field_open::unpadded(h);
-    lister_print::put_made(out, at, p, &g[..n], &h[..k], m, &rows)
+    let made = m.map_err(u32::from);
+    lister_print::put_made(out, at, p, &g[..n], &h[..k], made, &rows)
 }
 
 // The answer to a line without its newline, at a place of `out`; returns the place after it.

@@ -1,6 +1,8 @@
 -- The parts of an answer, put one after the other.
 --   made_unit, made_refused   what is printed of what `unit` answers
 --   unit_put, refusal_put     that it is put; err_put, ok_put: of a result
+--   printed_made              what is printed of an answer as a result is its `made_text`
+--   told_put                  so it is of what `unit` answers, its refusal handed on by number
 use mathlib.Core.Path.{◌≡◌, refl, sym, ap, subst}
 use mathlib.Core.Logic.{◌≢◌}
 use mathlib.Core.List.{List, ◌∷◌, ◌++◌}
@@ -10,6 +12,8 @@ use Rattle.text_put.specs.Print.{semicolon, number_text, refused_text}
 use Rattle.base_lists.proofs.Puts.{put_then}
 use Rattle.std.specs.declared.result.Result.{Result}
 use Rattle.std.specs.declared.result.Result.TheVariants.{Ok, Err}
+use Rattle.std.specs.Result.{MatchResult, IsErrAnd}
+use Rattle.std.proofs.lemmas.Result.{err_from_is_err_and}
 use Rattle.base_answers.specs.declared.Fault.{Fault}
 use Rattle.base_answers.specs.declared.Cycle.{Cycle}
 use Rattle.base_answers.specs.Faults.{fault_number}
@@ -18,7 +22,7 @@ use Rattle.door_unit.specs.Unit as U
 use Rattle.door_unit.specs.Unit.{UnitAnswer}
 use Rattle.base_lists.specs.Coefficients.{trim}
 use Rattle.lister_rows.specs.Text.{rows_text}
-use Rattle.lister_print.specs.Text.{unit_text, told, made_text}
+use Rattle.lister_print.specs.Text.{unit_text, told, made_text, printed, result_by, result_of}
 
 told_none : (n : ℕ) (t : List ℕ) → n ≡ 0 → told n t ≡ t
 unfolding told
@@ -68,3 +72,21 @@ module _ (s rows : List ℕ) {m : Result Cycle Fault} {d : List ℕ} {at r : ℕ
       → Put d at (made_text s (U.told m) rows) r d'
   ok_put {c} e a = subst (λ (q : Result Cycle Fault). Put d at (made_text s (U.told q) rows) r d') (sym e)
       (subst (λ (t : List ℕ). Put d at t r d') (sym (made_unit s (U.told (Ok c)) rows refl)) a)
+
+module _ (s : List ℕ) (c : Cycle) (rows : List ℕ) where
+  printed_by : (n : ℕ) → printed s (result_by n c) rows ≡ made_text s (record { refusal = n; period = c.period; regulator = c.regulator }) rows
+  unfolding made_text told
+  printed_by zero = refl
+  printed_by (suc n) = refl
+
+pub printed_made : (s : List ℕ) (m : UnitAnswer) (rows : List ℕ) → printed s (result_of m) rows ≡ made_text s m rows
+printed_made s m rows = printed_by s (record { period = m.period; regulator = m.regulator }) rows m.refusal
+
+module _ (s rows : List ℕ) (b : Result Cycle ℕ) {d : List ℕ} {at r : ℕ} {d' : List ℕ} where
+  again : {q : Result Cycle ℕ} → b ≡ q → Put d at (printed s b rows) r d' → Put d at (printed s q rows) r d'
+  again e a = subst (λ (z : Result Cycle ℕ). Put d at (printed s z rows) r d') e a
+
+  pub told_put : (m : Result Cycle Fault) → MatchResult m (λ c. b ≡ Ok c) (λ k. IsErrAnd b (λ n. n ≡ fault_number k)) → Put d at (printed s b rows) r d'
+      → Put d at (made_text s (U.told m) rows) r d'
+  told_put (Ok c) e a = ok_put s rows refl (again e a)
+  told_put (Err k) e a = let w = err_from_is_err_and b e in err_put s rows refl w.2 (again w.1 a)

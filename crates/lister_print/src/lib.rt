@@ -5,10 +5,9 @@ ghost use Rattle.std.specs.Prelude.{◌∷◌};
 ghost use Rattle.base_lists.specs.Coefficients.{trim};
 ghost use Rattle.base_lists.specs.Pieces.{Put, cut};
 ghost use Rattle.text_put.specs.Print.{semicolon, number_text, line_text};
-ghost use Rattle.door_unit.specs.Unit.{told};
-ghost use Rattle.lister_print.specs.Text.{unit_text, made_text};
+ghost use Rattle.lister_print.specs.Text.{unit_text, printed};
 
-use base_answers::{Cycle, Fault};
+use base_answers::Cycle;
 
 // A field of the answer that is a number.
 fn put_count(out: &mut [u8], at: usize, n: u64) -> usize
@@ -37,23 +36,20 @@ fn put_unit(
     lister_rows::put_rows(out, c, rows)
 }
 
-// What `unit` answered, printed behind p;G;H.
+// What `unit` answered, printed behind p;G;H: the unit, or the number of what is refused, whichever number that is.
 pub fn put_made(
     out: &mut [u8],
     at: usize,
     p: u64,
     g: &[u64],
     h: &[u64],
-    made: Result<Cycle, Fault>,
+    made: Result<Cycle, u32>,
     rows: &[u16; 6144],
 ) -> usize
-    ensures { Put out.old at (made_text (line_text p g.now h.now) (told made) rows.now) result out.new }
+    ensures { Put out.old at (printed (line_text p g.now h.now) made rows.now) result out.new }
 {
     match made {
         Ok(cycle) => put_unit(out, at, p, g, h, cycle, rows),
-        Err(k) => {
-            let n = u32::from(k);
-            text_put::put_refused(out, at, n as u64)
-        }
+        Err(n) => text_put::put_refused(out, at, n as u64),
     }
 }

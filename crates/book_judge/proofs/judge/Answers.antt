@@ -17,7 +17,7 @@ use Rattle.book_judge.specs.declared.Reason.TheVariants.{Field}
 use Rattle.book_judge.proofs.judge.Goals as goal
 
 judged : (b : List ℕ) (i : ℕ) (Q : Fault → Reason → Type 0) (f : Result (Unit {0}) Fault) (r : Result (Unit {0}) Reason)
-    → Formed b → FieldSays (body_of b) (no_of f) → ((k : Fault) (why : Reason) → Q k why → why ≡ Field i k)
+    → Formed b → FieldSays (body_of b) (no_of f) → ((k : Fault) (why : Reason) → Q k why → why ≡ Field i (fault_number k))
     → MatchResult f (λ x. r ≡ Ok x) (λ k. IsErrAnd r (Q k)) → JudgeTells b i r
 judged b i Q (Ok u) r g s h m = rw m (g, s)
 judged b i Q (Err k) r g s h m =

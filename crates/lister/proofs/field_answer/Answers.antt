@@ -2,6 +2,7 @@
 use mathlib.Core.Path.{sym}
 use native.Mathlib.Omega.{arith}
 use lib.Seq.{length-take-le}
+use Rattle.lister_print.proofs.Prints.{told_put}
 use Rattle.lister.proofs.Replies.{told_front}
 use Rattle.lister.proofs.field_answer.Goals as goal
 
@@ -12,4 +13,5 @@ pub slice_bounds-put_made-end-2 : goal.slice_bounds-put_made-end-2
 slice_bounds-put_made-end-2 c = sym (length-take-le _ _ (omega (arith, c.unpadded-k.ensures.fits)))
 
 pub returns : goal.returns
-returns c = told_front c.put_made.ensures c.unpadded-n.ensures c.unpadded-k.ensures c.unit-m.ensures
+returns c = let put = told_put _ _ _ c.unit-m.result c.map_err-made.ensures.cases c.put_made.ensures in
+    told_front put c.unpadded-n.ensures c.unpadded-k.ensures c.unit-m.ensures
