@@ -1,6 +1,6 @@
 -- The tests together are the definition: what each asks of an opened field, and what its answer says of the record.
 --   given_of                      the rows of G, H and G·H, as the test of closure takes them
---   shaped_in, alone_in, under_in what the tests ask, one after the other
+--   shaped_in, under_in           what the tests ask, one after the other
 --   not_narrow, not_shaped, not_alone, passes_as    the answer after each
 --   accepts_as, not_below         from seven rows to the 119 numbers
 --   accepts_unique                   two answers to one record are equal

@@ -1,6 +1,8 @@
 -- `door_rescale::fit` meets its contract.
 use mathlib.Core.Path.{subst}
 use mathlib.Core.Bool.{true}
+use Prim.Native.Nat.{◌/◌}
+use lib.ListN.{length}
 use Rattle.base_answers.proofs.Limits.{no_six, six_of}
 use Rattle.unit_scale.specs.Scale.{meant}
 use Rattle.door_rescale.specs.Test.{Misscaled}
@@ -14,5 +16,5 @@ returns-then-no_six_rows-clause-rule c = let a = c.args in
       | then-no_six_rows-via-then-no_six_rows w ↦ unfit_six a.f a.from a.to a.rows.now (no_six c.no_six_rows.ensures w.if-no_six_rows.true)
       | then-no_six_rows-via-else-no_six_rows+then-misscaled w ↦ unfit_last a.f a.from a.to a.rows.now true (six_of c.no_six_rows.ensures w.if-no_six_rows.false)
           (meant c.in_ok-k.k, c.in_ok-k.ensures.some) (meant c.in_ok-l.l, c.in_ok-l.ensures.some)
-          (subst (Misscaled _ _ _ _) w.if-misscaled.true (rw c.in_ok-k.ensures.some at w.misscaled.ensures))
+          (subst (λ n. Misscaled a.f n (length a.rows.now / 6) a.rows.now true) c.in_ok-k.ensures.some (subst (Misscaled _ _ _ _) w.if-misscaled.true w.misscaled.ensures))
     ]

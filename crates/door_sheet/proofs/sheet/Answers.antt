@@ -10,8 +10,7 @@ use Rattle.door_sheet.proofs.sheet.Goals as goal
 
 pub loop-r-preserved : goal.loop-r-preserved
 loop-r-preserved c = let l = c.loop-r in
-    subst (λ (k : ℕ). Upto c.args.budget k c.args.records.now (set l.records l.r-index c.advance.result)) (sym (add-one l.r-index))
-    (upto_next c.args.budget l.r-index c.args.records.now l.records _ c.advance.result l.invariant (omega arith) c.advance.ensures)
+    rw (add-one l.r-index) (upto_next c.args.budget l.r-index _ l.records _ c.advance.result l.invariant (omega arith) c.advance.ensures)
 
 pub returns : goal.returns
 returns c = let l = c.loop-r in

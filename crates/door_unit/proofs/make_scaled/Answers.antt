@@ -1,5 +1,6 @@
 -- `door_unit::make_scaled` meets its contract.
 use mathlib.Core.Path.{ap}
+use borrow.Author.Rules.{rules}
 use Rattle.unit_scale.specs.Scale.{numbered}
 use Rattle.door_unit.proofs.Conventions.{turn_in, made_first, made_turned}
 use Rattle.door_unit.proofs.make_scaled.Goals as goal
@@ -11,7 +12,7 @@ pub turn-requires : goal.turn-requires
 turn-requires c = turn_in c.make.ensures c.requires
 
 pub returns-in-Norm : goal.returns-in-Norm
-returns-in-Norm c = made_turned c.make.ensures c.turn.ensures
+returns-in-Norm c = search (rules, made_turned)
 
 pub returns-in-Monic : goal.returns-in-Monic
 returns-in-Monic c = made_first c.make.ensures (ap numbered c.in-Monic.is)
